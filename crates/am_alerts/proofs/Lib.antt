@@ -1,0 +1,10 @@
+pub mod Escapes
+pub mod Faults
+pub mod Finding
+pub mod LabelSets
+pub mod Names
+pub mod Pairs
+pub mod Positions
+pub mod Trees
+pub mod Durations
+pub mod DurationTexts

@@ -1,0 +1,9 @@
+pub mod AlertData
+pub mod Duration
+pub mod Fault
+pub mod LabelOrder
+pub mod LabelText
+pub mod Labels
+pub mod Matcher
+pub mod Route
+pub mod RoutingTree

@@ -1,0 +1,15 @@
+//! Label sets, alerts, matchers, routes and durations, as Alertmanager has them.
+#![tactic(auto)]
+
+pub mod alert;
+pub mod duration;
+mod label_pairs;
+mod label_text;
+pub mod labels;
+pub mod limits;
+pub mod matcher;
+pub mod route;
+pub mod sequence;
+#[cfg(test)]
+mod tests;
+pub mod text;

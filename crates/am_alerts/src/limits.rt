@@ -1,0 +1,22 @@
+//! The bounds of moments, durations, labels and lists.
+
+/// The greatest moment of an alert or a silence, in milliseconds.
+pub const MAX_MOMENT: u64 = 1_000_000_000_000_000;
+
+/// The greatest duration, in milliseconds.
+pub const MAX_DURATION: u64 = 1_000_000_000_000;
+
+/// How many labels an alert may have.
+pub const MAX_LABELS: usize = 64;
+
+/// How many bytes a label's name or value may have.
+pub const MAX_LABEL_BYTES: usize = 1_024;
+
+/// How many matchers a list of matchers may have.
+pub const MAX_MATCHERS: usize = 32;
+
+/// How many names `group_by` or an inhibition rule's `equal` may have.
+pub const MAX_NAMES: usize = 64;
+
+/// How many children the root route may have.
+pub const MAX_CHILDREN: usize = 63;

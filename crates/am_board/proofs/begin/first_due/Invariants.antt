@@ -1,0 +1,13 @@
+use Rattle.std.proofs.Common.{◌<◌, length, drop, map}
+use Rattle.std.specs.Prelude.{IfSome}
+use Rattle.am_board.specs.Kept.{group_state, flush_state}
+use Rattle.am_board.specs.Taking.{first_of, IsFirst}
+use Rattle.am_board.proofs.begin.first_due.Given as goal
+
+-- the best of the groups from here on is there, and it is the one that is taken of them
+abbrev pub invariant-loop-i : goal.invariant-loop-i
+invariant-loop-i l =
+    record {
+      within : IfSome l.best (λ j. j < length l.groups);
+      first : IsFirst l.groups l.best (first_of (map flush_state l.flushes) l.t (map group_state (drop l.i l.groups)));
+    }

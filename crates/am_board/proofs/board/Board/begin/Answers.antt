@@ -1,0 +1,42 @@
+use Rattle.std.proofs.Common.{◌≡◌, ◌+◌, ◌≤◌, ℕ, Option, None, Some, vec_len, length, sym, ap, subst, ◌∙◌, arith}
+use Rattle.std.specs.Prelude.{IfOk}
+use Rattle.am_board.specs.declared.fault.Fault.{Fault}
+use Rattle.am_board.specs.declared.fault.Fault.TheVariants.{HistoryFull}
+use Rattle.am_board.specs.declared.record.Call.TheVariants.{Begin}
+use Rattle.am_board.specs.History.{BoardData, reply_of, IsFresh}
+use Rattle.am_board.specs.Causes.{begin_cause}
+use Rattle.am_board.specs.Step.{IsAnswer}
+use Rattle.am_board.proofs.Calls.{recorded, told_now, refused, sound_again, caused_too, fresh_too}
+use Rattle.am_board.proofs.Limits.{begin_within, begin_caused}
+use Rattle.am_board.proofs.Sound.{good}
+use Rattle.am_board.proofs.board.Board.begin.Goals as goal
+
+pub take_group-requires : goal.take_group-requires
+take_group-requires c = record { good = good c.self.inside c.self.invariant }
+
+pub invariant_of-self : goal.invariant_of-self
+invariant_of-self c =
+    sound_again c.self.inside c.self.invariant c.args.self.now c.self.view_is c.take_group.new.state c.args.pass (Begin c.args.now) reply_of _
+    (λ x h. h.1) _ (λ x h. begin_within c.self.inside c.self.invariant c.args.pass c.args.now c.take_group.new.state x h.0 h.1) c.take_group.result c.take_group.ensures
+
+pub returns-clause-recorded : goal.returns-clause-recorded
+returns-clause-recorded c =
+    recorded c.self.inside c.self.invariant c.args.self.now c.self.view_is c.take_group.new.state c.args.pass (Begin c.args.now) reply_of _
+    (λ x h. h.1) _ c.take_group.result c.take_group.ensures
+
+pub returns-clause-told : goal.returns-clause-told
+returns-clause-told c =
+    told_now c.self.inside c.self.invariant c.args.self.now c.self.view_is c.take_group.new.state c.args.pass (Begin c.args.now) reply_of _
+    (λ x h. h.1) _ c.take_group.result c.take_group.ensures
+
+pub returns-clause-cause : goal.returns-clause-cause
+returns-clause-cause c =
+    caused_too _ _ (λ cause. cause ≡ None) IsAnswer (begin_caused c.self.inside c.self.invariant c.args.self.now c.self.view_is c.args.now) _ _ _ c.take_group.result c.take_group.ensures
+
+pub returns-clause-refused : goal.returns-clause-refused
+returns-clause-refused c =
+    refused c.self.inside c.self.invariant c.args.self.now c.self.view_is c.take_group.new.state c.args.pass (Begin c.args.now) reply_of _
+    (λ x h. h.1) _ c.take_group.result c.take_group.ensures
+
+pub returns-clause-fresh : goal.returns-clause-fresh
+returns-clause-fresh c = subst (λ (d : BoardData). IfOk c.take_group.result (IsFresh d.id)) c.self.view_is (fresh_too _ _ _ _ c.take_group.result c.take_group.ensures)

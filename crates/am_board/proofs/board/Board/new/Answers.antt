@@ -1,0 +1,32 @@
+use Rattle.std.proofs.Common.{◌≡◌, ℕ, List, [], Ok, sym, ap, ◌∙◌}
+use Rattle.std.specs.Prelude.{Result}
+use Rattle.std.specs.Option.{option_map}
+use Rattle.am_alerts.proofs.Faults.{some_from_err}
+use Rattle.am_alerts.specs.Fault.{ok_unless}
+use Rattle.am_board.specs.declared.config.Config.{Config}
+use Rattle.am_board.specs.declared.fault.BoardFault.{BoardFault}
+use Rattle.am_board.specs.declared.fault.BoardFault.TheVariants.{BadConfig}
+use Rattle.am_board.specs.declared.record.Record.{Record}
+use Rattle.am_board.specs.Config.{config_fault}
+use Rattle.am_board.specs.History.{BoardData, opening}
+use Rattle.am_board.proofs.Sound.{new_sound}
+use Rattle.am_board.proofs.Staying.{no_fault}
+use Rattle.am_board.proofs.board.Board.new.Goals as goal
+
+opened : (config : Config) (id : ℕ) (history : List Record) → history ≡ [] → ◌≡◌ {A = Result BoardData BoardFault} (Ok (record { config = config; id = id; history = history })) (Ok (opening config id))
+opened config id history none = ap (λ h. Ok (record { config = config; id = id; history = h })) none
+
+pub returns-in-Err : goal.returns-in-Err
+returns-in-Err c =
+    sym (ap (λ o. ok_unless (option_map BadConfig o) (opening c.args.config c.args.id)) (some_from_err (config_fault c.args.config) tt c.in-Err.fault c.in-Err.ensures.fault))
+
+pub invariant_of-result : goal.invariant_of-result
+invariant_of-result c =
+    new_sound c.args.config c.args.id c.in_ok-new-in-Ok.field-0 (no_fault (config_fault c.args.config) tt tt c.in-Ok.ensures.fault) c.in-Ok.ensures.children c.in-Ok.ensures.limits
+    c.in_ok-new-in-Ok.ensures
+
+pub returns-in_ok-new-in-Ok : goal.returns-in_ok-new-in-Ok
+returns-in_ok-new-in-Ok c =
+    let none = no_fault (config_fault c.args.config) tt tt c.in-Ok.ensures.fault in
+    opened c.args.config c.args.id c.in_ok-new-in-Ok.field-0.history.items c.in_ok-new-in-Ok.ensures.history
+    ∙ sym (ap (λ o. ok_unless (option_map BadConfig o) (opening c.args.config c.args.id)) none)

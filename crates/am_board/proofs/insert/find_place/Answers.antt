@@ -1,0 +1,44 @@
+use Rattle.std.proofs.Common.{◌≡◌, ℕ, List, Option, ap, ◌∙◌, arith, vec_len}
+use Rattle.std.specs.List.{position}
+use Rattle.am_alerts.specs.AlertData.{AlertData}
+use Rattle.am_alerts.specs.Labels.{same_label_set}
+use Rattle.am_alerts.specs.declared.labels.Label.{Label}
+use Rattle.am_board.specs.Kept.{state_of}
+use Rattle.am_board.proofs.Inserting.{answer_names, names_many, names_few, names_known, none_told, not_full}
+use Rattle.am_board.proofs.insert.find_place.Goals as goal
+use Rattle.am_board.proofs.insert.find_place.Goals.{else-is_none-via-then-is_none+else-len-config, else-is_none-via-else-is_none}
+
+abbrev found : List Label → List AlertData → Option ℕ
+found labels alerts = position (λ a. same_label_set labels a.labels) alerts
+
+-- the place is one of the known alerts
+of_known : (labels given : List Label) (known lent : List AlertData) (place : Option ℕ) → given ≡ labels → lent ≡ known → place ≡ found given lent → place ≡ found labels known
+of_known labels given known lent place e h is = is ∙ (ap (found given) h ∙ ap (λ l. found l known) e)
+
+pub returns-then-len-config : goal.returns-then-len-config
+returns-then-len-config c =
+    let place = of_known c.args.alert.now.labels c.labels.result.now c.args.state.now.known.items c.as_slice.result.now _ c.labels.ensures.labels c.as_slice.ensures.value c.find_known-place.ensures.place in
+    record {
+      place = tt;
+      within = tt;
+      room = tt;
+      names = tt;
+      refused = answer_names c.args.config.now (vec_len c.args.state.now.history) (state_of c.args.state.now) c.args.alert.now
+          (not_full c.args.config.now c.args.state.now (c.has_room.ensures.0 c.if-not-has_room.false))
+          (names_many c.args.config.now (state_of c.args.state.now) c.args.alert.now c.find_known-place.result place (none_told c.find_known-place.result c.is_none.result c.is_none.ensures ∙ c.if-is_none.true) (omega (arith, c.args.state.now.known.ok.0)));
+    }
+
+pub returns-clause-place : goal.returns-clause-place
+returns-clause-place c =
+    of_known c.args.alert.now.labels c.labels.result.now c.args.state.now.known.items c.as_slice.result.now _ c.labels.ensures.labels c.as_slice.ensures.value c.find_known-place.ensures.place
+
+pub returns-clause-room : goal.returns-clause-room
+returns-clause-room c = not_full c.args.config.now c.args.state.now (c.has_room.ensures.0 c.if-not-has_room.false)
+
+pub returns-clause-names : goal.returns-clause-names
+returns-clause-names c =
+    let place = of_known c.args.alert.now.labels c.labels.result.now c.args.state.now.known.items c.as_slice.result.now _ c.labels.ensures.labels c.as_slice.ensures.value c.find_known-place.ensures.place in
+    elim c.else-is_none.branch [
+      | else-is_none-via-then-is_none+else-len-config w ↦ names_few c.args.config.now (state_of c.args.state.now) c.args.alert.now (omega (arith, c.args.state.now.known.ok.0))
+      | else-is_none-via-else-is_none w ↦ names_known c.args.config.now (state_of c.args.state.now) c.args.alert.now c.find_known-place.result place (none_told c.find_known-place.result c.is_none.result c.is_none.ensures ∙ w.if-is_none.false)
+    ]

@@ -1,0 +1,68 @@
+use Rattle.std.proofs.Common.{◌≡◌, ◌∙◌, ◌≤◌, ◌++◌, ◌∷◌, [], ℕ, suc, List, Some, map, vec_len, length, arith, sym, ap, subst}
+use Rattle.std.specs.Prelude.{All, fold, reverse}
+use Rattle.std.proofs.lemmas.List.{reverse-append, reverse-reverse}
+use Rattle.std.proofs.lemmas.List.Elements.{All-pop, All-weaker}
+use Rattle.std.proofs.lemmas.List.Sorted.{All-permutation}
+use Rattle.am_board.specs.declared.insert.Placement.{Placement}
+use Rattle.am_board.specs.Group.{names_of, HasRoom}
+use Rattle.am_board.specs.Insert.{put_into_group}
+use Rattle.am_board.specs.Kept.{group_state}
+use Rattle.am_board.specs.Placement.{IsEmptyWithRoom, HaveRoom, IsPlacementOf}
+use Rattle.am_board.proofs.GroupNames.{routed_added}
+use Rattle.am_board.proofs.insert.place_all.Goals as goal
+
+pub loop-placement-init : goal.loop-placement-init
+loop-placement-init c =
+    let moved = All-permutation {X = Placement} in
+    let given : List Placement = c.args.placements.items in
+    let turned : List Placement = c.reverse.new.self.items in
+    let count : vec_len c.reverse.new.self ≡ vec_len c.args.placements = c.reverse.ensures.len in
+    let n : ℕ = vec_len c.reverse.new.self in
+    let room : HaveRoom n c.args.groups.now.items given = subst (λ m. HaveRoom m c.args.groups.now.items given) (sym count) c.requires.room in
+    let ready : All (IsEmptyWithRoom n) given = subst (λ m. All (IsEmptyWithRoom m) given) (sym count) c.requires.ready in
+    record {
+      spare = omega (arith, c.requires.spare, count);
+      room = moved (λ p. HasRoom n p.name c.args.groups.now.items) given turned c.reverse.ensures.permutation room;
+      ready = moved (IsEmptyWithRoom n) given turned c.reverse.ensures.permutation ready;
+      routed = λ tree groups placements. (groups, moved (λ p. p.name.route ≤ length tree.children) given turned c.reverse.ensures.permutation placements);
+      state = λ config m early are. (
+        moved (IsPlacementOf config.routes m) given turned c.reverse.ensures.permutation are,
+        ap (λ ps. fold (put_into_group config c.args.t m) (map group_state c.args.groups.now.items) (map (λ (p : Placement). p.name) ps)) (ap reverse c.reverse.ensures.items ∙ reverse-reverse given),
+      );
+    }
+
+pub place-requires-clause-ready : goal.place-requires-clause-ready
+place-requires-clause-ready c =
+    let last = All-pop (IsEmptyWithRoom (vec_len c.loop-placement.placements)) c.loop-placement.placements.items c.pop.new.self.items (Some c.in-Some.placement) c.in-Some.ensures.items c.loop-placement.invariant.ready in
+    (last.1.0, omega (arith, last.1.1, c.in-Some.ensures.len))
+
+pub loop-placement-preserved : goal.loop-placement-preserved
+loop-placement-preserved c =
+    let n : ℕ = vec_len c.pop.new.self in
+    let rest : List Placement = c.pop.new.self.items in
+    let x : Placement = c.in-Some.placement in
+    let popped : c.loop-placement.placements.items ≡ rest ++ x ∷ [] = c.in-Some.ensures.items in
+    let counted : vec_len c.loop-placement.placements ≡ suc n = omega (arith, c.in-Some.ensures.len) in
+    let room : HaveRoom (suc n) c.loop-placement.groups.items c.loop-placement.placements.items =
+    subst (λ m. HaveRoom m c.loop-placement.groups.items c.loop-placement.placements.items) counted c.loop-placement.invariant.room in
+    let ready : All (IsEmptyWithRoom (suc n)) c.loop-placement.placements.items =
+    subst (λ m. All (IsEmptyWithRoom m) c.loop-placement.placements.items) counted c.loop-placement.invariant.ready in
+    let rooms = All-pop (λ (p : Placement). HasRoom (suc n) p.name c.loop-placement.groups.items) c.loop-placement.placements.items rest (Some x) popped room in
+    let readies = All-pop (IsEmptyWithRoom (suc n)) c.loop-placement.placements.items rest (Some x) popped ready in
+    record {
+      spare = omega (arith, c.place.ensures.len, c.place.ensures.capacity, c.loop-placement.invariant.spare, counted);
+      room = All-weaker (λ (p : Placement). HasRoom (suc n) p.name c.loop-placement.groups.items) (λ (p : Placement). HasRoom n p.name c.place.new.groups.items) (λ p had. c.place.ensures.others n p.name readies.1 had) rest rooms.0;
+      ready = All-weaker (IsEmptyWithRoom (suc n)) (IsEmptyWithRoom n) (λ p had. (had.0, omega (arith, had.1))) rest readies.0;
+      routed = λ tree groups placements.
+          let before = c.loop-placement.invariant.routed tree groups placements in
+          let parts = All-pop (λ (p : Placement). p.name.route ≤ length tree.children) c.loop-placement.placements.items rest (Some x) popped before.1 in
+          (routed_added tree (names_of c.loop-placement.groups.items) x.name (names_of c.place.new.groups.items) before.0 parts.1 c.place.ensures.names, parts.0);
+      state = λ config m early are.
+          let before = c.loop-placement.invariant.state config m early are in
+          let parts = All-pop (IsPlacementOf config.routes m) c.loop-placement.placements.items rest (Some x) popped before.0 in (
+            parts.0,
+            ap (λ gs. fold (put_into_group config c.args.t m) gs (map (λ (p : Placement). p.name) (reverse rest))) (c.place.ensures.state config m early parts.1)
+                ∙ (ap (λ ps. fold (put_into_group config c.args.t m) (map group_state c.loop-placement.groups.items) (map (λ (p : Placement). p.name) ps)) (sym (ap reverse popped ∙ reverse-append rest (x ∷ [])))
+                ∙ before.1),
+          );
+    }

@@ -1,0 +1,24 @@
+use Rattle.std.proofs.Common.{◌≡◌, ◌≤◌, ◌+◌, map, vec_len, vec_capacity}
+use Rattle.std.specs.Prelude.{All, fold, reverse}
+use Rattle.am_alerts.specs.RoutingTree.{RoutingTree}
+use Rattle.am_alerts.specs.declared.limits.TheConstants.{MAX_MOMENT}
+use Rattle.am_board.specs.Group.{names_of, AreRouted}
+use Rattle.am_board.specs.Insert.{put_into_group}
+use Rattle.am_board.specs.Kept.{group_state}
+use Rattle.am_board.specs.Placement.{IsEmptyWithRoom, HaveRoom, AreRoutedPlacements, IsPlacementOf}
+use Rattle.am_board.specs.State.{MemberState}
+use Rattle.am_board.specs.declared.config.Config.{Config}
+use Rattle.am_board.proofs.insert.place_all.Given as goal
+
+-- what is left to be put has its room, all that was put is of a route that is there, and with what is left the groups are those that are asked for
+abbrev pub invariant-loop-placement : goal.invariant-loop-placement
+invariant-loop-placement l = record {
+  spare : vec_len l.groups + vec_len l.placements ≤ vec_capacity l.groups;
+  room : HaveRoom (vec_len l.placements) l.groups.items l.placements.items;
+  ready : All (IsEmptyWithRoom (vec_len l.placements)) l.placements.items;
+  routed : (tree : RoutingTree) → AreRouted tree (names_of l.fn.groups.items) → AreRoutedPlacements tree l.fn.placements.items → AreRouted tree (names_of l.groups.items) × AreRoutedPlacements tree l.placements.items;
+  state : (config : Config) (m : MemberState) → l.t ≤ MAX_MOMENT → All (IsPlacementOf config.routes m) l.fn.placements.items → All (IsPlacementOf config.routes m) l.placements.items × (fold (put_into_group config l.t m) (map group_state l.groups.items) (map (λ p. p.name) (reverse l.placements.items)) ≡ fold (put_into_group config l.t m) (map group_state l.fn.groups.items) (map (λ p. p.name) l.fn.placements.items));
+}
+
+abbrev pub decreases-loop-placement : goal.decreases-loop-placement
+decreases-loop-placement l = vec_len l.placements

@@ -1,0 +1,42 @@
+use Rattle.std.proofs.Common.{◌≡◌, ◌∙◌, ◌==◌, Some, None, sym, ap, subst, rules}
+use Rattle.std.specs.Prelude.{position, slice_get, IfErr}
+use Rattle.std.specs.Option.{option_map}
+use Rattle.am_board.specs.Data.{NoticeData}
+use Rattle.am_board.specs.Causes.{flush_cause, asked_cause}
+use Rattle.am_board.specs.Kept.{flush_state}
+use Rattle.am_board.specs.Note.{asked_by}
+use Rattle.am_board.specs.State.{flush_numbered}
+use Rattle.am_board.specs.Ticket.{outcome_of}
+use Rattle.am_board.specs.declared.flush.OpenFlush.{OpenFlush}
+use Rattle.am_board.proofs.Noting.{flush-missing, flush-found, not-ready, notice-found, outcome-found}
+use Rattle.am_board.proofs.note.find_noting.Goals as goal
+
+pub returns-in_default-clause-cause : goal.returns-in_default-clause-cause
+returns-in_default-clause-cause c config records s kept =
+    let at : position (λ f. f.number == c.args.ticket.now.number) c.args.flushes.now ≡ None =
+    ap (λ n. position (λ (f : OpenFlush). f.number == n) c.args.flushes.now) (sym c.number.ensures) ∙ sym c.in_default.ensures.first in
+    let missing : flush_numbered s.flushes c.args.ticket.now.number ≡ None =
+    ap (λ fs. flush_numbered fs c.args.ticket.now.number) kept ∙ flush-missing c.args.flushes.now c.args.ticket.now.number at in
+    ap (flush_cause config records s c.args.ticket.now c.args.place) missing
+
+pub returns-in_default-integration_at-clause-cause : goal.returns-in_default-integration_at-clause-cause
+returns-in_default-integration_at-clause-cause c config records s kept =
+    let at : position (λ f. f.number == c.args.ticket.now.number) c.args.flushes.now ≡ Some c.in-Some.flush =
+    ap (λ n. position (λ (f : OpenFlush). f.number == n) c.args.flushes.now) (sym c.number.ensures) ∙ sym c.in-Some.ensures.first in
+    not-ready config records s c.args.ticket.now c.args.place c.args.flushes.now c.in-Some.flush kept at (sym c.in_default-integration_at.ensures)
+
+pub returns-in_err-asked-clause-cause : goal.returns-in_err-asked-clause-cause
+returns-in_err-asked-clause-cause c config records s kept =
+    let at : position (λ f. f.number == c.args.ticket.now.number) c.args.flushes.now ≡ Some c.in-Some.flush =
+    ap (λ n. position (λ (f : OpenFlush). f.number == n) c.args.flushes.now) (sym c.number.ensures) ∙ sym c.in-Some.ensures.first in
+    let found : flush_numbered s.flushes c.args.ticket.now.number ≡ Some (flush_state c.index-flushes-flush.result) =
+    ap (λ fs. flush_numbered fs c.args.ticket.now.number) kept ∙ flush-found c.args.flushes.now c.args.ticket.now.number c.in-Some.flush c.index-flushes-flush.result at ∙ ap (λ (f : OpenFlush). Some (flush_state f)) (sym c.index-flushes-flush.is) in
+    let notice : option_map (λ (n : NoticeData). n.integration) (slice_get c.args.ticket.now.notices c.args.place) ≡ Some c.in-Some-integration_at.integration = sym c.in-Some-integration_at.ensures in
+    let outcome : c.outcome-outcome.result ≡ outcome_of c.args.ticket.now.outcomes c.in-Some-integration_at.integration =
+    c.outcome-outcome.ensures ∙ outcome-found c.args.ticket.now.outcomes (slice_get c.args.ticket.now.notices c.args.place) c.in-Some-integration_at.integration notice in
+    let cause : IfErr c.from_residual.result (λ fault. asked_cause config records s c.outcome-outcome.result (asked_by (flush_state c.index-flushes-flush.result) c.in-Some-integration_at.integration) ≡ Some fault) = search (rules, c.in_err-asked.ensures.cause config records s) in
+    let is : flush_cause config records s c.args.ticket.now c.args.place (flush_numbered s.flushes c.args.ticket.now.number) ≡ asked_cause config records s c.outcome-outcome.result (asked_by (flush_state c.index-flushes-flush.result) c.in-Some-integration_at.integration) =
+    ap (flush_cause config records s c.args.ticket.now c.args.place) found
+    ∙ notice-found config records s c.args.ticket.now (flush_state c.index-flushes-flush.result) (slice_get c.args.ticket.now.notices c.args.place) c.in-Some-integration_at.integration notice
+    ∙ ap (λ o. asked_cause config records s o (asked_by (flush_state c.index-flushes-flush.result) c.in-Some-integration_at.integration)) (sym outcome) in
+    subst (λ cause. IfErr c.from_residual.result (λ fault. cause ≡ Some fault)) (sym is) cause

@@ -1,0 +1,108 @@
+use Rattle.std.proofs.Common.{◌≡◌, ◌∙◌, ◌+◌, ◌≤◌, ◌++◌, ◌∷◌, [], false, Some, None, map, vec_len, vec_capacity, nat_eq, refl, sym, ap, subst, arith, rules, if◌then◌else◌}
+use Rattle.std.specs.Prelude.{IfErr, slice_get}
+use Rattle.std.specs.Vec.{with_item}
+use Rattle.am_board.specs.Causes.{is_full, flush_cause}
+use Rattle.am_board.specs.History.{entry}
+use Rattle.am_board.specs.Kept.{flush_state, state_of}
+use Rattle.am_board.specs.Noting.{IsNoting}
+use Rattle.am_board.specs.State.{flush_numbered}
+use Rattle.am_board.specs.Step.{Stays, IsNoteAnswer}
+use Rattle.am_board.specs.Ticket.{outcome_of}
+use Rattle.am_board.specs.declared.fault.NoteFault.TheVariants as note
+use Rattle.am_board.specs.declared.flush.OpenFlush.{OpenFlush}
+use Rattle.am_board.specs.declared.record.Call.TheVariants.{Note}
+use Rattle.am_board.specs.declared.record.Reply.TheVariants as replies
+use Rattle.am_board.specs.declared.state.State as kept
+use Rattle.am_board.proofs.Noted.{element, stays-so, full-of, not-full-of, cause-left, note-accepted, answers, refused, the_notice, on-ok}
+use Rattle.am_board.proofs.note.note_success.Goals as goal
+use Rattle.am_board.proofs.note.note_success.Goals.{In_ok-found}
+
+-- what was found is among the flushes of the state
+found-in : (c : In_ok-found) → IsNoting c.args.state.now.flushes.items c.args.ticket.now c.args.place c.in_ok-found.found
+found-in c = subst (λ fs. IsNoting fs c.args.ticket.now c.args.place c.in_ok-found.found) c.as_slice.ensures.value c.in_ok-found.ensures.found
+
+-- the cause that is left
+left : (c : In_ok-found) → flush_cause c.args.config.now (vec_len c.args.state.now.history) (state_of c.args.state.now) c.args.ticket.now c.args.place (flush_numbered (map flush_state c.args.state.now.flushes.items) c.args.ticket.now.number)
+    ≡ (if is_full c.args.config.now (vec_len c.args.state.now.history) (state_of c.args.state.now) 1 then Some note.HistoryFull else None)
+left c =
+    let there = element (λ (f : OpenFlush). nat_eq f.number c.args.ticket.now.number) c.args.state.now.flushes.items c.in_ok-found.found.flush (found-in c).first in
+    cause-left c.args.config.now c.args.state.now c.args.ticket.now c.args.place c.in_ok-found.found (found-in c) there.0 there.2
+
+pub returns-in_err-found : goal.returns-in_err-found
+returns-in_err-found c =
+    let kept : map flush_state c.args.state.now.flushes.items ≡ map flush_state c.as_slice.result.now = ap (map flush_state) (sym c.as_slice.ensures.value) in
+    let cause : IfErr c.from_residual.result (λ fault. flush_cause c.args.config.now (vec_len c.args.state.now.history) (state_of c.args.state.now) c.args.ticket.now c.args.place (flush_numbered (map flush_state c.args.state.now.flushes.items) c.args.ticket.now.number) ≡ Some fault) =
+    search (rules, c.in_err-found.ensures.cause c.args.config.now (vec_len c.args.state.now.history) (state_of c.args.state.now) kept) in
+    refused c.from_residual.result _ (flush_cause c.args.config.now (vec_len c.args.state.now.history) (state_of c.args.state.now) c.args.ticket.now c.args.place (flush_numbered (map flush_state c.args.state.now.flushes.items) c.args.ticket.now.number)) (Stays c.args.config.now c.args.state.now c.args.state.now) c.from_residual.ensures.0 cause
+    (stays-so c.args.config.now c.args.state.now c.requires.good)
+
+pub returns-then-not-has_room : goal.returns-then-not-has_room
+returns-then-not-has_room c =
+    let full = full-of c.args.config.now c.args.state.now (λ room. cc (c.has_room.ensures.1 room)) in
+    (answers _ note.HistoryFull (left (goal.at.returns-then-not-has_room c).In_ok-found ∙ ap (λ b. if b then Some note.HistoryFull else None) full), stays-so c.args.config.now c.args.state.now c.requires.good)
+
+pub returns-then-is_err : goal.returns-then-is_err
+returns-then-is_err c =
+    let room : vec_len c.args.state.now.history + vec_len c.args.state.now.flushes + 1 ≤ c.args.config.now.limits.history = c.has_room.ensures.0 c.if-not-has_room.false in
+    let none = left (goal.at.returns-then-is_err c).In_ok-found ∙ ap (λ b. if b then Some note.HistoryFull else None) (not-full-of c.args.config.now c.args.state.now room) in (
+      subst (λ o. IsNoteAnswer o note.NoMemory) (sym none) refl,
+      record {
+        state = refl;
+        routed = c.requires.good.routed;
+        prepared = c.requires.good.prepared;
+        history = c.reserve.ensures.items;
+        records = c.reserve.ensures.len;
+        room = omega (arith, c.requires.good.room, c.reserve.ensures.len, c.reserve.ensures.capacity);
+      },
+    )
+
+pub returns : goal.returns
+returns c =
+    let old = c.args.state.now in
+    let found = found-in (goal.at.returns c).In_ok-found in
+    let room : vec_len c.args.state.now.history + vec_len c.args.state.now.flushes + 1 ≤ c.args.config.now.limits.history = c.has_room.ensures.0 c.if-not-has_room.false in
+    let none = left (goal.at.returns c).In_ok-found ∙ ap (λ b. if b then Some note.HistoryFull else None) (not-full-of c.args.config.now c.args.state.now room) in
+    let new : kept.State = record {
+      clock = c.moment-t.result;
+      inserts = old.inserts;
+      known = old.known;
+      groups = old.groups;
+      silences = old.silences;
+      log = c.log_at_once.new.log;
+      flushes = with_item old.flushes c.in_ok-found.found.flush c.log_at_once.new.flush;
+      next_number = old.next_number;
+      history = c.push_reserved.new.self;
+    } in
+    let notice = the_notice (slice_get c.args.ticket.now.notices c.args.place) c.in_ok-found.found.integration found.notice in
+    let is : entry c.args.pass (Note c.args.now c.args.ticket.now.number c.in_ok-found.found.integration c.in_ok-found.found.outcome) replies.Noted ≡ entry c.args.pass (Note c.args.now c.args.ticket.now.number notice.0.integration (outcome_of c.args.ticket.now.outcomes notice.0.integration)) replies.Noted =
+    ap (λ o. entry c.args.pass (Note c.args.now c.args.ticket.now.number c.in_ok-found.found.integration o) replies.Noted) found.outcome
+    ∙ ap (λ j. entry c.args.pass (Note c.args.now c.args.ticket.now.number j (outcome_of c.args.ticket.now.outcomes j)) replies.Noted) (sym notice.2) in
+    let roomy : vec_len c.reserve.new.self + (vec_len c.args.state.now.flushes + 1) ≤ vec_capacity c.reserve.new.self =
+    subst (λ m. vec_len c.reserve.new.self + (m + 1) ≤ vec_capacity c.reserve.new.self) c.len.ensures (on-ok c.reserve.result _ c.reserve.ensures.ok (cc)) in
+    let history : c.push_reserved.new.self.items ≡ c.args.state.now.history.items ++ entry c.args.pass (Note c.args.now c.args.ticket.now.number c.in_ok-found.found.integration c.in_ok-found.found.outcome) replies.Noted ∷ [] =
+    c.push_reserved.ensures.items
+    ∙ ap (λ number. c.reserve.new.self.items ++ entry c.args.pass (Note c.args.now number c.in_ok-found.found.integration c.in_ok-found.found.outcome) replies.Noted ∷ []) c.number.ensures
+    ∙ ap (λ records. records ++ entry c.args.pass (Note c.args.now c.args.ticket.now.number c.in_ok-found.found.integration c.in_ok-found.found.outcome) replies.Noted ∷ []) c.reserve.ensures.items in (
+      none,
+      (
+        entry c.args.pass (Note c.args.now c.args.ticket.now.number c.in_ok-found.found.integration c.in_ok-found.found.outcome) replies.Noted,
+        (notice.0, notice.1, is),
+        λ id. note-accepted c.args.config.now id old new c.args.ticket.now c.args.place c.in_ok-found.found found c.index_mut.result.now c.log_at_once.new.flush c.index_mut.ensures.value c.requires.good c.args.pass c.args.now
+            (record {
+              clock = c.moment-t.ensures;
+              inserts = refl;
+              known = refl;
+              groups = refl;
+              silences = refl;
+              keys = c.log_at_once.ensures.known;
+              noted = c.log_at_once.ensures.flush;
+              rows = λ d there rows moved. c.log_at_once.ensures.rows d there rows moved;
+              flushes = refl;
+              opened = refl;
+              next_number = refl;
+              history = history;
+              records = omega (arith, c.push_reserved.ensures.len, c.reserve.ensures.len);
+              room = omega (arith, c.push_reserved.ensures.len, c.push_reserved.ensures.capacity, roomy);
+            }),
+      ),
+    )

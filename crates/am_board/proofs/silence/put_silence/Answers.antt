@@ -1,0 +1,41 @@
+use Rattle.std.proofs.Common.{◌≡◌, ℕ, List, ◌++◌, ◌∷◌, [], arith, Some, sym, ap, ◌∙◌, vec_len}
+use Rattle.std.proofs.lemmas.List.Sorted.{IsPermutation-refl}
+use Rattle.std.specs.List.{list_any, position}
+use Rattle.am_mute.specs.Silence.{SilenceData}
+use Rattle.am_board.specs.declared.record.Call.TheVariants.{Silence}
+use Rattle.am_board.specs.declared.record.Reply.TheVariants.{Silenced}
+use Rattle.am_board.specs.Causes.{silence_cause}
+use Rattle.am_board.specs.History.{entry}
+use Rattle.am_board.specs.Kept.{state_of}
+use Rattle.am_board.specs.Lists.{put_in}
+use Rattle.am_board.specs.State.{State}
+use Rattle.am_board.specs.Upkeep.{same_silence}
+use Rattle.am_board.proofs.Searches.{is_some-position}
+use Rattle.am_board.proofs.Staying.{no_fault, unless_value}
+use Rattle.am_board.proofs.silence.put_silence.Goals as goal
+
+with_silences : (s : State) (t u : ℕ) (xs ys : List SilenceData) → t ≡ u → xs ≡ ys → ◌≡◌ {A = State} (record s { clock = t; silences = xs }) (record s { clock = u; silences = ys })
+with_silences s t u xs ys e f = λ i. record s { clock = e i; silences = f i }
+
+pub returns : goal.returns
+returns c =
+    let silences = c.args.state.now.silences.items in
+    let cause = silence_cause c.args.config.now (vec_len c.args.state.now.history) (state_of c.args.state.now) c.args.silence in
+    let placed = c.in_ok-place.ensures c.args.silence (sym c.id.ensures) in
+    let at : c.in_ok-place.place ≡ position (same_silence c.args.silence) silences = unless_value cause (position (same_silence c.args.silence) silences) c.in_ok-place.place placed in
+    let replaced : c.is_some.result ≡ list_any (same_silence c.args.silence) silences = cc (at, c.is_some.ensures, is_some-position (same_silence c.args.silence) silences) in
+    let matchers : c.in_ok-parts_of.field-0 ≡ c.args.silence.matchers = cc (c.in_ok-parts_of.ensures, c.matchers.ensures.matchers) in (
+      no_fault cause (position (same_silence c.args.silence) silences) c.in_ok-place.place placed,
+      λ id. record {
+        told = ap (λ b. Some (Silenced (record { replaced = b }))) (sym replaced);
+        state = record {
+          rows = IsPermutation-refl _;
+          rest = with_silences (state_of c.args.state.now) c.moment-state.result _ c.keep_silence.new.silences.items _ c.moment-state.ensures (c.keep_silence.ensures ∙ ap (put_in same_silence c.args.silence) c.in_ok-reserve-2.ensures.items);
+        };
+        routed = c.requires.good.routed;
+        prepared = c.requires.good.prepared;
+        history = c.push_reserved.ensures.items ∙ (λ i. c.in_ok-reserve.ensures.items i ++ entry c.args.pass (Silence c.args.now (c.id-2.ensures i) (matchers i) (c.start.ensures.start i) (c.end.ensures.end i)) (Silenced (record { replaced = c.is_some.result })) ∷ []);
+        records = omega arith;
+        room = omega (arith, c.in_ok-reserve.ensures.ok, c.in_ok-reserve.ensures.len, c.push_reserved.ensures.len, c.push_reserved.ensures.capacity, c.len.ensures);
+      },
+    )

@@ -1,0 +1,18 @@
+use Rattle.std.proofs.Common.{◌≡◌, map, sym, ap, ◌∙◌, subst}
+use Rattle.std.specs.List.{IsDistinct}
+use Rattle.am_board.specs.declared.group.Member.{Member}
+use Rattle.am_board.specs.Begin.{alert_cmp}
+use Rattle.am_board.specs.Insert.{same_alert}
+use Rattle.am_board.specs.Kept.{member_state}
+use Rattle.am_board.specs.Lists.{in_order}
+use Rattle.am_board.proofs.InOrder.{IsDistinct-alerts}
+use Rattle.am_board.proofs.Shown.{alerts_kept}
+use Rattle.am_board.proofs.views.group_view.Goals as goal
+
+pub returns : goal.returns
+returns c =
+    let members = c.args.group.now.members.items in
+    let alerts : c.in_ok-alerts.alerts.items ≡ map (λ m. m.alert) (map member_state members) =
+    c.in_ok-alerts.ensures ∙ ap (map (λ (m : Member). m.alert)) c.as_slice.ensures.value ∙ alerts_kept members in
+    let sorted = c.by_labels.ensures (subst (IsDistinct same_alert) (sym alerts) (IsDistinct-alerts (map member_state members) c.requires)) ∙ ap (in_order alert_cmp) alerts in
+    λ i. record { group = c.in_ok-copy.ensures i; due = c.args.group.now.due; flushed = c.args.group.now.flushed; alerts = sorted i }

@@ -1,0 +1,15 @@
+-- What a note finds among the kept flushes before it changes anything.
+use Rattle.std.specs.Prelude.{◌≡◌, ℕ, ◌==◌, List, position, slice_get, slice_index_or, Some}
+use Rattle.std.specs.Option.{option_map}
+use Rattle.am_board.specs.declared.flush.OpenFlush.{OpenFlush}
+use Rattle.am_board.specs.declared.note.Noting.{Noting}
+use Rattle.am_board.specs.Data.{NoticeData, TicketData}
+use Rattle.am_board.specs.Logged.{IsReadyAt}
+use Rattle.am_board.specs.Ticket.{outcome_of}
+
+-- the notice at a place of a ticket is of this integration, which was reported so; its flush is open, and asked it, and it may be noted
+pub record IsNoting (flushes : List OpenFlush) (ticket : TicketData) (place : ℕ) (n : Noting) : Type 0 where
+  pub first : position (λ f. f.number == ticket.number) flushes ≡ Some n.flush
+  pub notice : option_map (λ (notice : NoticeData). notice.integration) (slice_get ticket.notices place) ≡ Some n.integration
+  pub outcome : n.outcome ≡ outcome_of ticket.outcomes n.integration
+  pub ready : (d : OpenFlush) → IsReadyAt (slice_index_or flushes n.flush d) n.integration n.outcome n.asked

@@ -1,0 +1,60 @@
+-- What a call does to the state that is kept.
+use Rattle.std.specs.Prelude.{◌≡◌, ℕ, ◌+◌, ◌≤◌, ◌⊎◌, [], ◌∷◌, ◌++◌, Option, Some, None, All, vec_len, vec_capacity}
+use Rattle.am_alerts.specs.declared.limits.TheConstants.{MAX_DURATION}
+use Rattle.am_board.specs.declared.config.Config.{Config}
+use Rattle.am_board.specs.declared.fault.Fault.{Fault}
+use Rattle.am_board.specs.declared.fault.Fault.TheVariants.{NoMemory, TooManyNames, TooManyGroups, TooManySilences, TooManyOpen, HistoryFull}
+use Rattle.am_board.specs.declared.fault.NoteFault.{NoteFault}
+use Rattle.am_board.specs.declared.fault.NoteFault.TheVariants as note
+use Rattle.am_board.specs.declared.state.State as kept
+use Rattle.am_board.specs.declared.record.Record.{Record}
+use Rattle.am_board.specs.Configured.{HaveFewIntegrations}
+use Rattle.am_board.specs.Group.{names_of, AreRouted}
+use Rattle.am_board.specs.Kept.{state_of, Agrees, IsPrepared}
+use Rattle.am_board.specs.Laws.{IsConsistent}
+use Rattle.am_board.specs.Replay.{reply, after}
+
+-- what each call relies on: the state is one that a legal history leaves, and each open flush is prepared for its end
+pub record IsGood (config : Config) (s : kept.State) : Type 0 where
+  pub consistent : IsConsistent (state_of s)
+  pub inserts : s.inserts ≤ vec_len s.history
+  pub numbers : s.next_number ≤ vec_len s.history + 1
+  pub routed : AreRouted config.routes (names_of s.groups.items)
+  pub prepared : All (IsPrepared config s.log) s.flushes.items
+  pub room : vec_len s.history + vec_len s.flushes ≤ vec_capacity s.history
+  pub few : HaveFewIntegrations config
+  pub retention : config.retention ≤ MAX_DURATION
+
+-- a call was accepted: it was told what the definitions give, the state is theirs, and its record is kept
+pub record Accepts (config : Config) (id : ℕ) (r : Record) (old new : kept.State) : Type 0 where
+  pub told : reply config id (state_of old) r.call ≡ Some r.reply
+  pub state : Agrees (state_of new) (after config (state_of old) r)
+  pub routed : AreRouted config.routes (names_of new.groups.items)
+  pub prepared : All (IsPrepared config new.log) new.flushes.items
+  pub history : new.history.items ≡ old.history.items ++ r ∷ []
+  pub records : vec_len new.history ≡ vec_len old.history + 1
+  pub room : vec_len new.history + vec_len new.flushes ≤ vec_capacity new.history
+
+-- a call was refused: the state and the history are what they were
+pub record Stays (config : Config) (old new : kept.State) : Type 0 where
+  pub state : state_of new ≡ state_of old
+  pub routed : AreRouted config.routes (names_of new.groups.items)
+  pub prepared : All (IsPrepared config new.log) new.flushes.items
+  pub history : new.history.items ≡ old.history.items
+  pub records : vec_len new.history ≡ vec_len old.history
+  pub room : vec_len new.history + vec_len new.flushes ≤ vec_capacity new.history
+
+-- a fault that may be answered where this is the first cause other than memory: it is that cause; where there is none memory was refused, and it may have been refused before groups or open flushes were counted
+abbrev pub IsAnswer : Option Fault → Fault → Type 0
+IsAnswer None fault = fault ≡ NoMemory
+IsAnswer (Some NoMemory) fault = fault ≡ NoMemory
+IsAnswer (Some TooManyNames) fault = fault ≡ TooManyNames
+IsAnswer (Some TooManyGroups) fault = (fault ≡ TooManyGroups) ⊎ (fault ≡ NoMemory)
+IsAnswer (Some TooManySilences) fault = fault ≡ TooManySilences
+IsAnswer (Some TooManyOpen) fault = (fault ≡ TooManyOpen) ⊎ (fault ≡ NoMemory)
+IsAnswer (Some HistoryFull) fault = fault ≡ HistoryFull
+
+-- a fault that a note may be answered where this is the first cause other than memory
+abbrev pub IsNoteAnswer : Option NoteFault → NoteFault → Type 0
+IsNoteAnswer None fault = fault ≡ note.NoMemory
+IsNoteAnswer (Some cause) fault = fault ≡ cause

@@ -1,0 +1,260 @@
+//! Begins.
+ghost use Rattle.std.specs.Prelude.{◌≡◌, ◌≢◌, ℕ, ◌+◌, ◌<◌, ◌≤◌, [], None, length, map, slice_index_or, All, IfSome, IsTrue, MatchResult, OnOk, vec_len, vec_capacity};
+ghost use Rattle.std.specs.Option.{option_map};
+ghost use Rattle.std.specs.Ordering.{is_gt};
+ghost use Rattle.am_alerts.specs.RoutingTree.{route_at};
+ghost use Rattle.am_nflog.specs.Log.{is_known};
+ghost use Rattle.am_nflog.specs.declared.key.LogKey.{LogKey};
+ghost use Rattle.am_board.specs.Begin.{asked_of, due_cmp, taken};
+ghost use Rattle.am_board.specs.Causes.{begin_cause};
+ghost use Rattle.am_board.specs.History.{entry, reply_of, IsFresh};
+ghost use Rattle.am_board.specs.Kept.{state_of, group_state, flush_state};
+ghost use Rattle.am_board.specs.LogRows.{log_rows};
+ghost use Rattle.am_board.specs.Lists.{lesser};
+ghost use Rattle.am_board.specs.Opening.{IsOpening};
+ghost use Rattle.am_board.specs.State.{moment, same_name};
+ghost use Rattle.am_board.specs.Step.{IsGood, Accepts, Stays, IsAnswer};
+ghost use Rattle.am_board.specs.Taking.{may_take, first_of, IsFirst, IsTaking, IsEnd};
+ghost use Rattle.am_board.specs.declared.config.Config.{Config as ConfigData};
+ghost use Rattle.am_board.specs.declared.group.Group.{Group};
+ghost use Rattle.am_board.specs.declared.group.GroupName.{GroupName};
+
+use crate::config::Config;
+use crate::fault::Fault;
+use crate::flush::{OpenFlush, is_open};
+use crate::group::{Group, GroupName, mark_begun, take_resolved};
+use crate::opening::{Opening, plan};
+use crate::record::{Call, Record, Reply};
+use crate::state::State;
+use crate::ticket::Ticket;
+use am_alerts::labels::Labels;
+use am_alerts::limits::MAX_MOMENT;
+use am_nflog::{LogKey, NfLog};
+use std::alloc::{AllocError, Global};
+
+/// A flush has at least so long until its deadline, in milliseconds.
+pub const LEAST_TIME: u64 = 10_000;
+
+/// The answer to a begin. A ticket must be spent.
+pub enum Begun {
+    /// No group without an open flush is due.
+    NothingDue,
+    /// No integration needs an update; so many resolved alerts left the group.
+    Quiet { group: GroupName, removed: usize },
+    /// A flush was opened.
+    Flush(Ticket),
+}
+
+/// The group that a begin takes.
+#[derive(Clone, Copy)]
+pub(crate) struct Taking {
+    pub(crate) pass: u32,
+    pub(crate) now: u64,
+    /// The moment of the call.
+    pub(crate) t: u64,
+    /// The place of the group.
+    pub(crate) place: usize,
+    /// When it is due again.
+    pub(crate) due: u64,
+}
+
+/// Takes the group that is due first and has no open flush, and opens a flush of it unless no
+/// integration needs an update.
+pub(crate) fn take_group(
+    alloc: Global,
+    config: &Config,
+    id: u64,
+    state: &mut State,
+    pass: u32,
+    now: u64,
+) -> Result<Begun, Fault>
+    requires good { IsGood config.now state.old }
+    ensures { MatchResult result
+        (λ begun. (begin_cause config.now (vec_len state.old.history) (state_of state.old) (moment (state_of state.old) now) ≡ None) × Accepts config.now id (entry pass (Call.Begin now) (reply_of begun)) state.old state.new × IsFresh id begun)
+        (λ fault. IsAnswer (begin_cause config.now (vec_len state.old.history) (state_of state.old) (moment (state_of state.old) now)) fault × Stays config.now state.old state.new) }
+{
+    if !state.has_room(2, config.limits.history) {
+        return Err(Fault::HistoryFull);
+    }
+    let t = state.moment(now);
+    let Some(place) = first_due(state.groups.as_slice(), state.flushes.as_slice(), t) else {
+        return begin_nothing(state, pass, now, t);
+    };
+    let due = due_again(config, state.groups[place].name.route, t);
+    let taking = Taking {
+        pass,
+        now,
+        t,
+        place,
+        due,
+    };
+    match plan(alloc, config, id, state, taking)? {
+        None => begin_quiet(alloc, state, taking),
+        Some(opening) => begin_flush(alloc, id, state, taking, opening),
+    }
+}
+
+/// When a group of this route that is taken at `t` is due again.
+fn due_again(config: &Config, route: u32, t: u64) -> u64
+    requires route { route ≤ length config.now.routes.children }
+    requires moment { t ≤ MAX_MOMENT }
+    ensures { result ≡ t + (route_at config.now.routes route).group_interval }
+{
+    t.saturating_add(config.routes.route(route).group_interval)
+}
+
+/// A begin for which no group is due.
+fn begin_nothing(state: &mut State, pass: u32, now: u64, t: u64) -> Result<Begun, Fault>
+    ensures { (config : ConfigData) (id : ℕ) → IsGood config state.old → t ≡ moment (state_of state.old) now → taken (state_of state.old) t ≡ None
+        → IsEnd config id pass now state.old state.new result }
+{
+    state.history.reserve(state.flushes.len() + 1)?;
+    state.clock = t;
+    state.history.push_reserved(Record {
+        pass,
+        call: Call::Begin { now },
+        reply: Reply::NothingDue,
+    });
+    Ok(Begun::NothingDue)
+}
+
+/// A begin that asks nobody.
+fn begin_quiet(alloc: Global, state: &mut State, taking: Taking) -> Result<Begun, Fault>
+    requires { taking.place < vec_len state.old.groups }
+    ensures { (config : ConfigData) (id : ℕ) (g : Group) → IsGood config state.old → IsTaking config state.old taking g
+        → asked_of config (state_of state.old) taking.t (group_state g) ≡ []
+        → IsEnd config id taking.pass taking.now state.old state.new result }
+{
+    let name = state.groups[taking.place].name.copy(alloc)?;
+    let recorded = name.copy(alloc)?;
+    state.history.reserve(state.flushes.len() + 1)?;
+
+    state.clock = taking.t;
+    let group = &mut state.groups[taking.place];
+    mark_begun(group, taking.due);
+    let removed = take_resolved(group, taking.t);
+    state.history.push_reserved(Record {
+        pass: taking.pass,
+        call: Call::Begin { now: taking.now },
+        reply: Reply::Quiet {
+            group: recorded,
+            removed,
+        },
+    });
+    Ok(Begun::Quiet {
+        group: name,
+        removed,
+    })
+}
+
+/// A begin that opens a flush.
+fn begin_flush(
+    alloc: Global,
+    id: u64,
+    state: &mut State,
+    taking: Taking,
+    opening: Opening,
+) -> Result<Begun, Fault>
+    requires place { taking.place < vec_len state.old.groups }
+    requires none { vec_len opening.outcomes ≡ 0 }
+    requires room { vec_len opening.notices ≤ vec_capacity opening.outcomes }
+    ensures { (config : ConfigData) (g : Group) → IsGood config state.old → IsTaking config state.old taking g
+        → asked_of config (state_of state.old) taking.t (group_state g) ≢ []
+        → IsOpening config id (state_of state.old) taking.t (group_state g) opening
+        → IsEnd config id taking.pass taking.now state.old state.new result }
+{
+    state.history.reserve(state.flushes.len() + 2)?;
+    state.flushes.reserve(1)?;
+    reserve_rows(alloc, &mut state.log, &opening.flush)?;
+
+    state.clock = taking.t;
+    mark_begun(&mut state.groups[taking.place], taking.due);
+    state.next_number = state.next_number.saturating_add(1);
+    state.flushes.push_reserved(opening.flush);
+    state.history.push_reserved(Record {
+        pass: taking.pass,
+        call: Call::Begin { now: taking.now },
+        reply: Reply::Flush {
+            number: opening.number,
+            group: opening.recorded_group,
+            deadline: opening.deadline,
+            notices: opening.recorded_notices,
+        },
+    });
+    Ok(Begun::Flush(Ticket {
+        desk: id,
+        number: opening.number,
+        group: opening.group,
+        deadline: opening.deadline,
+        notices: opening.notices,
+        outcomes: opening.outcomes,
+    }))
+}
+
+/// Makes the log keys of a flush known.
+fn reserve_rows(
+    alloc: Global,
+    log: &mut NfLog<GroupName, Labels>,
+    flush: &OpenFlush,
+) -> Result<(), AllocError>
+    ensures rows { log_rows log.new ≡ log_rows log.old }
+    ensures known { (key : LogKey GroupName) → IsTrue (is_known same_name log.old key) → IsTrue (is_known same_name log.new key) }
+    ensures asked { OnOk result (All (λ a. a.key.group ≡ flush.now.group → IsTrue (is_known same_name log.new a.key)) flush.now.asked.items) }
+{
+    for asked in flush.asked.as_slice() {
+        log.reserve(LogKey {
+            group: flush.group.copy(alloc)?,
+            integration: asked.key.integration,
+        })?;
+    }
+    Ok(())
+}
+
+/// The place of the group to take at `t`.
+fn first_due(groups: &[Group], flushes: &[OpenFlush], t: u64) -> Option<usize>
+    ensures within { IfSome result (λ i. i < length groups.now) }
+    ensures first { IsFirst groups.now result (first_of (map flush_state flushes.now) t (map group_state groups.now)) }
+{
+    let mut best: Option<usize> = None;
+    for i in (0..groups.len()).rev() {
+        if may_begin(&groups[i], flushes, t) {
+            best = Some(earlier(groups, i, best));
+        }
+    }
+    best
+}
+
+/// Whether a group may be taken at `t`: it is due, and no flush of it is open.
+fn may_begin(group: &Group, flushes: &[OpenFlush], t: u64) -> bool
+    ensures { result ≡ may_take (map flush_state flushes.now) t (group_state group.now) }
+{
+    group.due <= t && !is_open(flushes, &group.name)
+}
+
+/// The place of the group that is taken before the other, if there is another.
+fn earlier(groups: &[Group], i: usize, other: Option<usize>) -> usize
+    requires here { i < length groups.now }
+    requires there { IfSome other (λ j. j < length groups.now) }
+    ensures within { result < length groups.now }
+    ensures lesser { (d : Group) → group_state (slice_index_or groups.now result d) ≡ lesser due_cmp (group_state (slice_index_or groups.now i d)) (option_map (λ j. group_state (slice_index_or groups.now j d)) other) }
+{
+    match other {
+        None => i,
+        Some(j) => if is_behind(&groups[i], &groups[j]) {
+            j
+        } else {
+            i
+        },
+    }
+}
+
+/// Whether a group is to be taken after another: by due moment, then by name.
+fn is_behind(group: &Group, other: &Group) -> bool
+    ensures { result ≡ is_gt (due_cmp (group_state group.now) (group_state other.now)) }
+{
+    group
+        .due
+        .cmp(&other.due)
+        .then_with(|| group.name.cmp(&other.name))
+        .is_gt()
+}

@@ -1,0 +1,201 @@
+//! Finishes.
+ghost use Rattle.std.specs.Prelude.{◌≡◌, ℕ, ◌+◌, ◌<◌, ◌^◌, ◌==◌, ◌&&◌, not, List, [], ◌∷◌, length, map, count_by, slice_index_or, vec_len, IsTrue, All, IsPermutation};
+ghost use Rattle.std.specs.List.{list_all, list_any, IsDistinct};
+ghost use Rattle.am_alerts.specs.Labels.{same_label_set};
+ghost use Rattle.am_nflog.specs.Log.{is_known};
+ghost use Rattle.am_board.specs.Finish.{has_succeeded as succeeds, is_delivered as says_delivered, is_leaving, leaves_by, finished_group, log_with};
+ghost use Rattle.am_board.specs.Group.{names_of};
+ghost use Rattle.am_board.specs.History.{entry};
+ghost use Rattle.am_board.specs.Insert.{same_group};
+ghost use Rattle.am_board.specs.Kept.{IsAsked, asked_state_of, member_state, stamped, group_state, flush_state};
+ghost use Rattle.am_board.specs.LogRows.{log_rows};
+ghost use Rattle.am_board.specs.Lists.{without, changed_where};
+ghost use Rattle.am_board.specs.Logged.{told_row, logged_of, rows_with, KnowTheSame};
+ghost use Rattle.am_board.specs.State.{same_name, is_named, members_in};
+ghost use Rattle.am_board.specs.Step.{IsGood, Accepts};
+ghost use Rattle.am_board.specs.declared.config.Config.{Config as ConfigData};
+ghost use Rattle.am_board.specs.declared.views.RowView.{RowView};
+
+use crate::flush::{Asked, Leaving, OpenFlush, Told};
+use crate::group::{Group, GroupName, Member, find_group};
+use crate::record::{Call, Finished, Record, Reply};
+use crate::state::State;
+use crate::ticket::outcome_of;
+use am_alerts::labels::Labels;
+use am_alerts::sequence::Sequence;
+use am_nflog::{LogKey, NfLog};
+use am_retry::Outcome;
+
+/// Finishes the open flush at a place, with these outcomes. Takes no memory.
+pub(crate) fn finish_flush(
+    state: &mut State,
+    pass: u32,
+    f: usize,
+    outcomes: Vec<(u32, Outcome)>,
+    now: u64,
+) -> Finished
+    requires place { f < vec_len state.old.flushes }
+    requires good { (config : ConfigData) × IsGood config state.old }
+    ensures closed { vec_len state.new.flushes + 1 ≡ vec_len state.old.flushes }
+    ensures accepted { (config : ConfigData) → IsGood config state.old → (id : ℕ) → (o : OpenFlush)
+        → Accepts config id (entry pass (Call.Finish now (slice_index_or state.old.flushes.items f o).number outcomes.items) (Reply.Finished result)) state.old state.new }
+{
+    let t = state.moment(now);
+    state.clock = t;
+    let flush = state.flushes.remove(f);
+    let number = flush.number;
+    let removed = take_out(&mut state.groups, &flush, outcomes.as_slice());
+    let logged = log_rest(&mut state.log, flush, outcomes.as_slice(), t);
+    let finished = Finished { logged, removed };
+    let call = Call::Finish {
+        now,
+        number,
+        outcomes: Sequence::from(outcomes),
+    };
+    let reply = Reply::Finished(finished);
+    state.history.push_reserved(Record { pass, call, reply });
+    finished
+}
+
+/// Logs each success of a flush that wasn't noted, and answers how many.
+fn log_rest(
+    log: &mut NfLog<GroupName, Labels>,
+    flush: OpenFlush,
+    outcomes: &[(u32, Outcome)],
+    t: u64,
+) -> usize
+    requires asked { All (IsAsked log.old flush) flush.asked.items }
+    requires fits { t + flush.kept_for < 2 ^ 64 }
+    ensures known { KnowTheSame log.new log.old }
+    ensures count { result ≡ length (logged_of outcomes.now flush.asked.items) }
+    ensures rows { IsPermutation (log_rows log.new) (rows_with flush t outcomes.now flush.asked.items (log_rows log.old)) }
+{
+    let OpenFlush {
+        number: _,
+        group: _,
+        kept_for,
+        asked,
+        told: _,
+        leaving: _,
+    } = flush;
+    let mut logged: usize = 0;
+    for one in asked {
+        logged += log_one(log, one, outcomes, kept_for, t);
+    }
+    logged
+}
+
+/// Logs the success of an integration that was asked, if it succeeded and wasn't noted, and answers
+/// how many rows that makes.
+fn log_one(
+    log: &mut NfLog<GroupName, Labels>,
+    asked: Asked,
+    outcomes: &[(u32, Outcome)],
+    kept_for: u64,
+    t: u64,
+) -> usize
+    requires known { IsTrue (is_known same_name log.old asked.key) }
+    requires fits { t + kept_for < 2 ^ 64 }
+    ensures known { KnowTheSame log.new log.old }
+    ensures count { result ≡ length (logged_of outcomes.now (asked ∷ [])) }
+    ensures rows { (f : OpenFlush) → f.kept_for ≡ kept_for → IsAsked log.old f asked → (rows : List RowView) → IsPermutation (log_rows log.old) rows
+        → IsPermutation (log_rows log.new) (rows_with f t outcomes.now (asked ∷ []) rows) }
+{
+    let succeeded = has_succeeded(&asked, outcomes);
+    let Asked {
+        key,
+        nothing: _,
+        told,
+    } = asked;
+    match told {
+        Some(told) if succeeded => {
+            put_told(log, &key, told, kept_for, t);
+            1
+        }
+        _ => 0,
+    }
+}
+
+/// Logs what an integration was told, under its key.
+pub(crate) fn put_told(
+    log: &mut NfLog<GroupName, Labels>,
+    key: &LogKey<GroupName>,
+    told: Told,
+    kept_for: u64,
+    t: u64,
+)
+    requires known { IsTrue (is_known same_name log.old key.now) }
+    requires fits { t + kept_for < 2 ^ 64 }
+    ensures known { KnowTheSame log.new log.old }
+    ensures rows { (rows : List RowView) → IsPermutation (log_rows log.old) rows → IsPermutation (log_rows log.new) (log_with (told_row key.now told t kept_for) rows) }
+{
+    log.put(key, told.into_row(t, kept_for));
+}
+
+/// Takes the alerts that were resolved at the begin out of their group if every integration that was
+/// asked succeeded, and answers how many.
+fn take_out(groups: &mut Vec<Group>, flush: &OpenFlush, outcomes: &[(u32, Outcome)]) -> usize
+    ensures names { names_of groups.new.items ≡ names_of groups.old.items }
+    ensures groups { IsDistinct same_group (map group_state groups.old.items)
+        → map group_state groups.new.items ≡ changed_where (is_named flush.now.group) (finished_group outcomes.now (flush_state flush.now)) (map group_state groups.old.items) }
+    ensures count { result ≡ count_by (leaves_by outcomes.now (flush_state flush.now)) (members_in (map group_state groups.old.items) flush.now.group) }
+{
+    if !have_succeeded(flush.asked.as_slice(), outcomes) {
+        return 0;
+    }
+    match find_group(groups.as_slice(), &flush.group) {
+        None => 0,
+        Some(i) => take_leaving(&mut groups[i], flush.leaving.as_slice()),
+    }
+}
+
+/// Takes the alerts out of a group that stand there as they did when they were found resolved, and
+/// answers how many.
+fn take_leaving(group: &mut Group, leaving: &[Leaving]) -> usize
+    ensures group { group_state group.new ≡ record (group_state group.old) { members = without (is_leaving (map stamped leaving.now)) (map member_state group.old.members.items) } }
+    ensures count { result ≡ count_by (is_leaving (map stamped leaving.now)) (map member_state group.old.members.items) }
+{
+    let before = group.members.len();
+    group.members.retain(|member| !leaves(leaving, member));
+    before - group.members.len()
+}
+
+/// Whether all integrations that were asked succeeded.
+fn have_succeeded(asked: &[Asked], outcomes: &[(u32, Outcome)]) -> bool
+    ensures { result ≡ list_all (λ a. succeeds outcomes.now (asked_state_of a)) asked.now }
+{
+    asked.iter().all(|asked| has_succeeded(asked, outcomes))
+}
+
+/// Whether an integration that was asked succeeded.
+fn has_succeeded(asked: &Asked, outcomes: &[(u32, Outcome)]) -> bool
+    ensures { result ≡ succeeds outcomes.now (asked_state_of asked.now) }
+{
+    asked.told.is_none()
+        || asked.nothing
+        || is_delivered(outcome_of(outcomes, asked.key.integration))
+}
+
+/// Whether a notice is reported delivered.
+pub(crate) fn is_delivered(outcome: Option<Outcome>) -> bool
+    ensures { result ≡ says_delivered outcome }
+{
+    match outcome {
+        Some(Outcome::Delivered) => true,
+        _ => false,
+    }
+}
+
+/// Whether a member stands in its group as it did when it was found resolved.
+fn leaves(leaving: &[Leaving], member: &Member) -> bool
+    ensures { result ≡ list_any (λ l. same_label_set l.labels member.now.alert.labels && (l.stamp == member.now.stamp)) leaving.now }
+{
+    leaving.iter().any(|l| stands_as(l, member))
+}
+
+/// Whether a member has the labels and the stamp of one that was found resolved.
+fn stands_as(l: &Leaving, member: &Member) -> bool
+    ensures { result ≡ (same_label_set l.now.labels member.now.alert.labels && (l.now.stamp == member.now.stamp)) }
+{
+    l.labels == *member.alert.labels() && l.stamp == member.stamp
+}

@@ -1,0 +1,177 @@
+//! Aggregation groups.
+ghost use Rattle.std.specs.Prelude.{◌≡◌, ℕ, ◌+◌, ◌<◌, ◌≤◌, ◌↔◌, ◌&&◌, length, map, min, nat_lt, not, position, slice_index_or, true, if◌then◌else◌, vec_len, vec_capacity, IfOk, IfSome, OnOk, IsTrue};
+ghost use Rattle.am_alerts.specs.Labels.{same_label_set};
+ghost use Rattle.am_board.specs.Begin.{count_resolved, without_resolved};
+ghost use Rattle.am_board.specs.Group.{names_of, HasRoom, Fits, IsReserved};
+ghost use Rattle.am_board.specs.Insert.{same_member, wait_of, group_with};
+ghost use Rattle.am_board.specs.Kept.{member_state, group_state};
+ghost use Rattle.am_board.specs.Lists.{put_in};
+ghost use Rattle.am_board.specs.State.{same_name};
+ghost use Rattle.am_board.specs.declared.config.Config.{Config};
+
+use am_alerts::alert::Alert;
+use am_alerts::labels::Labels;
+use am_alerts::sequence::Copied;
+use std::alloc::{AllocError, Global};
+
+/// What identifies a group: the position of its route, and its group labels. Names are ordered by
+/// position, then by labels.
+#[derive(Debug, Drop, PartialEq, Eq, PartialOrd, Ord, Hash)]
+pub struct GroupName {
+    pub route: u32,
+    pub labels: Labels,
+}
+
+impl GroupName {
+    /// A copy of this name.
+    pub fn copy(&self, alloc: Global) -> Result<GroupName, AllocError>
+        ensures { IfOk result (λ name. name ≡ self.now) }
+    {
+        Ok(GroupName {
+            route: self.route,
+            labels: self.labels.copy(alloc)?,
+        })
+    }
+}
+
+impl Copied for GroupName {
+    fn copied(&self, alloc: Global) -> Result<GroupName, AllocError> {
+        self.copy(alloc)
+    }
+}
+
+/// An alert of a group, with the stamp of the insert that put it there.
+#[derive(Debug, Drop)]
+pub(crate) struct Member {
+    pub(crate) alert: Alert,
+    pub(crate) stamp: u64,
+}
+
+/// The alerts of one route that share their group labels.
+#[derive(Debug, Drop)]
+pub(crate) struct Group {
+    pub(crate) name: GroupName,
+    /// When it is flushed next, in milliseconds.
+    pub(crate) due: u64,
+    /// Whether it was flushed since it was made.
+    pub(crate) flushed: bool,
+    pub(crate) members: Vec<Member>,
+}
+
+impl Group {
+    /// Puts an alert in place of the one with its labels, or adds it; there is room for one more. An
+    /// alert whose wait is over makes the group due at `t`, if it wasn't flushed.
+    pub(crate) fn insert(&mut self, member: Member, wait: u64, t: u64)
+        requires { vec_len self.old.members < vec_capacity self.old.members }
+        ensures name { self.new.name ≡ self.old.name }
+        ensures len { vec_len self.new.members ≤ vec_len self.old.members + 1 }
+        ensures capacity { vec_capacity self.new.members ≡ vec_capacity self.old.members }
+        ensures state { (config : Config) → wait ≡ wait_of config self.old.name → group_state self.new ≡ group_with config t (member_state member) (group_state self.old) }
+    {
+        let started = member.alert.starts();
+        self.put(member);
+        self.hasten(started, wait, t);
+    }
+
+    /// Puts an alert in place of the one with its labels, or adds it.
+    fn put(&mut self, member: Member)
+        requires { vec_len self.old.members < vec_capacity self.old.members }
+        ensures name { self.new.name ≡ self.old.name }
+        ensures due { self.new.due ≡ self.old.due }
+        ensures flushed { self.new.flushed ≡ self.old.flushed }
+        ensures members { map member_state self.new.members.items ≡ put_in same_member (member_state member) (map member_state self.old.members.items) }
+        ensures len { vec_len self.new.members ≤ vec_len self.old.members + 1 }
+        ensures capacity { vec_capacity self.new.members ≡ vec_capacity self.old.members }
+    {
+        match position_of(self.members.as_slice(), member.alert.labels()) {
+            Some(i) => self.members[i] = member,
+            None => self.members.push_reserved(member),
+        }
+    }
+
+    /// A group that hasn't been flushed is due at once at `t` for an alert that started so long ago
+    /// that its wait is over.
+    fn hasten(&mut self, started: u64, wait: u64, t: u64)
+        ensures name { self.new.name ≡ self.old.name }
+        ensures due { self.new.due ≡ (if not self.old.flushed && nat_lt (started + wait) t then min self.old.due t else self.old.due) }
+        ensures flushed { self.new.flushed ≡ self.old.flushed }
+        ensures members { self.new.members ≡ self.old.members }
+    {
+        if !self.flushed && started.saturating_add(wait) < t {
+            self.due = self.due.min(t);
+        }
+    }
+}
+
+/// The place of a member with these labels.
+pub(crate) fn position_of(members: &[Member], labels: &Labels) -> Option<usize>
+    ensures place { result ≡ position (λ m. same_label_set labels.now m.alert.labels) members.now }
+    ensures within { IfSome result (λ i. i < length members.now) }
+{
+    members
+        .iter()
+        .position(|member| *labels == *member.alert.labels())
+}
+
+/// Whether two groups have one name.
+pub(crate) fn is_same(one: &GroupName, other: &GroupName) -> bool
+    ensures test { result ≡ same_name one.now other.now }
+    ensures told { IsTrue result ↔ (one.now ≡ other.now) }
+{
+    *one == *other
+}
+
+/// The place of the group of this name.
+pub(crate) fn find_group(groups: &[Group], name: &GroupName) -> Option<usize>
+    ensures place { result ≡ position (λ g. same_name name.now g.name) groups.now }
+    ensures within { IfSome result (λ i. i < length groups.now) }
+    ensures named { IfSome result (λ i. (d : Group) → (slice_index_or groups.now i d).name ≡ name.now) }
+{
+    groups.iter().position(|group| is_same(name, &group.name))
+}
+
+/// Makes room for so many more alerts in a group, if it has this name.
+fn reserve_if_named(group: &mut Group, name: &GroupName, more: usize) -> Result<(), AllocError>
+    ensures kept { IsReserved group.old group.new }
+    ensures room { OnOk result (group.old.name ≡ name.now → Fits more group.new) }
+{
+    if is_same(&group.name, name) {
+        group.members.reserve(more)?;
+    }
+    Ok(())
+}
+
+/// Makes room for so many more alerts in the group of this name.
+pub(crate) fn reserve_named(
+    groups: &mut [Group],
+    name: &GroupName,
+    more: usize,
+) -> Result<(), AllocError>
+    ensures names { names_of groups.new ≡ names_of groups.old }
+    ensures states { map group_state groups.new ≡ map group_state groups.old }
+    ensures room { OnOk result (HasRoom more name.now groups.new) }
+    ensures others { (n : ℕ) (other : GroupName) → HasRoom n other groups.old → HasRoom n other groups.new }
+{
+    for group in groups.iter_mut() {
+        reserve_if_named(group, name, more)?;
+    }
+    Ok(())
+}
+
+/// A group that was taken is due at this moment again.
+pub(crate) fn mark_begun(group: &mut Group, due: u64)
+    ensures { group.new ≡ record group.old { due = due; flushed = true } }
+{
+    group.due = due;
+    group.flushed = true;
+}
+
+/// Takes the alerts that are resolved at `t` out of a group, and answers how many.
+pub(crate) fn take_resolved(group: &mut Group, t: u64) -> usize
+    ensures group { group_state group.new ≡ without_resolved t (group_state group.old) }
+    ensures count { result ≡ count_resolved t (group_state group.old) }
+{
+    let before = group.members.len();
+    group.members.retain(|member| !member.alert.resolved_at(t));
+    before - group.members.len()
+}

@@ -1,0 +1,254 @@
+//! Inserts.
+ghost use Rattle.std.specs.Prelude.{◌≡◌, ℕ, suc, ◌+◌, ◌<◌, ◌≤◌, count_by, false, fold, is_none, length, map, position, None, IfSome, IfOk, IfErr, OnOk, All, MatchResult, vec_len, vec_capacity};
+ghost use Rattle.am_alerts.specs.RoutingTree.{RoutingTree, routes_of};
+ghost use Rattle.am_board.specs.Group.{names_of, AreRouted, AddsAtMost, HasRoom};
+ghost use Rattle.am_board.specs.Causes.{insert_cause, is_full, is_name_too_many};
+ghost use Rattle.am_board.specs.History.{entry};
+ghost use Rattle.am_board.specs.Insert.{same_alert, put_into_group, names_for, after_insert};
+ghost use Rattle.am_board.specs.Kept.{state_of, member_state, group_state};
+ghost use Rattle.am_board.specs.Lists.{put_in};
+ghost use Rattle.am_board.specs.Step.{IsGood, Accepts, Stays, IsAnswer};
+ghost use Rattle.am_board.specs.Placement.{IsReservedState, IsReadyFor, IsEmptyWithRoom, HaveRoom, AreRoutedPlacements, IsPlacementOf, name_at, stamped_alert};
+ghost use Rattle.am_board.specs.State.{MemberState, same_name};
+ghost use Rattle.am_alerts.specs.declared.limits.TheConstants.{MAX_MOMENT};
+ghost use Rattle.am_board.specs.declared.config.Config.{Config};
+ghost use Rattle.am_board.specs.declared.group.GroupName.{GroupName};
+
+use crate::config::Config;
+use crate::fault::Fault;
+use crate::group::{Group, GroupName, Member, find_group, reserve_named};
+use crate::record::{Call, Inserted, Record, Reply};
+use crate::state::{State, find_known};
+use am_alerts::alert::Alert;
+use am_alerts::route::Routes;
+use std::alloc::{AllocError, Global};
+
+/// What an insert puts into one group.
+#[derive(Debug, Drop)]
+pub(crate) struct Placement {
+    pub(crate) name: GroupName,
+    pub(crate) member: Member,
+    /// How long the group waits for its first flush, in milliseconds.
+    pub(crate) wait: u64,
+    /// An empty list with room, for a group that has to be made.
+    pub(crate) members: Vec<Member>,
+}
+
+/// Puts an alert in place of the known one with its labels, or adds it, and likewise in each group of
+/// its routes.
+pub(crate) fn put_alert(
+    alloc: Global,
+    config: &Config,
+    state: &mut State,
+    pass: u32,
+    now: u64,
+    alert: Alert,
+) -> Result<Inserted, Fault>
+    requires good { IsGood config.now state.old }
+    ensures { MatchResult result
+        (λ inserted. (insert_cause config.now (vec_len state.old.history) (state_of state.old) alert ≡ None) × ((id : ℕ) → Accepts config.now id (entry pass (Call.Insert now alert) (Reply.Inserted inserted)) state.old state.new))
+        (λ fault. IsAnswer (insert_cause config.now (vec_len state.old.history) (state_of state.old) alert) fault × Stays config.now state.old state.new) }
+{
+    let known = find_place(config, state, &alert)?;
+    let t = state.moment(now);
+    let stamp = state.inserts + 1;
+    let placements = prepare_all(alloc, &config.routes, &alert, stamp)?;
+    let made = count_missing(state.groups.as_slice(), placements.as_slice());
+    if state.groups.len() + made > config.limits.groups {
+        return Err(Fault::TooManyGroups);
+    }
+    let copy = alert.copy(alloc)?;
+    reserve_insert(state, placements.as_slice())?;
+
+    let inserted = Inserted {
+        stamp,
+        groups: placements.len(),
+        made,
+    };
+    put_prepared(state, t, known, copy, placements);
+    let call = Call::Insert { now, alert };
+    let reply = Reply::Inserted(inserted);
+    state.history.push_reserved(Record { pass, call, reply });
+    Ok(inserted)
+}
+
+/// The place of the known alert with the labels of this one. Refused where the history has no room
+/// for a record, or where the labels are new and no more may be known.
+fn find_place(config: &Config, state: &State, alert: &Alert) -> Result<Option<usize>, Fault>
+    ensures place { IfOk result (λ place. place ≡ position (same_alert alert.now) state.now.known.items) }
+    ensures within { IfOk result (λ place. IfSome place (λ i. i < vec_len state.now.known)) }
+    ensures room { OnOk result (is_full config.now (vec_len state.now.history) (state_of state.now) 1 ≡ false) }
+    ensures names { OnOk result (is_name_too_many config.now (state_of state.now) alert.now ≡ false) }
+    ensures refused { IfErr result (IsAnswer (insert_cause config.now (vec_len state.now.history) (state_of state.now) alert.now)) }
+{
+    if !state.has_room(1, config.limits.history) {
+        return Err(Fault::HistoryFull);
+    }
+    let place = find_known(state.known.as_slice(), alert.labels());
+    if place.is_none() && state.known.len() >= config.limits.names {
+        return Err(Fault::TooManyNames);
+    }
+    Ok(place)
+}
+
+/// Puts an alert to the known ones and into its groups, for all of which there is room.
+fn put_prepared(
+    state: &mut State,
+    t: u64,
+    known: Option<usize>,
+    alert: Alert,
+    placements: Vec<Placement>,
+)
+    requires place { known ≡ position (same_alert alert) state.old.known.items }
+    requires within { IfSome known (λ i. i < vec_len state.old.known) }
+    requires inserts { state.old.inserts ≤ vec_len state.old.history }
+    requires ready { IsReadyFor state.old placements.items }
+    requires empty { All (IsEmptyWithRoom (vec_len placements)) placements.items }
+    ensures log { state.new.log ≡ state.old.log }
+    ensures flushes { state.new.flushes ≡ state.old.flushes }
+    ensures history { state.new.history ≡ state.old.history }
+    ensures routed { (tree : RoutingTree) → AreRouted tree (names_of state.old.groups.items) → AreRoutedPlacements tree placements.items → AreRouted tree (names_of state.new.groups.items) }
+    ensures state { (config : Config) → t ≤ MAX_MOMENT → All (IsPlacementOf config.routes (stamped_alert alert (state.old.inserts + 1))) placements.items → map (λ p. p.name) placements.items ≡ names_for config alert.labels → state_of state.new ≡ after_insert config (state_of state.old) t alert }
+{
+    state.clock = t;
+    state.inserts += 1;
+    keep_known(&mut state.known, known, alert);
+    place_all(&mut state.groups, placements, t);
+}
+
+/// Makes room for an insert, and for the finish of each open flush.
+fn reserve_insert(state: &mut State, placements: &[Placement]) -> Result<(), AllocError>
+    ensures kept { IsReservedState state.old state.new }
+    ensures ready { OnOk result (IsReadyFor state.new placements.now) }
+{
+    state.history.reserve(state.flushes.len() + 1)?;
+    state.known.reserve(1)?;
+    state.groups.reserve(placements.len())?;
+    reserve_all(&mut state.groups, placements)
+}
+
+/// What the insert of an alert puts into each of its groups.
+fn prepare_all(
+    alloc: Global,
+    routes: &Routes,
+    alert: &Alert,
+    stamp: u64,
+) -> Result<Vec<Placement>, AllocError>
+    ensures names { IfOk result (λ placements. map (λ p. p.name) placements.items ≡ map (name_at routes.now alert.now.labels) (routes_of routes.now alert.now.labels)) }
+    ensures routed { IfOk result (λ placements. AreRoutedPlacements routes.now placements.items) }
+    ensures ready { IfOk result (λ placements. All (IsEmptyWithRoom (vec_len placements)) placements.items) }
+    ensures placed { IfOk result (λ placements. All (IsPlacementOf routes.now (stamped_alert alert.now stamp)) placements.items) }
+{
+    let positions = routes.of(alloc, alert.labels())?;
+    let room = positions.len();
+    let mut placements = Vec::with_capacity(alloc, room)?;
+    for route in &positions {
+        placements.push(prepare(alloc, routes, *route, alert, stamp, room)?)?;
+    }
+    Ok(placements)
+}
+
+/// What the insert of an alert puts into its group of one route.
+fn prepare(
+    alloc: Global,
+    routes: &Routes,
+    route: u32,
+    alert: &Alert,
+    stamp: u64,
+    room: usize,
+) -> Result<Placement, AllocError>
+    requires { route ≤ length routes.now.children }
+    ensures name { IfOk result (λ placement. placement.name ≡ name_at routes.now alert.now.labels route) }
+    ensures ready { IfOk result (IsEmptyWithRoom room) }
+    ensures placed { IfOk result (IsPlacementOf routes.now (stamped_alert alert.now stamp)) }
+{
+    let labels = routes.group_labels(alloc, route, alert.labels())?;
+    let alert = alert.copy(alloc)?;
+    Ok(Placement {
+        name: GroupName { route, labels },
+        member: Member { alert, stamp },
+        wait: routes.route(route).group_wait,
+        members: Vec::with_capacity(alloc, room)?,
+    })
+}
+
+/// How many of these placements are of groups that aren't there.
+fn count_missing(groups: &[Group], placements: &[Placement]) -> usize
+    ensures { result ≡ count_by (λ p. is_none (position (λ g. same_name p.name g.name) groups.now)) placements.now }
+{
+    placements
+        .iter()
+        .filter(|placement| find_group(groups, &placement.name).is_none())
+        .count()
+}
+
+/// Makes room for so many more alerts in each group of these placements.
+fn reserve_all(groups: &mut Vec<Group>, placements: &[Placement]) -> Result<(), AllocError>
+    ensures names { names_of groups.new.items ≡ names_of groups.old.items }
+    ensures states { map group_state groups.new.items ≡ map group_state groups.old.items }
+    ensures len { vec_len groups.new ≡ vec_len groups.old }
+    ensures capacity { vec_capacity groups.new ≡ vec_capacity groups.old }
+    ensures room { OnOk result (HaveRoom (length placements.now) groups.new.items placements.now) }
+{
+    let more = placements.len();
+    for placement in placements {
+        reserve_named(groups.as_mut_slice(), &placement.name, more)?;
+    }
+    Ok(())
+}
+
+/// Puts an alert in place of the one that is known at a place, or adds it.
+fn keep_known(known: &mut Vec<Alert>, place: Option<usize>, alert: Alert)
+    requires place { place ≡ position (same_alert alert) known.old.items }
+    requires within { IfSome place (λ i. i < vec_len known.old) }
+    requires room { vec_len known.old < vec_capacity known.old }
+    ensures { known.new.items ≡ put_in same_alert alert known.old.items }
+{
+    match place {
+        Some(i) => known[i] = alert,
+        None => known.push_reserved(alert),
+    }
+}
+
+/// Puts each placement into its group, in their order.
+fn place_all(groups: &mut Vec<Group>, mut placements: Vec<Placement>, t: u64)
+    requires spare { vec_len groups.old + vec_len placements ≤ vec_capacity groups.old }
+    requires room { HaveRoom (vec_len placements) groups.old.items placements.items }
+    requires ready { All (IsEmptyWithRoom (vec_len placements)) placements.items }
+    ensures routed { (tree : RoutingTree) → AreRouted tree (names_of groups.old.items) → AreRoutedPlacements tree placements.items → AreRouted tree (names_of groups.new.items) }
+    ensures state { (config : Config) (m : MemberState) → t ≤ MAX_MOMENT → All (IsPlacementOf config.routes m) placements.items → map group_state groups.new.items ≡ fold (put_into_group config t m) (map group_state groups.old.items) (map (λ p. p.name) placements.items) }
+{
+    placements.reverse();
+    while let Some(placement) = placements.pop() {
+        place(groups, placement, t);
+    }
+}
+
+/// Puts a placement into its group, which is made if it is missing.
+fn place(groups: &mut Vec<Group>, placement: Placement, t: u64)
+    requires spare { vec_len groups.old < vec_capacity groups.old }
+    requires room { HasRoom 1 placement.name groups.old.items }
+    requires ready { IsEmptyWithRoom 1 placement }
+    ensures len { vec_len groups.new ≤ vec_len groups.old + 1 }
+    ensures capacity { vec_capacity groups.new ≡ vec_capacity groups.old }
+    ensures names { AddsAtMost (names_of groups.old.items) placement.name (names_of groups.new.items) }
+    ensures others { (n : ℕ) (name : GroupName) → IsEmptyWithRoom (suc n) placement → HasRoom (suc n) name groups.old.items → HasRoom n name groups.new.items }
+    ensures state { (config : Config) (m : MemberState) → t ≤ MAX_MOMENT → IsPlacementOf config.routes m placement → map group_state groups.new.items ≡ put_into_group config t m (map group_state groups.old.items) placement.name }
+{
+    match find_group(groups.as_slice(), &placement.name) {
+        Some(i) => {
+            let group = &mut groups[i];
+            group.insert(placement.member, placement.wait, t);
+        }
+        None => {
+            let mut group = Group {
+                name: placement.name,
+                due: t.saturating_add(placement.wait),
+                flushed: false,
+                members: placement.members,
+            };
+            group.insert(placement.member, placement.wait, t);
+            groups.push_reserved(group);
+        }
+    }
+}

@@ -1,0 +1,157 @@
+//! Notes: a success that is logged at once.
+ghost use Rattle.std.specs.Prelude.{◌≡◌, ℕ, ◌+◌, ◌<◌, ◌^◌, Bool, true, List, None, Some, slice_get, slice_index_or, map, vec_len, All, IsPermutation, IsSome, IfOk, IfErr, OnOk, MatchResult};
+ghost use Rattle.std.specs.Option.{option_map};
+ghost use Rattle.am_board.specs.Causes.{flush_cause, asked_cause};
+ghost use Rattle.am_board.specs.Finish.{log_with};
+ghost use Rattle.am_board.specs.History.{IsNoteOf};
+ghost use Rattle.am_board.specs.Kept.{IsAsked, asked_state_of, flush_state, state_of};
+ghost use Rattle.am_board.specs.LogRows.{log_rows};
+ghost use Rattle.am_board.specs.Logged.{row_for, KnowTheSame, IsReadyAt, IsNotedAt};
+ghost use Rattle.am_board.specs.Note.{is_ready, asked_by};
+ghost use Rattle.am_board.specs.Noting.{IsNoting};
+ghost use Rattle.am_board.specs.State.{State as Data, flush_numbered};
+ghost use Rattle.am_board.specs.Step.{IsGood, Accepts, Stays, IsNoteAnswer};
+ghost use Rattle.am_board.specs.declared.config.Config.{Config as ConfigData};
+ghost use Rattle.am_board.specs.declared.views.RowView.{RowView};
+
+use crate::config::Config;
+use crate::fault::NoteFault;
+use crate::finish::{is_delivered, put_told};
+use crate::flush::{Asked, OpenFlush, find_asked, find_flush};
+use crate::group::GroupName;
+use crate::record::{Call, Noted, Record, Reply};
+use crate::state::State;
+use crate::ticket::Ticket;
+use am_alerts::labels::Labels;
+use am_nflog::NfLog;
+use am_retry::Outcome;
+
+/// Logs the success of the notice at a place of a ticket of this desk, before its flush is finished.
+pub(crate) fn note_success(
+    config: &Config,
+    state: &mut State,
+    pass: u32,
+    ticket: &Ticket,
+    place: usize,
+    now: u64,
+) -> Result<Noted, NoteFault>
+    requires good { IsGood config.now state.old }
+    ensures { MatchResult result
+        (λ _. (flush_cause config.now (vec_len state.old.history) (state_of state.old) ticket.now place (flush_numbered (state_of state.old).flushes ticket.now.number) ≡ None)
+        × ((r : Record) × IsNoteOf pass now ticket.now place r × ((id : ℕ) → Accepts config.now id r state.old state.new)))
+        (λ fault. IsNoteAnswer (flush_cause config.now (vec_len state.old.history) (state_of state.old) ticket.now place (flush_numbered (state_of state.old).flushes ticket.now.number)) fault × Stays config.now state.old state.new) }
+{
+    let found = find_noting(state.flushes.as_slice(), ticket, place)?;
+    if !state.has_room(1, config.limits.history) {
+        return Err(NoteFault::HistoryFull);
+    }
+    if state.history.reserve(state.flushes.len() + 1).is_err() {
+        return Err(NoteFault::NoMemory);
+    }
+    let t = state.moment(now);
+    state.clock = t;
+    log_at_once(
+        &mut state.log,
+        &mut state.flushes[found.flush],
+        found.asked,
+        t,
+    );
+    let call = Call::Note {
+        now,
+        number: ticket.number(),
+        integration: found.integration,
+        outcome: found.outcome,
+    };
+    let reply = Reply::Noted;
+    state.history.push_reserved(Record { pass, call, reply });
+    Ok(Noted)
+}
+
+/// What is noted: the place of an open flush, that of an integration among those that it asked, the
+/// integration and its outcome.
+#[derive(Clone, Copy)]
+struct Noting {
+    flush: usize,
+    asked: usize,
+    integration: u32,
+    outcome: Option<Outcome>,
+}
+
+/// What the notice at a place of a ticket asks to be noted, where it may be.
+fn find_noting(flushes: &[OpenFlush], ticket: &Ticket, place: usize) -> Result<Noting, NoteFault>
+    ensures found { IfOk result (IsNoting flushes.now ticket.now place) }
+    ensures cause { (config : ConfigData) (records : ℕ) (s : Data) → s.flushes ≡ map flush_state flushes.now
+        → IfErr result (λ fault. flush_cause config records s ticket.now place (flush_numbered s.flushes ticket.now.number) ≡ Some fault) }
+{
+    let Some(flush) = find_flush(flushes, ticket.number()) else {
+        return Err(NoteFault::NotOpen);
+    };
+    let Some(integration) = integration_at(ticket, place) else {
+        return Err(NoteFault::NotReady);
+    };
+    let outcome = ticket.outcome(place);
+    let asked = find_ready(&flushes[flush], integration, outcome)?;
+    Ok(Noting {
+        flush,
+        asked,
+        integration,
+        outcome,
+    })
+}
+
+/// The integration of the notice at a place of a ticket.
+fn integration_at(ticket: &Ticket, place: usize) -> Option<u32>
+    ensures { result ≡ option_map (λ n. n.integration) (slice_get ticket.now.notices place) }
+{
+    match ticket.notices().get(place) {
+        None => None,
+        Some(notice) => Some(notice.integration),
+    }
+}
+
+/// The place of an integration that may be noted among those that a flush asked.
+fn find_ready(
+    flush: &OpenFlush,
+    integration: u32,
+    outcome: Option<Outcome>,
+) -> Result<usize, NoteFault>
+    ensures ready { IfOk result (IsReadyAt flush.now integration outcome) }
+    ensures cause { (config : ConfigData) (records : ℕ) (s : Data) → IfErr result (λ fault. asked_cause config records s outcome (asked_by (flush_state flush.now) integration) ≡ Some fault) }
+{
+    let Some(a) = find_asked(flush.asked.as_slice(), integration) else {
+        return Err(NoteFault::NotReady);
+    };
+    check_ready(&flush.asked[a], outcome)?;
+    Ok(a)
+}
+
+/// Whether an integration that was asked may be noted with this outcome.
+fn check_ready(asked: &Asked, outcome: Option<Outcome>) -> Result<(), NoteFault>
+    ensures ready { OnOk result ((is_ready outcome (asked_state_of asked.now) ≡ true) × IsSome asked.now.told) }
+    ensures cause { (config : ConfigData) (records : ℕ) (s : Data) → IfErr result (λ fault. asked_cause config records s outcome (Some (asked_state_of asked.now)) ≡ Some fault) }
+{
+    if !(asked.nothing || is_delivered(outcome)) {
+        return Err(NoteFault::NotReady);
+    }
+    if asked.told.is_none() {
+        return Err(NoteFault::Already);
+    }
+    Ok(())
+}
+
+/// Logs what an asked integration of an open flush was told, which is noted from now on.
+fn log_at_once(log: &mut NfLog<GroupName, Labels>, flush: &mut OpenFlush, a: usize, t: u64)
+    requires place { a < vec_len flush.old.asked }
+    requires asked { All (IsAsked log.old flush.old) flush.old.asked.items }
+    requires fits { t + flush.old.kept_for < 2 ^ 64 }
+    ensures known { KnowTheSame log.new log.old }
+    ensures flush { IsNotedAt a flush.old flush.new }
+    ensures rows { (d : Asked) → let asked = slice_index_or flush.old.asked.items a d in IsSome asked.told → (rows : List RowView) → IsPermutation (log_rows log.old) rows
+        → IsPermutation (log_rows log.new) (log_with (row_for flush.old t asked.key.integration) rows) }
+{
+    let kept_for = flush.kept_for;
+    let asked = &mut flush.asked[a];
+    if let Some(told) = asked.told.take() {
+        put_told(log, &asked.key, told, kept_for, t);
+    }
+}

@@ -1,0 +1,196 @@
+//! What the begin of a flush puts into the board and its ticket.
+ghost use Rattle.std.specs.Prelude.{◌≡◌, ◌<◌, ◌≤◌, IfOk, length, map, slice_index_or, vec_len};
+ghost use Rattle.std.specs.List.{IsDistinct};
+ghost use Rattle.am_board.specs.Begin.{asked_of};
+ghost use Rattle.am_board.specs.Configured.{HaveFewIntegrations};
+ghost use Rattle.am_board.specs.Found.{AreRising, IsFlushOf, IsFound, asked_asking, asking_of, notice_asking};
+ghost use Rattle.am_board.specs.Insert.{same_member};
+ghost use Rattle.am_board.specs.Kept.{state_of, group_state};
+ghost use Rattle.am_board.specs.Opening.{IsOpening, IsPlan};
+ghost use Rattle.am_board.specs.Step.{IsGood};
+
+use crate::asking::{Asking, asked};
+use crate::begin::{LEAST_TIME, Taking};
+use crate::config::Config;
+use crate::fault::Fault;
+use crate::flush::{Asked, OpenFlush};
+use crate::found::{Found, leaving_at};
+use crate::group::{Group, GroupName};
+use crate::notice::{MAX_DEADLINE, Notice};
+use crate::state::State;
+use am_alerts::limits::MAX_MOMENT;
+use am_alerts::sequence::{Sequence, copy_all};
+use am_nflog::LogKey;
+use am_retry::Outcome;
+use std::alloc::{AllocError, Global};
+
+/// All that the begin of a flush puts into the board and its ticket.
+#[derive(Drop)]
+pub(crate) struct Opening {
+    pub(crate) flush: OpenFlush,
+    pub(crate) number: u64,
+    pub(crate) deadline: u64,
+    /// For the ticket.
+    pub(crate) group: GroupName,
+    pub(crate) notices: Vec<Notice>,
+    pub(crate) outcomes: Vec<(u32, Outcome)>,
+    /// For the record.
+    pub(crate) recorded_group: GroupName,
+    pub(crate) recorded_notices: Sequence<Notice>,
+}
+
+/// The flush that a begin opens; none where nobody is asked.
+pub(crate) fn plan(
+    alloc: Global,
+    config: &Config,
+    id: u64,
+    state: &State,
+    taking: Taking,
+) -> Result<Option<Opening>, Fault>
+    requires good { IsGood config.now state.now }
+    requires place { taking.place < vec_len state.now.groups }
+    requires moment { taking.t ≤ MAX_MOMENT }
+    ensures { (d : Group) → IsPlan config.now id (vec_len state.now.flushes) (state_of state.now) taking.t (group_state (slice_index_or state.now.groups.items taking.place d)) result }
+{
+    let group = &state.groups[taking.place];
+    plan_of(alloc, config, id, state, group, taking.t)
+}
+
+/// The flush of a group that a begin at `t` opens; none where nobody is asked.
+fn plan_of(
+    alloc: Global,
+    config: &Config,
+    id: u64,
+    state: &State,
+    group: &Group,
+    t: u64,
+) -> Result<Option<Opening>, Fault>
+    requires route { group.now.name.route ≤ length config.now.routes.children }
+    requires few { HaveFewIntegrations config.now }
+    requires apart { IsDistinct same_member (group_state group.now).members }
+    requires moment { t ≤ MAX_MOMENT }
+    ensures { IsPlan config.now id (vec_len state.now.flushes) (state_of state.now) t (group_state group.now) result }
+{
+    let found = Found::at(alloc, config, state, group, t)?;
+    let asked = asked(alloc, config, state, &group.name, &found, t)?;
+    if asked.is_empty() {
+        return Ok(None);
+    }
+    if state.flushes.len() >= config.limits.flushes {
+        return Err(Fault::TooManyOpen);
+    }
+    let opening = open(alloc, config, id, state, group, &found, asked.as_slice(), t)?;
+    Ok(Some(opening))
+}
+
+/// The opening of a flush of a group at `t`, with what was found, which asks these integrations.
+fn open(
+    alloc: Global,
+    config: &Config,
+    id: u64,
+    state: &State,
+    group: &Group,
+    found: &Found,
+    asked: &[Asking],
+    t: u64,
+) -> Result<Opening, AllocError>
+    requires route { group.now.name.route ≤ length config.now.routes.children }
+    requires moment { t ≤ MAX_MOMENT }
+    requires rising { AreRising found.now }
+    requires found { IsFound config.now (state_of state.now) t (group_state group.now) found.now }
+    requires asked { asked.now ≡ map asking_of (asked_of config.now (state_of state.now) t (group_state group.now)) }
+    ensures { IfOk result (IsOpening config.now id (state_of state.now) t (group_state group.now)) }
+{
+    let number = state.next_number;
+    let route = config.routes.route(group.name.route);
+    let deadline = t.saturating_add(route.group_interval.max(LEAST_TIME));
+    let kept_for = config
+        .retention
+        .min(route.repeat_interval.saturating_mul(2));
+    let notices = notices(alloc, id, number, deadline, &group.name, found, asked)?;
+    Ok(Opening {
+        flush: flush_of(alloc, number, kept_for, group, found, asked, t)?,
+        number,
+        deadline,
+        group: group.name.copy(alloc)?,
+        recorded_group: group.name.copy(alloc)?,
+        recorded_notices: copy_all(alloc, notices.as_slice())?,
+        outcomes: Vec::with_capacity(alloc, notices.len())?,
+        notices,
+    })
+}
+
+/// The flush of a group at `t`, with what was found, which asks these integrations.
+fn flush_of(
+    alloc: Global,
+    number: u64,
+    kept_for: u64,
+    group: &Group,
+    found: &Found,
+    asked: &[Asking],
+    t: u64,
+) -> Result<OpenFlush, AllocError>
+    requires rising { AreRising found.now }
+    ensures { IfOk result (IsFlushOf number kept_for group.now found.now asked.now t) }
+{
+    Ok(OpenFlush {
+        number,
+        group: group.name.copy(alloc)?,
+        kept_for,
+        asked: asked_by(alloc, &group.name, found, asked)?,
+        told: found.told(alloc)?,
+        leaving: leaving_at(alloc, group.members.as_slice(), t)?,
+    })
+}
+
+/// A notice for each integration that is asked.
+fn notices(
+    alloc: Global,
+    desk: u64,
+    ticket: u64,
+    deadline: u64,
+    group: &GroupName,
+    found: &Found,
+    asked: &[Asking],
+) -> Result<Vec<Notice>, AllocError>
+    requires { deadline ≤ MAX_DEADLINE }
+    ensures items { IfOk result (λ notices. notices.items ≡ map (notice_asking desk ticket deadline group.now found.now) asked.now) }
+{
+    let mut notices = Vec::with_capacity(alloc, asked.len())?;
+    for asking in asked {
+        notices.push(Notice {
+            desk,
+            ticket,
+            deadline,
+            group: group.copy(alloc)?,
+            integration: asking.integration,
+            firing: found.firing.copy(alloc)?,
+            resolved: found.sent(alloc, asking.send_resolved)?,
+        })?;
+    }
+    Ok(notices)
+}
+
+/// The integrations that a flush of a group asks, with what their log rows are to hold.
+fn asked_by(
+    alloc: Global,
+    group: &GroupName,
+    found: &Found,
+    asked: &[Asking],
+) -> Result<Vec<Asked>, AllocError>
+    requires rising { AreRising found.now }
+    ensures { IfOk result (λ all. all.items ≡ map (asked_asking group.now found.now) asked.now) }
+{
+    let mut all = Vec::with_capacity(alloc, asked.len())?;
+    for asking in asked {
+        all.push(Asked {
+            key: LogKey {
+                group: group.copy(alloc)?,
+                integration: asking.integration,
+            },
+            nothing: found.is_nothing(asking.send_resolved),
+            told: Some(found.told(alloc)?),
+        })?;
+    }
+    Ok(all)
+}

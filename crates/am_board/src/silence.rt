@@ -1,0 +1,100 @@
+//! Silences that are set.
+ghost use Rattle.std.specs.Prelude.{◌≡◌, ℕ, ◌<◌, ◌==◌, None, IfOk, MatchResult, vec_len, vec_capacity};
+ghost use Rattle.std.specs.List.{position};
+ghost use Rattle.am_alerts.specs.Fault.{ok_unless};
+ghost use Rattle.am_mute.specs.Silence.{SilenceData};
+ghost use Rattle.am_board.specs.Causes.{silence_cause};
+ghost use Rattle.am_board.specs.History.{entry, call_of_silence};
+ghost use Rattle.am_board.specs.Kept.{state_of};
+ghost use Rattle.am_board.specs.Lists.{put_in};
+ghost use Rattle.am_board.specs.Step.{IsGood, Accepts, Stays, IsAnswer};
+ghost use Rattle.am_board.specs.Upkeep.{same_silence};
+
+use crate::config::Config;
+use crate::fault::Fault;
+use crate::record::{Call, Record, Reply, Silenced};
+use crate::state::State;
+use am_alerts::matcher::{Matcher, MatcherParts};
+use am_alerts::sequence::Sequence;
+use am_mute::silence::Silence;
+use std::alloc::{AllocError, Global};
+
+/// Puts a silence in place of the one with its id, or adds it.
+pub(crate) fn put_silence(
+    alloc: Global,
+    config: &Config,
+    state: &mut State,
+    pass: u32,
+    now: u64,
+    silence: Silence,
+) -> Result<Silenced, Fault>
+    requires good { IsGood config.now state.old }
+    ensures { MatchResult result
+        (λ silenced. (silence_cause config.now (vec_len state.old.history) (state_of state.old) silence ≡ None) × ((id : ℕ) → Accepts config.now id (entry pass (call_of_silence now silence) (Reply.Silenced silenced)) state.old state.new))
+        (λ fault. IsAnswer (silence_cause config.now (vec_len state.old.history) (state_of state.old) silence) fault × Stays config.now state.old state.new) }
+{
+    let place = place_for(config, state, silence.id())?;
+    let call = Call::Silence {
+        now,
+        id: silence.id(),
+        matchers: parts_of(alloc, silence.matchers())?,
+        start: silence.start(),
+        end: silence.end(),
+    };
+    state.history.reserve(state.flushes.len() + 1)?;
+    state.silences.reserve(1)?;
+
+    let silenced = Silenced {
+        replaced: place.is_some(),
+    };
+    state.clock = state.moment(now);
+    keep_silence(&mut state.silences, place, silence);
+    let reply = Reply::Silenced(silenced);
+    state.history.push_reserved(Record { pass, call, reply });
+    Ok(silenced)
+}
+
+/// The place of the silence of this id, if there is one and the call isn't refused.
+fn place_for(config: &Config, state: &State, id: u64) -> Result<Option<usize>, Fault>
+    ensures { (silence : SilenceData) → silence.id ≡ id →
+        result ≡ ok_unless (silence_cause config.now (vec_len state.now.history) (state_of state.now) silence) (position (same_silence silence) state.now.silences.items) }
+{
+    if !state.has_room(1, config.limits.history) {
+        return Err(Fault::HistoryFull);
+    }
+    let place = find_silence(state.silences.as_slice(), id);
+    if place.is_none() && state.silences.len() >= config.limits.silences {
+        return Err(Fault::TooManySilences);
+    }
+    Ok(place)
+}
+
+/// The place of the silence of this id.
+fn find_silence(silences: &[Silence], id: u64) -> Option<usize>
+    ensures { result ≡ position (λ s. id == s.id) silences.now }
+{
+    silences.iter().position(|silence| id == silence.id())
+}
+
+/// Puts a silence in place of the one with its id, which is at this place, or adds it.
+fn keep_silence(silences: &mut Vec<Silence>, place: Option<usize>, silence: Silence)
+    requires place { place ≡ position (same_silence silence) silences.old.items }
+    requires room { vec_len silences.old < vec_capacity silences.old }
+    ensures { silences.new.items ≡ put_in same_silence silence silences.old.items }
+{
+    match place {
+        Some(i) => silences[i] = silence,
+        None => silences.push_reserved(silence),
+    }
+}
+
+/// What these matchers are made of.
+fn parts_of(alloc: Global, matchers: &[Matcher]) -> Result<Sequence<MatcherParts>, AllocError>
+    ensures { IfOk result (λ parts. parts ≡ matchers.now) }
+{
+    let mut parts = Vec::with_capacity(alloc, matchers.len())?;
+    for matcher in matchers {
+        parts.push(matcher.parts().copy(alloc)?)?;
+    }
+    Ok(Sequence::from(parts))
+}

@@ -1,0 +1,73 @@
+//! What a dispatcher holds.
+ghost use Rattle.std.specs.Prelude.{◌≡◌, ◌+◌, ◌<◌, ◌≤◌, ◌↔◌, [], length, IsTrue, IfSome, IsOkAnd, max, min, position, vec_len};
+ghost use Rattle.am_alerts.specs.Labels.{same_label_set};
+ghost use Rattle.am_board.specs.Kept.{IsNew};
+
+use crate::flush::OpenFlush;
+use crate::group::{Group, GroupName};
+use crate::record::Record;
+use am_alerts::alert::Alert;
+use am_alerts::labels::Labels;
+use am_alerts::limits::MAX_MOMENT;
+use am_mute::silence::Silence;
+use am_nflog::NfLog;
+use std::alloc::{AllocError, Global};
+
+#[derive(Debug, Drop)]
+pub(crate) struct State {
+    /// The last moment that was used, in milliseconds.
+    pub(crate) clock: u64,
+    /// How many inserts there were.
+    pub(crate) inserts: u64,
+    pub(crate) known: Vec<Alert>,
+    pub(crate) groups: Vec<Group>,
+    pub(crate) silences: Vec<Silence>,
+    pub(crate) log: NfLog<GroupName, Labels>,
+    pub(crate) flushes: Vec<OpenFlush>,
+    /// The number of the next flush.
+    pub(crate) next_number: u64,
+    /// The accepted calls.
+    pub(crate) history: Vec<Record>,
+}
+
+impl State {
+    /// Nothing yet.
+    pub(crate) fn new(alloc: Global) -> Result<State, AllocError>
+        ensures { IsOkAnd result IsNew }
+    {
+        Ok(State {
+            clock: 0,
+            inserts: 0,
+            known: Vec::new(alloc),
+            groups: Vec::new(alloc),
+            silences: Vec::new(alloc),
+            log: NfLog::new(alloc)?,
+            flushes: Vec::new(alloc),
+            next_number: 1,
+            history: Vec::new(alloc),
+        })
+    }
+
+    /// Whether the history has room for so many records, beside one for the finish of each open flush.
+    pub(crate) fn has_room(&self, records: usize, limit: usize) -> bool
+        requires { records ≤ 2 }
+        ensures { IsTrue result ↔ (vec_len self.now.history + vec_len self.now.flushes + records ≤ limit) }
+    {
+        self.history.as_slice().len() + self.flushes.as_slice().len() + records <= limit
+    }
+
+    /// The moment of a call: moments never go back, and end at 10^15.
+    pub(crate) fn moment(&self, now: u64) -> u64
+        ensures { result ≡ max self.now.clock (min now MAX_MOMENT) }
+    {
+        self.clock.max(now.min(MAX_MOMENT))
+    }
+}
+
+/// The place of the known alert with these labels.
+pub(crate) fn find_known(known: &[Alert], labels: &Labels) -> Option<usize>
+    ensures place { result ≡ position (λ a. same_label_set labels.now a.labels) known.now }
+    ensures within { IfSome result (λ i. i < length known.now) }
+{
+    known.iter().position(|alert| *labels == *alert.labels())
+}

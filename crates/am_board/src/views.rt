@@ -1,0 +1,223 @@
+//! What a dispatcher holds: its log rows and its groups.
+ghost use Rattle.std.specs.Prelude.{◌≡◌, ◌*◌, ◌≤◌, ◌++◌, [], ◌∷◌, All, IfOk, OnOk, length, map, sum_by, vec_len};
+ghost use Rattle.std.specs.List.{IsDistinct};
+ghost use Rattle.std.specs.Option.{option_copied};
+ghost use Rattle.am_board.specs.declared.config.TheConstants.{MAX_HISTORY};
+ghost use Rattle.am_board.specs.History.{state_at};
+ghost use Rattle.am_board.specs.Insert.{same_member};
+ghost use Rattle.am_board.specs.Kept.{state_of, group_state};
+ghost use Rattle.am_board.specs.LogRows.{row_under, log_rows};
+ghost use Rattle.am_board.specs.Laws.{IsConsistent};
+ghost use Rattle.am_board.specs.Views.{row_views, group_view, group_views, summary, summary_at, summary_data};
+
+use crate::board::Board;
+use crate::found::by_labels;
+use crate::group::{Group, GroupName, Member};
+use crate::state::State;
+use am_alerts::alert::Alert;
+use am_alerts::labels::Labels;
+use am_alerts::sequence::{Sequence, copy_all};
+use am_nflog::{LogKey, LogRow, NfLog};
+use std::alloc::{AllocError, Global};
+
+/// A log row. Moments are in milliseconds, and label sets in their order.
+#[derive(Debug, Drop)]
+pub struct RowView {
+    pub group: GroupName,
+    pub integration: u32,
+    pub moment: u64,
+    pub expiry: u64,
+    pub firing: Sequence<Labels>,
+    pub resolved: Sequence<Labels>,
+}
+
+/// A group. Its alerts are in the order of their labels.
+#[derive(Debug, Drop)]
+pub struct GroupView {
+    pub group: GroupName,
+    /// When it is flushed next, in milliseconds.
+    pub due: u64,
+    /// Whether it was flushed since it was made.
+    pub flushed: bool,
+    pub alerts: Sequence<Alert>,
+}
+
+/// How much there is on a board.
+#[derive(Clone, Copy, Debug, PartialEq, Eq)]
+pub struct Summary {
+    /// Accepted calls.
+    pub calls: usize,
+    pub groups: usize,
+    /// Alerts over all groups.
+    pub alerts: usize,
+    /// Open flushes.
+    pub flushes: usize,
+    /// Rows of the log.
+    pub entries: usize,
+}
+
+impl Board {
+    /// How much there is. Takes no memory.
+    pub fn summary(&self) -> Summary
+        ensures { summary_data result ≡ summary self.now.config self.now.history }
+    {
+        summary_of(&self.state)
+    }
+
+    /// The rows of the log, by route position, group labels and integration.
+    pub fn rows(&self, alloc: Global) -> Result<Vec<RowView>, AllocError>
+        ensures { IfOk result (λ rows. rows.items ≡ row_views (state_at self.now)) }
+    {
+        rows_of(alloc, &self.state)
+    }
+
+    /// The groups, by route position and group labels.
+    pub fn groups(&self, alloc: Global) -> Result<Vec<GroupView>, AllocError>
+        ensures { IfOk result (λ groups. groups.items ≡ group_views (state_at self.now)) }
+    {
+        groups_of(alloc, &self.state)
+    }
+}
+
+/// How much there is in a state.
+fn summary_of(state: &State) -> Summary
+    requires alerts { sum_by (λ g. length g.members) (state_of state.now).groups ≤ 64 * state.now.inserts }
+    requires inserts { state.now.inserts ≤ MAX_HISTORY }
+    ensures { summary_data result ≡ summary_at (vec_len state.now.history) (state_of state.now) }
+{
+    Summary {
+        calls: state.history.len(),
+        groups: state.groups.len(),
+        alerts: count_alerts(state.groups.as_slice()),
+        flushes: state.flushes.len(),
+        entries: count_rows(&state.log),
+    }
+}
+
+/// The number of alerts over all groups.
+fn count_alerts(groups: &[Group]) -> usize
+    requires { sum_by (λ g. length g.members.items) groups.now ≤ usize.MAX }
+    ensures { result ≡ sum_by (λ g. length g.members.items) groups.now }
+{
+    let mut count: usize = 0;
+    for group in groups {
+        count += group.members.len();
+    }
+    count
+}
+
+/// The number of rows of the log.
+fn count_rows(log: &NfLog<GroupName, Labels>) -> usize
+    ensures { result ≡ length (log_rows log.now) }
+{
+    let mut count: usize = 0;
+    for i in 0..log.len() {
+        if log.row(i).1.is_some() {
+            count += 1;
+        }
+    }
+    count
+}
+
+/// The rows of the log of a state, in their order.
+fn rows_of(alloc: Global, state: &State) -> Result<Vec<RowView>, AllocError>
+    requires { IsConsistent (state_of state.now) }
+    ensures { IfOk result (λ rows. rows.items ≡ row_views (state_of state.now)) }
+{
+    let mut rows = copy_rows(alloc, &state.log)?;
+    rows.sort_unstable_by(|a, b| a
+        .group
+        .cmp(&b.group)
+        .then(a.integration.cmp(&b.integration)));
+    Ok(rows)
+}
+
+/// The rows of a log, in the order of its keys.
+fn copy_rows(alloc: Global, log: &NfLog<GroupName, Labels>) -> Result<Vec<RowView>, AllocError>
+    ensures { IfOk result (λ rows. rows.items ≡ log_rows log.now) }
+{
+    let mut rows = Vec::new(alloc);
+    for i in 0..log.len() {
+        let (key, row) = log.row(i);
+        push_row(alloc, &mut rows, key, row)?;
+    }
+    Ok(rows)
+}
+
+/// Adds the row of a key, if it has one.
+fn push_row(
+    alloc: Global,
+    rows: &mut Vec<RowView>,
+    key: &LogKey<GroupName>,
+    row: Option<&LogRow<Labels>>,
+) -> Result<(), AllocError>
+    ensures { OnOk result (rows.new.items ≡ rows.old.items ++ log_rows ((key.now, option_copied row.entry) ∷ [])) }
+{
+    if let Some(row) = row {
+        rows.push(row_view(alloc, key, row)?)?;
+    }
+    Ok(())
+}
+
+fn row_view(
+    alloc: Global,
+    key: &LogKey<GroupName>,
+    row: &LogRow<Labels>,
+) -> Result<RowView, AllocError>
+    ensures { IfOk result (λ view. view ≡ row_under (key.now, row.now)) }
+{
+    Ok(RowView {
+        group: key.group.copy(alloc)?,
+        integration: key.integration,
+        moment: row.moment,
+        expiry: row.expiry,
+        firing: copy_all(alloc, row.firing.as_slice())?,
+        resolved: copy_all(alloc, row.resolved.as_slice())?,
+    })
+}
+
+/// The groups of a state, in their order.
+fn groups_of(alloc: Global, state: &State) -> Result<Vec<GroupView>, AllocError>
+    requires { IsConsistent (state_of state.now) }
+    ensures { IfOk result (λ groups. groups.items ≡ group_views (state_of state.now)) }
+{
+    let mut groups = views_of(alloc, state.groups.as_slice())?;
+    groups.sort_unstable_by(|a, b| a.group.cmp(&b.group));
+    Ok(groups)
+}
+
+/// The views of these groups, in which no two alerts have one label set.
+fn views_of(alloc: Global, groups: &[Group]) -> Result<Vec<GroupView>, AllocError>
+    requires { All (λ g. IsDistinct same_member g.members) (map group_state groups.now) }
+    ensures { IfOk result (λ views. views.items ≡ map (λ g. group_view (group_state g)) groups.now) }
+{
+    let mut views = Vec::with_capacity(alloc, groups.len())?;
+    for group in groups {
+        views.push(group_view(alloc, group)?)?;
+    }
+    Ok(views)
+}
+
+fn group_view(alloc: Global, group: &Group) -> Result<GroupView, AllocError>
+    requires { IsDistinct same_member (group_state group.now).members }
+    ensures { IfOk result (λ view. view ≡ group_view (group_state group.now)) }
+{
+    let alerts = alerts_of(alloc, group.members.as_slice())?;
+    Ok(GroupView {
+        group: group.name.copy(alloc)?,
+        due: group.due,
+        flushed: group.flushed,
+        alerts: by_labels(alerts),
+    })
+}
+
+/// The alerts of these members.
+fn alerts_of(alloc: Global, members: &[Member]) -> Result<Vec<Alert>, AllocError>
+    ensures { IfOk result (λ alerts. alerts.items ≡ map (λ m. m.alert) members.now) }
+{
+    let mut alerts = Vec::with_capacity(alloc, members.len())?;
+    for member in members {
+        alerts.push(member.alert.copy(alloc)?)?;
+    }
+    Ok(alerts)
+}

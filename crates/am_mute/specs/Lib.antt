@@ -1,0 +1,4 @@
+pub mod Inhibit
+pub mod Matching
+pub mod Mute
+pub mod Silence

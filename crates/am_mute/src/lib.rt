@@ -1,0 +1,8 @@
+//! Silences and inhibition, which mute notifications, as Alertmanager has them.
+#![tactic(auto)]
+
+pub mod inhibit;
+pub mod mute;
+pub mod silence;
+#[cfg(test)]
+mod tests;

@@ -1,0 +1,193 @@
+use crate::inhibit::{InhibitRule, RuleFault};
+use crate::mute::muted;
+use crate::silence::{Silence, SilenceFault};
+use am_alerts::alert::Alert;
+use am_alerts::labels::Labels;
+use am_alerts::limits::MAX_MOMENT;
+use am_alerts::matcher::{Matcher, MatcherParts, Operator};
+use am_alerts::text::Text;
+use std::alloc::Global;
+use std::test::Fail;
+
+fn matcher(alloc: Global, name: &str, op: Operator, value: &str) -> Result<Matcher, Fail> {
+    Ok(Matcher::new(MatcherParts {
+        name: Text::new(alloc, name)?,
+        op,
+        value: Text::new(alloc, value)?,
+    })?)
+}
+
+/// As many matchers `name = value`.
+fn equals(alloc: Global, count: usize, name: &str, value: &str) -> Result<Vec<Matcher>, Fail> {
+    let mut matchers = Vec::new(alloc);
+    for _ in 0..count {
+        matchers.push(matcher(alloc, name, Operator::Equal, value)?)?;
+    }
+    Ok(matchers)
+}
+
+/// As many times the name.
+fn names(alloc: Global, count: usize, name: &str) -> Result<Vec<Text>, Fail> {
+    let mut names = Vec::new(alloc);
+    for _ in 0..count {
+        names.push(Text::new(alloc, name)?)?;
+    }
+    Ok(names)
+}
+
+/// The labels of a text such as `a=1 b=2`.
+fn labels(alloc: Global, text: &str) -> Result<Labels, Fail> {
+    let mut pairs = Vec::new(alloc);
+    for pair in text.split(' ') {
+        pairs.push(pair.split_once('=').ok_or("a label without `=`")?)?;
+    }
+    Ok(Labels::read(alloc, pairs.as_slice())?)
+}
+
+/// Whether a rule mutes these labels at 0 while one alert is known, which starts at 0.
+fn inhibited(
+    alloc: Global,
+    rule: &[InhibitRule],
+    target: &str,
+    source: &str,
+    ends: Option<u64>,
+) -> Result<bool, Fail> {
+    let known = [Alert::new(labels(alloc, source)?, 0, ends)?];
+    Ok(muted(alloc, &labels(alloc, target)?, 0, &[], rule, &known)?)
+}
+
+#[test]
+fn a_rule_mutes_where_the_labels_of_equal_agree(rt: HostRuntime) -> Result<(), Fail> {
+    let alloc = rt.alloc();
+    let rule = [InhibitRule::new(
+        equals(alloc, 1, "severity", "critical")?,
+        equals(alloc, 1, "severity", "warning")?,
+        names(alloc, 1, "dc")?,
+    )?];
+    let target = "alertname=T dc=x severity=warning";
+    let source = "alertname=S dc=x severity=critical";
+    let bare_target = "alertname=T severity=warning";
+    let bare_source = "alertname=S severity=critical";
+    for (labels, known, ends, expected) in [
+        (target, source, None, true),
+        (target, "alertname=S dc=y severity=critical", None, false),
+        (bare_target, bare_source, None, true),
+        (target, bare_source, None, false),
+        (bare_target, source, None, false),
+        (target, source, Some(0), false),
+        (target, source, Some(1), true),
+        (source, source, None, false),
+        (target, target, None, false),
+    ] {
+        let muted = inhibited(alloc, &rule, labels, known, ends)?;
+        assert_eq!(rt; muted, expected, "{labels} while {known} ends at {ends:?}");
+    }
+    Ok(())
+}
+
+#[test]
+fn alerts_of_both_sides_are_no_sources_for_each_other(rt: HostRuntime) -> Result<(), Fail> {
+    let alloc = rt.alloc();
+    let rule = [InhibitRule::new(
+        equals(alloc, 1, "a", "1")?,
+        equals(alloc, 1, "b", "1")?,
+        Vec::new(alloc),
+    )?];
+    for (labels, known, expected) in [
+        ("a=1 b=1", "a=1 b=1 c=2", false),
+        ("a=1 b=1", "a=1", true),
+        ("b=1", "a=1 b=1", true),
+    ] {
+        let muted = inhibited(alloc, &rule, labels, known, None)?;
+        assert_eq!(rt; muted, expected, "{labels} while {known} is known");
+    }
+    Ok(())
+}
+
+#[test]
+fn the_parts_are_kept(rt: HostRuntime) -> Result<(), Fail> {
+    let alloc = rt.alloc();
+    let rule = InhibitRule::new(
+        equals(alloc, 1, "a", "1")?,
+        equals(alloc, 2, "b", "1")?,
+        names(alloc, 3, "dc")?,
+    )?;
+    assert_eq!(rt; rule.source().len(), 1);
+    assert_eq!(rt; rule.target().len(), 2);
+    assert_eq!(rt; rule.equal().len(), 3);
+    let silence = Silence::new(7, equals(alloc, 2, "a", "1")?, 10, 20)?;
+    assert_eq!(rt; (silence.id(), silence.start(), silence.end()), (7, 10, 20));
+    assert_eq!(rt; silence.matchers().len(), 2);
+    Ok(())
+}
+
+#[test]
+fn a_silence_mutes_from_its_start_until_its_end(rt: HostRuntime) -> Result<(), Fail> {
+    let alloc = rt.alloc();
+    let mut matchers = equals(alloc, 1, "alertname", "A")?;
+    matchers.push(matcher(alloc, "severity", Operator::NotEqual, "critical")?)?;
+    let silences = [Silence::new(7, matchers, 10, 20)?];
+    for (text, t, expected) in [
+        ("alertname=A", 9, false),
+        ("alertname=A", 10, true),
+        ("alertname=A", 19, true),
+        ("alertname=A", 20, false),
+        ("alertname=A severity=critical", 10, false),
+        ("alertname=B", 10, false),
+    ] {
+        let muted = muted(alloc, &labels(alloc, text)?, t, &silences, &[], &[])?;
+        assert_eq!(rt; muted, expected, "{text} at {t}");
+    }
+    Ok(())
+}
+
+#[test]
+fn a_silence_is_refused_in_order(rt: HostRuntime) -> Result<(), Fail> {
+    let alloc = rt.alloc();
+    let above = MAX_MOMENT + 1;
+    for (count, start, end, fault) in [
+        (0, 2, 1, Some(SilenceFault::NoMatchers)),
+        (33, 2, 1, Some(SilenceFault::TooManyMatchers)),
+        (32, 2, 1, Some(SilenceFault::BadMoments)),
+        (1, 0, above, Some(SilenceFault::BadMoments)),
+        (1, above, above, Some(SilenceFault::BadMoments)),
+        (32, 0, 0, None),
+        (1, MAX_MOMENT, MAX_MOMENT, None),
+    ] {
+        let matchers = equals(alloc, count, "a", "1")?;
+        let refused = Silence::new(1, matchers, start, end).err();
+        assert_eq!(rt; refused, fault, "{count} matchers, {start} to {end}");
+    }
+    Ok(())
+}
+
+#[test]
+fn a_rule_is_refused_in_order(rt: HostRuntime) -> Result<(), Fail> {
+    let alloc = rt.alloc();
+    for (sources, targets, equal, fault) in [
+        (33, 0, 65, Some(RuleFault::TooManyMatchers)),
+        (0, 33, 65, Some(RuleFault::TooManyMatchers)),
+        (32, 32, 65, Some(RuleFault::TooManyNames)),
+        (32, 32, 64, None),
+        (0, 0, 0, None),
+    ] {
+        let rule = InhibitRule::new(
+            equals(alloc, sources, "a", "1")?,
+            equals(alloc, targets, "b", "1")?,
+            names(alloc, equal, "dc")?,
+        );
+        assert_eq!(rt;
+            rule.err(),
+            fault,
+            "{sources} and {targets} matchers, {equal} names"
+        );
+    }
+
+    let mut distinct = Vec::new(alloc);
+    for i in 0..65u8 {
+        distinct.push(Text::from(format!(in alloc; "n{i}")?))?;
+    }
+    let refused = InhibitRule::new(Vec::new(alloc), Vec::new(alloc), distinct);
+    assert_eq!(rt; refused.err(), Some(RuleFault::TooManyNames));
+    Ok(())
+}

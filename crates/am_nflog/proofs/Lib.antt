@@ -1,0 +1,4 @@
+pub mod CallerLemmas
+pub mod Numbering
+mod Subsets
+mod Sweeps

@@ -1,0 +1,6 @@
+use Rattle.std.proofs.Common.{drop}
+use Rattle.am_nflog.proofs.Subsets.{IsLeft}
+use Rattle.am_nflog.proofs.update.is_subset.Given as goal
+
+abbrev pub invariant-loop-next : goal.invariant-loop-next
+invariant-loop-next g l = IsLeft g.N.PartialEq.eq g.N.Ord.cmp l.fn.some l.all l.missing (drop l.next-index l.all)

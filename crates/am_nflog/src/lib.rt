@@ -1,0 +1,19 @@
+//! The notification log: for each group and integration the last notice that succeeded, and whether a further one is needed.
+//!
+//! A row says when an integration was last told of a group, and of which alerts. `needs_update` compares it with the alerts of
+//! now: this is what Alertmanager's nflog and DedupStage do on a single node. All moments and durations are in milliseconds.
+#![tactic(auto)]
+
+mod key;
+mod log;
+mod members;
+mod row;
+#[cfg(test)]
+mod tests;
+mod update;
+
+pub use key::LogKey;
+pub use log::NfLog;
+pub use members::Members;
+pub use row::LogRow;
+pub use update::{needs_update, numbering_keeps_needed};

@@ -1,0 +1,130 @@
+//! The log itself.
+ghost use Rattle.std.specs.Prelude.{◌≡◌, ◌<◌, ◌↔◌, [], length, filter, nat_lt, IsTrue, OnOk, OnErr, IsOk, IsOkAnd, slice_get, Some};
+ghost use Rattle.std.specs.Option.{option_copied};
+ghost use Rattle.am_nflog.specs.Log.{is_known, row_of, rows_of, with_key, with_row, collected, expired_count, is_expired, HasDistinctKeys};
+
+use crate::key::LogKey;
+use crate::row::LogRow;
+use indexmap::IndexMap;
+use std::alloc::{AllocError, Global};
+use std::hash::Hash;
+use std::marker::Model;
+
+/// The notification log: distinct keys that are known, each with a row or none.
+///
+/// Contracts see it as the list of its known keys in the order in which they came, each with its row.
+#[derive(Debug, Drop)]
+pub struct NfLog<G: Eq + Hash, N: Ord> {
+    slots: IndexMap<LogKey<G>, Option<LogRow<N>>>,
+}
+
+impl<G: Eq + Hash, N: Ord> Model for NfLog<G, N> {
+    ghost use Rattle.std.specs.Prelude.{List, Option};
+    ghost use Rattle.am_nflog.specs.declared.key.LogKey.{LogKey};
+    ghost use Rattle.am_nflog.specs.declared.row.LogRow.{LogRow};
+
+    ghost Value = { List (LogKey G × Option (LogRow N)) };
+
+    ghost use Rattle.am_nflog.specs.Log.{HasDistinctKeys};
+
+    ghost view = { λ log. log.slots.entries };
+
+    ghost invariant = { λ log. HasDistinctKeys G.eq log.slots.entries };
+}
+
+impl<G: Eq + Hash, N: Ord> NfLog<G, N> {
+    /// An empty log, in which no key is known. It takes no memory: the first key does.
+    pub fn new(alloc: Global) -> Result<Self, AllocError>
+        ensures { IsOkAnd result (λ log. log ≡ []) }
+    {
+        let slots = IndexMap::new(alloc);
+        Ok(NfLog { slots })
+    }
+
+    /// How many keys are known.
+    pub fn len(&self) -> usize
+        ensures len { result ≡ length self.now }
+        ensures distinct { HasDistinctKeys G.eq self.now }
+    {
+        self.slots.len()
+    }
+
+    /// Whether no key is known.
+    pub fn is_empty(&self) -> bool
+        ensures { IsTrue result ↔ (self.now ≡ []) }
+    {
+        self.slots.is_empty()
+    }
+
+    /// The row of a key. It is there until it is collected, also past its expiry.
+    pub fn get(&self, key: &LogKey<G>) -> Option<&LogRow<N>>
+        ensures row { option_copied result ≡ row_of G.eq self.now key.now }
+        ensures distinct { HasDistinctKeys G.eq self.now }
+    {
+        self.slots.get(key)?.as_ref()
+    }
+
+    /// The known key at place `i`, with its row. Keys stand in the order in which they came.
+    pub fn row(&self, i: usize) -> (&LogKey<G>, Option<&LogRow<N>>)
+        requires { i < length self.now }
+        ensures { slice_get self.now i ≡ Some (result.0.now, option_copied result.1) }
+    {
+        let (key, row) = self.slots.get_index(i).unwrap();
+        (key, row.as_ref())
+    }
+}
+
+impl<G: Eq + Hash + Drop, N: Ord + Drop> NfLog<G, N> {
+    /// Makes a key known, from now on. A new key comes last and has no row, and no row changes.
+    ///
+    /// It takes memory only for a new key. On an error the log is as it was.
+    pub fn reserve(&mut self, key: LogKey<G>) -> Result<(), AllocError>
+        ensures ok { OnOk result (self.new ≡ with_key G.eq self.old key) }
+        ensures err { OnErr result (self.new ≡ self.old) }
+        ensures known_succeeds { IsTrue (is_known G.eq self.old key) → IsOk result }
+        ensures distinct { HasDistinctKeys G.eq self.new }
+    {
+        if self.slots.contains_key(&key) {
+            return Ok(());
+        }
+        self.slots.insert(key, None)?;
+        Ok(())
+    }
+
+    /// Puts a row at a known key, in place of the one that was there, if any. It takes no memory.
+    pub fn put(&mut self, key: &LogKey<G>, row: LogRow<N>)
+        requires { IsTrue (is_known G.eq self.old key.now) }
+        ensures put { self.new ≡ with_row G.eq self.old key.now row }
+        ensures distinct { HasDistinctKeys G.eq self.new }
+    {
+        let slot = self.slots.get_mut(key).unwrap();
+        *slot = Some(row);
+    }
+
+    /// Removes the rows whose expiry is at or before `t`, in milliseconds, and answers how many went. Their keys stay known.
+    pub fn collect(&mut self, t: u64) -> usize
+        ensures collected { self.new ≡ collected t self.old }
+        ensures count { result ≡ expired_count t self.old }
+        ensures order { rows_of self.new ≡ filter (λ entry. nat_lt t entry.1.expiry) (rows_of self.old) }
+        ensures distinct { HasDistinctKeys G.eq self.new }
+    {
+        let mut gone = 0;
+        for i in 0..self.slots.len() {
+            if is_expired(&self.slots[i], t) {
+                self.slots[i] = None;
+                gone += 1;
+            }
+        }
+        gone
+    }
+}
+
+// Whether there is a row whose expiry is reached.
+fn is_expired<N: Ord>(row: &Option<LogRow<N>>, t: u64) -> bool
+    ensures { result ≡ is_expired t row.now }
+{
+    match row {
+        Some(row) => row.expiry <= t,
+        None => false,
+    }
+}

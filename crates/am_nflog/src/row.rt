@@ -1,0 +1,16 @@
+//! The rows of the log.
+
+use crate::members::Members;
+
+/// What an integration was last told of a group, and when. Each success puts such a row in place of the one before.
+#[derive(Debug, Drop)]
+pub struct LogRow<N: Ord> {
+    /// When the notice succeeded, in milliseconds.
+    pub moment: u64,
+    /// The alerts that fired in it.
+    pub firing: Members<N>,
+    /// The alerts that were resolved in it.
+    pub resolved: Members<N>,
+    /// From this moment on a collection removes the row, in milliseconds.
+    pub expiry: u64,
+}

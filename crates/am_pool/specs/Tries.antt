@@ -1,0 +1,26 @@
+-- The tries of a courier.
+use Rattle.std.specs.Prelude.{ℕ, List, map}
+use Rattle.am_board.specs.Data.{NoticeData}
+use Rattle.am_retry.specs.Attempts.{Try}
+use Rattle.am_pool.specs.declared.courier.Sent.{Sent}
+use Rattle.am_pool.specs.declared.courier.Tried.{Tried}
+
+-- an attempt of this number to send a notice, at a moment, and how it went
+abbrev pub tried : NoticeData → ℕ → ℕ → Sent → Tried
+tried notice attempt at sent = record {
+  desk = notice.desk;
+  ticket = notice.ticket;
+  integration = notice.integration;
+  attempt = attempt;
+  at = at;
+  answer = sent.answer;
+  ended = sent.ended;
+}
+
+-- a try of "retry outcome" as one of this notice
+abbrev pub tried_for : NoticeData → Try → Tried
+tried_for notice t = tried notice t.attempt t.at (record { answer = t.answer; ended = t.ended })
+
+-- the tries of "retry outcome" as those of this notice
+abbrev pub all_tried_for : NoticeData → List Try → List Tried
+all_tried_for notice tries = map (tried_for notice) tries

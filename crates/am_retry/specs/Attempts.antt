@@ -1,0 +1,63 @@
+-- The attempts of a list of answers: their moments, their ends and the waits between them.
+use Rattle.std.specs.Prelude.{ℕ, zero, suc, ◌+◌, ◌*◌, ◌/◌, min, max, List, [], ◌∷◌, ◌++◌, length, map, slice_index}
+use Rattle.std.specs.List.{enumerate_from}
+use Rattle.am_retry.specs.declared.outcome.Answer.{Answer}
+
+-- an answer to an attempt, and the end that was handed in with it
+pub record Told : Type 0 where
+  pub answer : Answer
+  pub ended : ℕ
+
+-- the answers, and one more
+abbrev pub one_more : List Told → Answer → ℕ → List Told
+one_more told answer ended = told ++ record { answer = answer; ended = ended } ∷ []
+
+-- 10^15 + 10^12: an attempt that begins no later ends no later
+abbrev pub latest : ℕ
+latest = 1_001_000_000_000_000
+
+-- the waits between attempts (the back-off of Alertmanager's retry stage, without its random part): 500, 750, 1125, 1687, ..: each is the one before times 3 divided by 2, rounded down, and at most 60,000
+abbrev pub wait_of : ℕ → ℕ
+wait_of zero = 500
+wait_of (suc j) = min (3 * wait_of j / 2) 60_000
+
+-- the end of an attempt that was made at a moment: the end handed in, but none before that moment and none above the latest
+abbrev pub end_of : ℕ → ℕ → ℕ
+end_of at ended = max at (min ended latest)
+
+-- the end handed in with the answer at a place, counted from 0
+abbrev pub handed_in : List Told → ℕ → ℕ
+handed_in told j = slice_index (map (λ t. t.ended) told) j
+
+-- the moment of the attempt that comes after the first j answers: the start, and after that the end of the attempt before and a wait
+abbrev pub attempt_at : ℕ → List Told → ℕ → ℕ
+attempt_at start told zero = start
+attempt_at start told (suc j) = end_of (attempt_at start told j) (handed_in told j) + wait_of j
+
+-- the end of the attempts after the first j answers: that of the last one, or the start
+abbrev pub end_at : ℕ → List Told → ℕ → ℕ
+end_at start told zero = start
+end_at start told (suc j) = end_of (attempt_at start told j) (handed_in told j)
+
+-- the moment of the attempt that comes after all the answers
+abbrev pub attempt_after : ℕ → List Told → ℕ
+attempt_after start told = attempt_at start told (length told)
+
+-- the end of the attempts after all the answers
+abbrev pub end_after : ℕ → List Told → ℕ
+end_after start told = end_at start told (length told)
+
+-- an attempt that was made: its number, from 1, its moment, its answer and the end that was handed in
+pub record Try : Type 0 where
+  pub attempt : ℕ
+  pub at : ℕ
+  pub answer : Answer
+  pub ended : ℕ
+
+-- the attempt that an answer of the list is for, by the answer's place, counted from 0
+abbrev pub try_of : ℕ → List Told → ℕ × Told → Try
+try_of start told p = record { attempt = p.0 + 1; at = attempt_at start told p.0; answer = p.1.answer; ended = p.1.ended }
+
+-- the attempts of a list of answers, in order
+abbrev pub tries_of : ℕ → List Told → List Try
+tries_of start told = map (try_of start told) (enumerate_from 0 told)

@@ -1,0 +1,52 @@
+-- The laws of the retry machine: what it gives is the outcome of its answers as a whole.
+use Rattle.std.specs.Prelude.{◌≡◌, ◌≢◌, ℕ, ◌+◌, ◌↔◌, List, [], ◌∷◌, ◌++◌, length}
+use Rattle.am_retry.specs.declared.outcome.Outcome.{Outcome}
+use Rattle.am_retry.specs.declared.outcome.Outcome.TheVariants.{Starved}
+use Rattle.am_retry.specs.declared.retry.Step.TheVariants.{Attempt, Over}
+use Rattle.am_retry.specs.Attempts.{Told, attempt_after, end_after, tries_of}
+use Rattle.am_retry.specs.Outcome.{HasOutcome}
+use Rattle.am_retry.specs.Progress.{run}
+
+-- some front of the answers has this outcome, with so many attempts and this end
+pub record Concludes (start deadline : ℕ) (told : List Told) (outcome : Outcome) (attempts ended : ℕ) : Type 0 where
+  pub taken : List Told
+  pub rest : List Told
+  pub front : told ≡ taken ++ rest
+  pub has : HasOutcome start deadline taken outcome
+  pub not_starved : outcome ≢ Starved
+  pub attempts_are : attempts ≡ length taken
+  pub end_is : ended ≡ end_after start taken
+
+-- over with an outcome, so many attempts and an end, exactly when some front of the answers has this outcome, with these
+abbrev pub OverExactly : Type 0
+OverExactly =
+    (start deadline attempts ended : ℕ) (told : List Told) (outcome : Outcome)
+    → (run start deadline told ≡ record { deadline = deadline; attempts = attempts; ended = ended; step = Over outcome })
+    ↔ Concludes start deadline told outcome attempts ended
+
+-- the next attempt is due at a moment exactly when the answers as a whole let it follow, at this moment
+abbrev pub WaitsExactly : Type 0
+WaitsExactly =
+    (start deadline attempts ended at : ℕ) (told : List Told)
+    → (run start deadline told ≡ record { deadline = deadline; attempts = attempts; ended = ended; step = Attempt at })
+    ↔ (HasOutcome start deadline told Starved × (attempts ≡ length told) × (ended ≡ end_after start told) × (at ≡ attempt_after start told))
+
+-- another attempt may follow exactly when no front of the answers has an outcome
+abbrev pub GoesOnExactly : Type 0
+GoesOnExactly =
+    (start deadline : ℕ) (told : List Told)
+    → HasOutcome start deadline told Starved
+    ↔ ((outcome : Outcome) (attempts ended : ℕ) → Concludes start deadline told outcome attempts ended → ⊥)
+
+-- no list of answers has two outcomes
+abbrev pub NeverBoth : Type 0
+NeverBoth =
+    (start deadline : ℕ) (told : List Told) (one other : Outcome)
+    → HasOutcome start deadline told one → HasOutcome start deadline told other → one ≡ other
+
+-- one more answer is one more try, at the moment that was due
+abbrev pub OneMoreTry : Type 0
+OneMoreTry =
+    (start : ℕ) (told : List Told) (t : Told)
+    → tries_of start (told ++ t ∷ [])
+    ≡ tries_of start told ++ record { attempt = length told + 1; at = attempt_after start told; answer = t.answer; ended = t.ended } ∷ []

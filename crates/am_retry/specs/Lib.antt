@@ -1,0 +1,4 @@
+pub mod Attempts
+pub mod Outcome
+pub mod Progress
+pub mod Laws

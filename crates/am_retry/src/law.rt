@@ -1,0 +1,12 @@
+ghost use Rattle.am_retry.specs.Laws.{GoesOnExactly, NeverBoth, OneMoreTry, OverExactly, WaitsExactly};
+
+/// The machine gives each list of answers, taken one by one, just the outcome that the list has
+/// as a whole, with its attempts and its end; while no front of the list has one, it waits for
+/// the next attempt. It does nothing: what it says is its contract.
+pub fn machine_gives_retry_outcome()
+    ensures over { OverExactly }
+    ensures waits { WaitsExactly }
+    ensures goes_on { GoesOnExactly }
+    ensures unique { NeverBoth }
+    ensures tries { OneMoreTry }
+{}

@@ -1,0 +1,39 @@
+//! `am-run` plays a scenario of alerts through the dispatcher and reports what was sent.
+//!
+//! It reads one scenario, as JSON, from standard input and writes its report to standard output.
+//! On a fault it prints one line to standard error, and ends with the fault's status.
+#![tactic(auto)]
+
+mod courier;
+mod device;
+mod dispatch;
+mod fault;
+mod phase;
+mod place;
+mod reader;
+mod report;
+mod run;
+mod scenario;
+mod sending;
+mod tally;
+#[cfg(test)]
+mod tests;
+mod transfer;
+mod trouble;
+
+use device::{StandardInput, StandardOutput};
+use run::run_scenario;
+use std::process::ExitCode;
+
+fn main(rt: HostRuntime) -> ExitCode {
+    let mut input = StandardInput::new(rt.stdin());
+    let mut output = StandardOutput::new(rt.stdout());
+    match run_scenario(&rt, &mut input, &mut output) {
+        Ok(()) => ExitCode::SUCCESS,
+        Err(fault) => {
+            let status = fault.status();
+            let _ = eprintln!(rt; "{fault}");
+            ExitCode::from(status)
+        }
+    }
+}

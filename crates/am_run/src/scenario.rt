@@ -1,0 +1,102 @@
+//! What a scenario is made of, and how it is read.
+ghost use Rattle.std.specs.Prelude.{◌≤◌, vec_len};
+ghost use Rattle.am_run.specs.declared.scenario.TheConstants.{MAX_LANES};
+ghost use Rattle.am_alerts.specs.declared.limits.TheConstants.{MAX_MOMENT};
+
+use crate::fault::{ScenarioFault, Word};
+use crate::reader::{FromJson, Object, Reader};
+use am_alerts::limits::MAX_MOMENT;
+use am_board::config::Config;
+use serde_json::Value;
+use std::alloc::Global;
+
+mod call;
+mod config;
+mod duration;
+mod matcher;
+mod route;
+mod script;
+
+pub use call::Call;
+use config::{check_config, read_config};
+pub use script::{Planned, Script};
+
+/// How many lanes a phase may have.
+pub const MAX_LANES: usize = 15;
+
+/// How many workers there may be.
+const MAX_WORKERS: u64 = 8;
+
+/// A scenario: a configuration, what is answered to notices, and what happens.
+#[derive(Drop)]
+pub struct Scenario {
+    pub config: Config,
+    /// Of two scripts for one notice the first counts.
+    pub scripts: Vec<Script>,
+    pub phases: Vec<Phase>,
+}
+
+/// What happens at one moment: the groups that are due are flushed, if the phase says so, and the
+/// lanes make their calls.
+#[derive(Drop)]
+pub struct Phase {
+    /// The moment, in milliseconds.
+    pub at: u64,
+    pub flush: bool,
+    pub lanes: Vec<Lane>,
+    ghost at_in_range: { at ≤ MAX_MOMENT },
+    ghost few_lanes: { vec_len lanes ≤ MAX_LANES },
+}
+
+/// Calls that are made one after the other.
+#[derive(Drop)]
+pub struct Lane {
+    pub calls: Vec<Call>,
+}
+
+/// Reads a whole scenario. The first fault in the order of reading is answered.
+pub fn read_scenario(alloc: Global, value: &Value) -> Result<Scenario, ScenarioFault> {
+    let reader = Reader::top(alloc, value);
+    let top = reader.object()?;
+    let config = top.required("config")?;
+    check_config(&config)?;
+    check_workers(&top)?;
+    let scripts = top.list_or_none::<Script>("answers")?;
+    let phases = top.required("phases")?.list::<Phase>()?;
+    // Checking it spent the configuration: it is built again.
+    let config = read_config(&config)?;
+    Ok(Scenario {
+        config,
+        scripts,
+        phases,
+    })
+}
+
+/// Refuses a number of workers that can't be had. One thread does their work, so the number does
+/// nothing.
+fn check_workers(top: &Object<'_, '_>) -> Result<(), ScenarioFault> {
+    match top.optional("workers") {
+        None => Ok(()),
+        Some(member) => match member.number()? {
+            1..=MAX_WORKERS => Ok(()),
+            _ => Err(member.refuse(Word::Value)),
+        },
+    }
+}
+
+impl<'v> FromJson<'v> for Phase {
+    fn read(reader: &Reader<'v, '_>) -> Result<Phase, ScenarioFault> {
+        let phase = reader.object()?;
+        let at = phase.required("at")?.number_up_to(MAX_MOMENT)?;
+        let flush = phase.flag_or("flush", false)?;
+        let lanes = phase.list_up_to::<Lane>("lanes", MAX_LANES)?;
+        Ok(Phase { at, flush, lanes })
+    }
+}
+
+impl<'v> FromJson<'v> for Lane {
+    fn read(reader: &Reader<'v, '_>) -> Result<Lane, ScenarioFault> {
+        let calls = reader.list::<Call>()?;
+        Ok(Lane { calls })
+    }
+}

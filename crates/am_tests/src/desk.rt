@@ -1,0 +1,171 @@
+//! The board that a script calls, and boards beside it.
+ghost use Rattle.std.specs.Prelude.{◌≡◌};
+ghost use Rattle.am_tests.specs.declared.desk.TheConstants.{HOME};
+
+use am_alerts::alert::Alert;
+use am_board::begin::Begun;
+use am_board::board::Board;
+use am_board::config::Config;
+use am_board::fault::{BoardFault, Fault, FinishFault, NoteFault, ReportFault};
+use am_board::notice::{Notice, Report};
+use am_board::record::{Finished, Inserted, Maintained, Noted, Silenced};
+use am_board::ticket::Ticket;
+use am_mute::silence::Silence;
+use am_retry::Outcome;
+use std::alloc::Global;
+
+/// The id of the desk that a script calls.
+pub const HOME: u64 = 7;
+
+/// The id of another desk.
+pub const ABROAD: u64 = 8;
+
+/// The pass of each call.
+const PASS: u32 = 0;
+
+/// The board of the desk.
+#[derive(Drop)]
+pub struct Desk {
+    board: Board,
+    ghost ours: { board.id ≡ HOME },
+}
+
+/// The ticket of a flush of this desk. A board of the desk spends it.
+pub struct OwnTicket {
+    ticket: Ticket,
+    ghost ours: { ticket.desk ≡ HOME },
+}
+
+/// The answer to a begin.
+pub enum Step {
+    NothingDue,
+    Quiet(usize),
+    Flush(OwnTicket),
+}
+
+/// The answer of another board to a finish.
+pub enum Elsewhere {
+    Finished(Finished),
+    NotOpen,
+    /// Foreign, and the ticket is handed back.
+    Back(OwnTicket),
+}
+
+/// The answer of the desk to a finish.
+#[derive(Clone, Copy)]
+pub enum Ending {
+    Finished(Finished),
+    NotOpen,
+}
+
+impl Desk {
+    pub fn open(alloc: Global, config: Config) -> Result<Desk, BoardFault> {
+        let board = Board::new(alloc, config, HOME)?;
+        Ok(Desk { board })
+    }
+
+    pub fn board(&self) -> &Board {
+        &self.board
+    }
+
+    pub fn insert(&mut self, alloc: Global, now: u64, alert: Alert) -> Result<Inserted, Fault> {
+        self.board.insert(alloc, PASS, now, alert)
+    }
+
+    pub fn silence(
+        &mut self,
+        alloc: Global,
+        now: u64,
+        silence: Silence,
+    ) -> Result<Silenced, Fault> {
+        self.board.silence(alloc, PASS, now, silence)
+    }
+
+    pub fn maintain(&mut self, alloc: Global, now: u64) -> Result<Maintained, Fault> {
+        self.board.maintain(alloc, PASS, now)
+    }
+
+    pub fn begin(&mut self, alloc: Global, now: u64) -> Result<Step, Fault> {
+        match self.board.begin(alloc, PASS, now) {
+            Ok(Begun::NothingDue) => Ok(Step::NothingDue),
+            Ok(Begun::Quiet { group: _, removed }) => Ok(Step::Quiet(removed)),
+            Ok(Begun::Flush(ticket)) => Ok(Step::Flush(OwnTicket { ticket })),
+            Err(fault) => Err(fault),
+        }
+    }
+
+    pub fn note(
+        &mut self,
+        alloc: Global,
+        own: &OwnTicket,
+        place: usize,
+        now: u64,
+    ) -> Result<Noted, NoteFault> {
+        self.board.note(alloc, PASS, &own.ticket, place, now)
+    }
+
+    pub fn finish(&mut self, own: OwnTicket, now: u64) -> Ending {
+        let OwnTicket { ticket } = own;
+        match self.board.finish(PASS, ticket, now) {
+            Ok(finished) => Ending::Finished(finished),
+            Err(FinishFault::NotOpen) => Ending::NotOpen,
+            Err(FinishFault::Foreign(_ticket)) => unreachable!(),
+        }
+    }
+}
+
+/// Notes a notice of a ticket at any board.
+pub fn note_at(
+    alloc: Global,
+    board: &mut Board,
+    own: &OwnTicket,
+    place: usize,
+    now: u64,
+) -> Result<Noted, NoteFault> {
+    board.note(alloc, PASS, &own.ticket, place, now)
+}
+
+/// Finishes a ticket at any board.
+pub fn finish_at(board: &mut Board, own: OwnTicket, now: u64) -> Elsewhere {
+    let OwnTicket { ticket } = own;
+    match board.finish(PASS, ticket, now) {
+        Ok(finished) => Elsewhere::Finished(finished),
+        Err(FinishFault::NotOpen) => Elsewhere::NotOpen,
+        Err(FinishFault::Foreign(ticket)) => Elsewhere::Back(OwnTicket { ticket }),
+    }
+}
+
+impl OwnTicket {
+    pub fn number(&self) -> u64 {
+        self.ticket.number()
+    }
+
+    pub fn deadline(&self) -> u64 {
+        self.ticket.deadline()
+    }
+
+    pub fn notices(&self) -> &[Notice] {
+        self.ticket.notices()
+    }
+
+    pub fn outcome(&self, place: usize) -> Option<Outcome> {
+        self.ticket.outcome(place)
+    }
+
+    /// Records a report on the notice of an integration, which says that it is of that ticket.
+    pub fn record(
+        &mut self,
+        number: u64,
+        integration: u32,
+        outcome: Outcome,
+    ) -> Result<(), ReportFault> {
+        self.ticket.record(Report {
+            desk: HOME,
+            ticket: number,
+            integration,
+            outcome,
+            attempts: 1,
+            ended: 0,
+        })
+    }
+}

@@ -1,0 +1,299 @@
+//! The calls of a script, one after the other, on one desk.
+use crate::desk::{ABROAD, Desk, Elsewhere, Ending, HOME, OwnTicket, Step, finish_at, note_at};
+use crate::setup::read_config;
+use crate::values::{read_alert, read_outcome, read_silence};
+use crate::words::{Trouble, Words};
+use am_board::board::Board;
+use am_board::config::ConfigFault;
+use am_board::fault::{BoardFault, Fault, NoteFault, ReportFault};
+use am_board::record::{Finished, Inserted, Maintained, Silenced};
+use std::alloc::Global;
+use std::mem::replace;
+
+/// What a script plays on: the desk, the tickets of its flushes that aren't finished, and the
+/// lines on the configuration of the next desk.
+pub struct Stage {
+    desk: Desk,
+    tickets: Vec<OwnTicket>,
+    setup: Vec<String>,
+}
+
+/// The answer to a line.
+#[derive(Clone, Copy)]
+pub enum Told {
+    Kept,
+    Opened,
+    BadConfig(ConfigFault),
+    Inserted(Inserted),
+    /// So many alerts were inserted.
+    Filled(u64),
+    Silenced(Silenced),
+    Maintained(Maintained),
+    NothingDue,
+    Quiet(usize),
+    /// The ticket at this place of the stage's was given.
+    Flush(usize),
+    Recorded,
+    Unrecorded(ReportFault),
+    /// The outcomes of the ticket at this place are asked for.
+    Outcomes(usize),
+    Noted,
+    Unnoted(NoteFault),
+    Finished(Finished),
+    NotOpen,
+    /// Foreign, and the board that said so has so many records.
+    Foreign(usize),
+    Refused(Fault),
+    Rows,
+    Groups,
+    Summary,
+    History,
+}
+
+impl Stage {
+    /// A stage with a desk of the configuration that no line changes.
+    pub fn new(alloc: Global) -> Result<Stage, Trouble> {
+        let setup = Vec::new(alloc);
+        let config = read_config(alloc, setup.as_slice(), "hook")?;
+        let Ok(desk) = Desk::open(alloc, config) else {
+            return Err(Trouble::NoMemory);
+        };
+        Ok(Stage {
+            desk,
+            tickets: Vec::new(alloc),
+            setup,
+        })
+    }
+
+    pub fn board(&self) -> &Board {
+        self.desk.board()
+    }
+
+    pub fn tickets(&self) -> &[OwnTicket] {
+        self.tickets.as_slice()
+    }
+
+    /// Makes the call of a line. Where it isn't accepted, for memory too, nothing changes.
+    pub fn make(&mut self, alloc: Global, line: &str) -> Result<Told, Trouble> {
+        let mut words = Words::of(line);
+        match words.word()? {
+            "desk" => self.open(alloc, words.rest()),
+            "insert" => self.insert(alloc, &mut words),
+            "fill" => self.fill(alloc, &mut words),
+            "silence" => self.silence(alloc, &mut words),
+            "maintain" => self.maintain(alloc, &mut words),
+            "begin" => self.begin(alloc, &mut words),
+            "report" => self.report(&mut words),
+            "outcomes" => Ok(Told::Outcomes(self.find(words.number()?)?)),
+            "note" => self.note(alloc, &mut words),
+            "finish" => self.finish(alloc, &mut words),
+            "rows" => Ok(Told::Rows),
+            "groups" => Ok(Told::Groups),
+            "summary" => Ok(Told::Summary),
+            "history" => Ok(Told::History),
+            _ => self.keep(alloc, line),
+        }
+    }
+
+    /// Keeps a line on the configuration of the next desk.
+    fn keep(&mut self, alloc: Global, line: &str) -> Result<Told, Trouble> {
+        let kept = String::from_str(alloc, line)?;
+        self.setup.push(kept)?;
+        Ok(Told::Kept)
+    }
+
+    /// Opens a new desk in the place of the one before, whose flushes are finished.
+    fn open(&mut self, alloc: Global, integrations: &str) -> Result<Told, Trouble> {
+        let config = read_config(alloc, self.setup.as_slice(), integrations)?;
+        match Desk::open(alloc, config) {
+            Ok(desk) => {
+                finish_all(&mut self.desk, replace(&mut self.tickets, Vec::new(alloc)));
+                self.desk = desk;
+                self.setup.clear();
+                Ok(Told::Opened)
+            }
+            Err(BoardFault::NoMemory) => Err(Trouble::NoMemory),
+            Err(BoardFault::BadConfig(fault)) => {
+                self.setup.clear();
+                Ok(Told::BadConfig(fault))
+            }
+        }
+    }
+
+    fn insert(&mut self, alloc: Global, words: &mut Words<'_>) -> Result<Told, Trouble> {
+        let now = words.number()?;
+        let alert = read_alert(alloc, words)?;
+        Ok(match self.desk.insert(alloc, now, alert) {
+            Ok(told) => Told::Inserted(told),
+            Err(fault) => Told::Refused(fault),
+        })
+    }
+
+    /// `fill MOMENT COUNT`: inserts as many alerts, named `F0`, `F1` and so on. It isn't for scripts
+    /// that run short of memory, since it makes several calls.
+    fn fill(&mut self, alloc: Global, words: &mut Words<'_>) -> Result<Told, Trouble> {
+        let now = words.number()?;
+        let count = words.number()?;
+        for i in 0..count {
+            let line = format!(in alloc; "F{i} {now}")?;
+            let alert = read_alert(alloc, &mut Words::of(line.as_str()))?;
+            if let Err(fault) = self.desk.insert(alloc, now, alert) {
+                return Ok(Told::Refused(fault));
+            }
+        }
+        Ok(Told::Filled(count))
+    }
+
+    fn silence(&mut self, alloc: Global, words: &mut Words<'_>) -> Result<Told, Trouble> {
+        let silence = read_silence(alloc, words)?;
+        Ok(match self.desk.silence(alloc, 0, silence) {
+            Ok(told) => Told::Silenced(told),
+            Err(fault) => Told::Refused(fault),
+        })
+    }
+
+    fn maintain(&mut self, alloc: Global, words: &mut Words<'_>) -> Result<Told, Trouble> {
+        Ok(match self.desk.maintain(alloc, words.number()?) {
+            Ok(told) => Told::Maintained(told),
+            Err(fault) => Told::Refused(fault),
+        })
+    }
+
+    fn begin(&mut self, alloc: Global, words: &mut Words<'_>) -> Result<Told, Trouble> {
+        let now = words.number()?;
+        self.tickets.reserve(1)?;
+        Ok(match self.desk.begin(alloc, now) {
+            Ok(Step::NothingDue) => Told::NothingDue,
+            Ok(Step::Quiet(removed)) => Told::Quiet(removed),
+            Ok(Step::Flush(own)) => {
+                let place = self.tickets.len();
+                self.tickets.push_reserved(own);
+                Told::Flush(place)
+            }
+            Err(fault) => Told::Refused(fault),
+        })
+    }
+
+    /// `report TICKET INTEGRATION OUTCOME`, and the number of another ticket if the report is of
+    /// that one.
+    fn report(&mut self, words: &mut Words<'_>) -> Result<Told, Trouble> {
+        let number = words.number()?;
+        let i = self.find(number)?;
+        let integration = words.position()?;
+        let outcome = read_outcome(words.word()?)?;
+        let named = if words.rest().is_empty() {
+            number
+        } else {
+            words.number()?
+        };
+        let Some(own) = self.tickets.get_mut(i) else {
+            return Err(Trouble::BadLine);
+        };
+        Ok(match own.record(named, integration, outcome) {
+            Ok(()) => Told::Recorded,
+            Err(fault) => Told::Unrecorded(fault),
+        })
+    }
+
+    /// `note TICKET PLACE MOMENT`, and `abroad` or `namesake` if another board is asked.
+    fn note(&mut self, alloc: Global, words: &mut Words<'_>) -> Result<Told, Trouble> {
+        let i = self.find(words.number()?)?;
+        let place = words.place()?;
+        let now = words.number()?;
+        let Some(own) = self.tickets.get(i) else {
+            return Err(Trouble::BadLine);
+        };
+        let noted = match words.next() {
+            None => self.desk.note(alloc, own, place, now),
+            Some(which) => note_at(alloc, &mut other(alloc, which)?, own, place, now),
+        };
+        Ok(match noted {
+            Ok(_) => Told::Noted,
+            Err(NoteFault::NoMemory) => Told::Refused(Fault::NoMemory),
+            Err(fault) => Told::Unnoted(fault),
+        })
+    }
+
+    /// `finish TICKET MOMENT`, and `abroad` or `namesake` if another board is asked.
+    fn finish(&mut self, alloc: Global, words: &mut Words<'_>) -> Result<Told, Trouble> {
+        let i = self.find(words.number()?)?;
+        let now = words.number()?;
+        match words.next() {
+            None => self.finish_here(i, now),
+            Some(which) => {
+                let mut board = other(alloc, which)?;
+                self.finish_there(&mut board, i, now)
+            }
+        }
+    }
+
+    fn finish_here(&mut self, i: usize, now: u64) -> Result<Told, Trouble> {
+        if i >= self.tickets.len() {
+            return Err(Trouble::BadLine);
+        }
+        Ok(match self.desk.finish(self.tickets.remove(i), now) {
+            Ending::Finished(told) => Told::Finished(told),
+            Ending::NotOpen => Told::NotOpen,
+        })
+    }
+
+    fn finish_there(&mut self, board: &mut Board, i: usize, now: u64) -> Result<Told, Trouble> {
+        if i >= self.tickets.len() {
+            return Err(Trouble::BadLine);
+        }
+        Ok(match finish_at(board, self.tickets.remove(i), now) {
+            Elsewhere::Finished(told) => Told::Finished(told),
+            Elsewhere::NotOpen => Told::NotOpen,
+            Elsewhere::Back(own) => {
+                self.tickets.push_reserved(own);
+                Told::Foreign(board.history().len())
+            }
+        })
+    }
+
+    /// The place of the ticket of this number.
+    fn find(&self, number: u64) -> Result<usize, Trouble> {
+        self.tickets
+            .iter()
+            .position(|own| own.number() == number)
+            .ok_or(Trouble::BadLine)
+    }
+
+    /// Ends the play: the flushes that are open are finished.
+    pub fn close(self) {
+        let Stage {
+            mut desk,
+            tickets,
+            setup: _,
+        } = self;
+        finish_all(&mut desk, tickets);
+    }
+}
+
+/// Finishes these flushes with what was recorded.
+fn finish_all(desk: &mut Desk, tickets: Vec<OwnTicket>) {
+    let mut left = tickets;
+    while !left.is_empty() {
+        let _ = desk.finish(left.remove(0), 0);
+    }
+    left.destroy_empty();
+}
+
+/// Another board with one alert: of another desk, or a second one of the desk's own id.
+fn other(alloc: Global, which: &str) -> Result<Board, Trouble> {
+    let id = match which {
+        "abroad" => ABROAD,
+        "namesake" => HOME,
+        _ => return Err(Trouble::BadLine),
+    };
+    let lines = Vec::new(alloc);
+    let config = read_config(alloc, lines.as_slice(), "hook")?;
+    let Ok(mut board) = Board::new(alloc, config, id) else {
+        return Err(Trouble::NoMemory);
+    };
+    let alert = read_alert(alloc, &mut Words::of("A 0"))?;
+    match board.insert(alloc, 0, 0, alert) {
+        Ok(_) => Ok(board),
+        Err(_) => Err(Trouble::NoMemory),
+    }
+}

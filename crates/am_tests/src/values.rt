@@ -1,0 +1,85 @@
+//! The values that words of a script stand for.
+use crate::words::{Trouble, Words};
+use am_alerts::alert::Alert;
+use am_alerts::labels::{LabelFault, Labels};
+use am_alerts::matcher::{Matcher, MatcherParts, Operator};
+use am_alerts::text::Text;
+use am_mute::silence::Silence;
+use am_retry::Outcome;
+use std::alloc::Global;
+
+/// The name and the value of a label: `dc=x`, or `A` for `alertname=A`.
+pub fn read_pair(word: &str) -> (&str, &str) {
+    match word.split_once('=') {
+        None => ("alertname", word),
+        Some(pair) => pair,
+    }
+}
+
+/// A label set: pairs joined by commas, as `A,inst=1`.
+pub fn read_labels(alloc: Global, word: &str) -> Result<Labels, Trouble> {
+    let mut pairs = Vec::new(alloc);
+    for pair in word.split(',') {
+        pairs.push(read_pair(pair))?;
+    }
+    match Labels::read(alloc, pairs.as_slice()) {
+        Ok(labels) => Ok(labels),
+        Err(LabelFault::NoMemory) => Err(Trouble::NoMemory),
+        Err(_) => Err(Trouble::BadLine),
+    }
+}
+
+/// An alert: its labels, its start, and its end if it has one.
+pub fn read_alert(alloc: Global, words: &mut Words<'_>) -> Result<Alert, Trouble> {
+    let labels = read_labels(alloc, words.word()?)?;
+    let starts = words.number()?;
+    let ends = match words.next() {
+        None => None,
+        Some(word) => match word.parse::<u64>() {
+            Ok(end) => Some(end),
+            Err(_) => return Err(Trouble::BadLine),
+        },
+    };
+    match Alert::new(labels, starts, ends) {
+        Ok(alert) => Ok(alert),
+        Err(_) => Err(Trouble::BadLine),
+    }
+}
+
+/// The matcher of one label and its value, in a list.
+pub fn read_matchers(alloc: Global, word: &str) -> Result<Vec<Matcher>, Trouble> {
+    let (name, value) = read_pair(word);
+    let parts = MatcherParts {
+        name: Text::new(alloc, name)?,
+        op: Operator::Equal,
+        value: Text::new(alloc, value)?,
+    };
+    let mut matchers = Vec::new(alloc);
+    match Matcher::new(parts) {
+        Ok(matcher) => matchers.push(matcher)?,
+        Err(_) => return Err(Trouble::BadLine),
+    }
+    Ok(matchers)
+}
+
+/// A silence: its id, its matcher, its start and its end.
+pub fn read_silence(alloc: Global, words: &mut Words<'_>) -> Result<Silence, Trouble> {
+    let id = words.number()?;
+    let matchers = read_matchers(alloc, words.word()?)?;
+    let start = words.number()?;
+    let end = words.number()?;
+    match Silence::new(id, matchers, start, end) {
+        Ok(silence) => Ok(silence),
+        Err(_) => Err(Trouble::BadLine),
+    }
+}
+
+pub fn read_outcome(word: &str) -> Result<Outcome, Trouble> {
+    match word {
+        "delivered" => Ok(Outcome::Delivered),
+        "refused" => Ok(Outcome::Refused),
+        "expired" => Ok(Outcome::Expired),
+        "starved" => Ok(Outcome::Starved),
+        _ => Err(Trouble::BadLine),
+    }
+}

@@ -7,6 +7,8 @@
 mod courier;
 mod delivery;
 mod journal;
+#[cfg(test)]
+mod tests;
 
 pub use courier::{Courier, Sent, Tried};
 pub use delivery::deliver;

@@ -1,5 +1,5 @@
 -- Routing trees.
-use Rattle.std.proofs.Common.{◌≡◌, ℕ, ◌+◌, ◌<◌, ◌≤◌, ◌-◌, zero, suc, Bool, true, false, cond, ◌&&◌, ◌||◌, IsTrue, List, [], ◌∷◌, ◌++◌, length, map, filter, get_or, drop, None, sym, refl, ap, ◌∙◌, arith}
+use Rattle.std.proofs.Common.{◌≡◌, ℕ, ◌+◌, ◌<◌, ◌≤◌, ◌-◌, zero, suc, true, false, cond, ◌&&◌, ◌||◌, IsTrue, List, [], ◌∷◌, ◌++◌, length, map, filter, get_or, drop, None, sym, refl, ap, ◌∙◌, arith}
 use Rattle.std.specs.List.{list_all, list_any}
 use Rattle.std.specs.Str.{bytes_eq}
 use Rattle.std.proofs.lemmas.Bool.Decides.{nat_tests}
@@ -7,14 +7,13 @@ use Rattle.std.proofs.lemmas.List.{at_drop_more, drop_all, append_assoc, append-
 use Rattle.std.proofs.lemmas.List.Folds.{list_all-map}
 use Rattle.std.proofs.lemmas.List.Sums.{AllPass-from_list_all}
 use Rattle.am_alerts.specs.declared.labels.Label.{Label}
-use Rattle.am_alerts.specs.declared.route.Route.{Route}
 use Rattle.am_alerts.specs.declared.route.Child.{Child}
 use Rattle.am_alerts.specs.declared.route.GroupBy.TheVariants.{All}
 use Rattle.am_alerts.specs.declared.limits.TheConstants.{MAX_CHILDREN}
 use Rattle.am_alerts.specs.Labels.{has_text_twice, stands_in}
 use Rattle.am_alerts.specs.Matcher.{match_all}
 use Rattle.am_alerts.specs.Route.{groups_by, has_good_intervals}
-use Rattle.am_alerts.specs.RoutingTree.{RoutingTree, have_good_intervals, routes_in, route_at, matching_from, is_within_limits, route_fault}
+use Rattle.am_alerts.specs.RoutingTree.{RoutingTree, have_good_intervals, routes_in, route_at, matching_from, route_fault}
 
 -- ---- what a tree without a fault keeps
 

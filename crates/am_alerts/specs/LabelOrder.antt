@@ -1,6 +1,5 @@
 -- The laws of the order of label sets, and what they feed a hasher.
-use Rattle.std.specs.Prelude.{◌≡◌, Bool, true, List, [], ◌∷◌, ◌++◌, ◌↔◌, Decides, Some, refl}
-use Rattle.std.specs.declared.cmp.Ordering.{Ordering}
+use Rattle.std.specs.Prelude.{◌≡◌, true, List, [], ◌∷◌, ◌++◌, ◌↔◌, Decides, Some, refl}
 use Rattle.std.specs.declared.cmp.Ordering.TheVariants.{Less, Equal}
 use Rattle.std.specs.Cmp.{IsTotalOrder, IsEquivalence, IsPartialOrder, Equal-is, po, both_tied}
 use Rattle.std.specs.Cmp.Lexicographic.{lists_total, lists_equiv, lists_ties, texts_ties, nat_list_cmp_total, nat_list_eq_equiv, pointwise_decides, bytes_decides}

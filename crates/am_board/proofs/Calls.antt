@@ -1,12 +1,10 @@
 -- What a board tells of a call that its state accepted or refused.
-use Rattle.std.proofs.Common.{◌≡◌, ℕ, ◌+◌, ◌≤◌, ◌<◌, Bool, true, false, not, ◌&&◌, cond, nat_lt, nat_le, Option, Some, None, Result, Ok, Err, List, [], ◌∷◌, ◌++◌, length, vec_len, refl, sym, ap, ◌∙◌, subst, arith, if◌then◌else◌}
+use Rattle.std.proofs.Common.{◌≡◌, ℕ, ◌+◌, ◌≤◌, true, false, not, Option, Some, None, Result, Ok, Err, List, length, vec_len, refl, ap, ◌∙◌, subst, arith, if◌then◌else◌}
 use Rattle.std.specs.Prelude.{◌==◌, IfOk, OnOk, OnErr, MatchResult, slice_get}
 use Rattle.std.proofs.lemmas.List.{length-map}
 use Rattle.std.proofs.lemmas.Bool.Decides.{nat_tests}
 use Rattle.am_board.specs.declared.board.Board.TheInside.{Inside}
 use Rattle.am_board.specs.declared.config.Config.{Config}
-use Rattle.am_board.specs.declared.fault.Fault.{Fault}
-use Rattle.am_board.specs.declared.fault.Fault.TheVariants.{HistoryFull}
 use Rattle.am_board.specs.declared.fault.NoteFault.TheVariants as note
 use Rattle.am_board.specs.declared.record.Call.{Call}
 use Rattle.am_board.specs.declared.record.Call.TheVariants.{Note}
@@ -23,7 +21,7 @@ use Rattle.am_board.specs.Replay.{after, after_call, replay}
 use Rattle.am_board.specs.State.{AskedState, FlushState, State, moment, at_moment, flush_numbered}
 use Rattle.am_board.specs.Ticket.{outcome_of}
 use Rattle.am_retry.specs.declared.outcome.Outcome.{Outcome}
-use Rattle.am_board.specs.Step.{Accepts, Stays, IsAnswer}
+use Rattle.am_board.specs.Step.{Accepts, Stays}
 use Rattle.am_board.proofs.Agreeing.{row_views-agrees, group_views-agrees, summary_at-agrees}
 use Rattle.am_board.specs.Views.{row_views, group_views, summary_at, summary}
 use Rattle.am_board.proofs.Sound.{opened_now, counted, consistent_now, told_at, sound_then, sound_still}

@@ -1,6 +1,6 @@
 -- What a board tells of a finish.
-use Rattle.std.proofs.Common.{◌≡◌, ℕ, ◌+◌, ◌≤◌, ◌<◌, Bool, true, false, eqb, eqb-true, Option, Some, None, List, [], ◌∷◌, length, get_or, vec_len, refl, sym, ap, ◌∙◌, subst, arith}
-use Rattle.std.specs.Prelude.{◌==◌, find, map, Result, Ok, Err, IfOk, position}
+use Rattle.std.proofs.Common.{◌≡◌, ℕ, ◌+◌, Bool, eqb-true, Option, Some, None, List, [], ◌∷◌, get_or, vec_len, sym, ap, ◌∙◌, subst, arith}
+use Rattle.std.specs.Prelude.{◌==◌, Ok, position}
 use Rattle.std.specs.Option.{option_map}
 use Rattle.std.proofs.lemmas.List.Quantifiers.{position-Some}
 use Rattle.am_retry.specs.declared.outcome.Outcome.{Outcome}
@@ -15,8 +15,7 @@ use Rattle.am_board.specs.declared.state.State as kept
 use Rattle.am_board.specs.Board.{IsSound}
 use Rattle.am_board.specs.Data.{TicketData}
 use Rattle.am_board.specs.History.{BoardData, IsToldAt, entry, with_record, state_at}
-use Rattle.am_board.specs.Kept.{state_of, flush_state}
-use Rattle.am_board.specs.Replay.{replay}
+use Rattle.am_board.specs.Kept.{flush_state}
 use Rattle.am_board.specs.State.{FlushState, State, flush_numbered}
 use Rattle.am_board.specs.Step.{IsGood, Accepts}
 use Rattle.am_board.proofs.Alone.{find-mapped, find-no_position}

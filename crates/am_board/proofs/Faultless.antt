@@ -1,16 +1,15 @@
 -- What a configuration without a fault has.
-use Rattle.std.proofs.Common.{◌≡◌, ℕ, ◌≤◌, Bool, true, false, not, cond, ◌||◌, nat_lt, nat_eq, Option, Some, None, List, [], ◌∷◌, length, refl, sym, ap, arith, if◌then◌else◌}
-use Rattle.std.specs.Prelude.{All, ◌==◌}
-use Rattle.std.specs.List.{AllByRecursion, list_all, list_any}
+use Rattle.std.proofs.Common.{◌≡◌, ◌≤◌, Bool, true, false, not, ◌||◌, nat_lt, Option, Some, None, List, [], ◌∷◌, length, refl, arith, if◌then◌else◌}
+use Rattle.std.specs.Prelude.{◌==◌}
+use Rattle.std.specs.List.{AllByRecursion, list_any}
 use Rattle.std.specs.Option.{option_or}
 use Rattle.std.proofs.lemmas.Bool.Decides.{nat_tests}
 use Rattle.am_alerts.specs.declared.limits.TheConstants.{MAX_DURATION}
 use Rattle.am_board.specs.declared.config.Config.{Config}
 use Rattle.am_board.specs.declared.config.Receiver.{Receiver}
 use Rattle.am_board.specs.declared.config.TheConstants.{MAX_INTEGRATIONS, MAX_RULES, MAX_RECEIVERS}
-use Rattle.am_board.specs.declared.config.ConfigFault.{ConfigFault}
-use Rattle.am_board.specs.declared.config.ConfigFault.TheVariants.{UnknownReceiver, ReceiverTwice, TooManyReceivers, TooManyIntegrations, BadKind, TooManyRules, BadRetention, BadLimit}
-use Rattle.am_board.specs.Config.{config_fault, receivers_fault, bounds_fault, has_receivers, has_receiver_twice, has_many_integrations, has_good_kinds, is_bad_retention, are_allowed}
+use Rattle.am_board.specs.declared.config.ConfigFault.TheVariants.{UnknownReceiver, ReceiverTwice, TooManyReceivers, TooManyIntegrations, TooManyRules, BadRetention}
+use Rattle.am_board.specs.Config.{config_fault, receivers_fault, bounds_fault, has_receivers, has_receiver_twice, has_many_integrations, is_bad_retention}
 use Rattle.am_board.specs.Configured.{HaveFewIntegrations}
 use Rattle.am_board.proofs.ConsistentLists.{all_from}
 

@@ -12,7 +12,7 @@ use Rattle.am_board.specs.Kept.{IsPrepared, Agrees, flush_state, group_state, st
 use Rattle.am_board.specs.LogRows.{log_rows}
 use Rattle.am_board.specs.Lists.{without, changed_where}
 use Rattle.am_board.specs.Logged.{logged_of, rows_with, KnowTheSame}
-use Rattle.am_board.specs.State.{State, is_named, members_in, moment, flush_numbered}
+use Rattle.am_board.specs.State.{is_named, members_in, moment, flush_numbered}
 use Rattle.am_board.specs.Step.{IsGood, Accepts}
 use Rattle.am_board.specs.declared.config.Config.{Config}
 use Rattle.am_board.specs.declared.flush.OpenFlush.{OpenFlush}

@@ -1,11 +1,10 @@
 -- No accepted call passes a limit, and each cause of a refusal is one at the state after the history.
-use Rattle.std.proofs.Common.{◌≡◌, ℕ, ◌+◌, ◌≤◌, Bool, true, false, ◌&&◌, nat_le, Option, Some, None, List, [], ◌∷◌, ◌++◌, length, vec_len, refl, sym, ap, ◌∙◌, subst, arith, if◌then◌else◌}
+use Rattle.std.proofs.Common.{◌≡◌, ℕ, ◌+◌, ◌≤◌, true, false, ◌&&◌, nat_le, Option, Some, None, List, [], ◌∷◌, ◌++◌, length, vec_len, refl, ap, ◌∙◌, subst, arith, if◌then◌else◌}
 use Rattle.std.proofs.lemmas.Bool.Decides.{nat_tests}
 use Rattle.std.proofs.lemmas.List.{length-append}
 use Rattle.am_alerts.specs.AlertData.{AlertData}
 use Rattle.am_mute.specs.Silence.{SilenceData}
 use Rattle.am_board.specs.declared.board.Board.TheInside.{Inside}
-use Rattle.am_board.specs.declared.fault.Fault.{Fault}
 use Rattle.am_board.specs.declared.fault.Fault.TheVariants.{HistoryFull, TooManyOpen}
 use Rattle.am_board.specs.declared.record.Call.{Call}
 use Rattle.am_board.specs.declared.record.Call.TheVariants.{Insert, Begin, Maintain}

@@ -26,7 +26,7 @@ use Rattle.am_board.specs.Lists.{changed_where}
 use Rattle.am_board.specs.Logged.{row_for, without_told, KnowTheSame, IsReadyAt, IsNotedAt}
 use Rattle.am_board.specs.Note.{is_ready, asked_by, may_be_noted, may_note, as_noted, with_note, after_note, after_note_of, noted}
 use Rattle.am_board.specs.Noting.{IsNoting}
-use Rattle.am_board.specs.State.{AskedState, State, at_moment, moment, flush_numbered}
+use Rattle.am_board.specs.State.{AskedState, at_moment, moment, flush_numbered}
 use Rattle.am_board.specs.Step.{IsGood, Accepts, Stays, IsNoteAnswer}
 use Rattle.am_board.specs.declared.config.Config.{Config}
 use Rattle.am_board.specs.declared.fault.NoteFault.{NoteFault}

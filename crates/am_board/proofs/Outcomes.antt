@@ -1,8 +1,8 @@
 -- Each recorded outcome leaves one notice less without one.
-use Rattle.std.proofs.Common.{◌≡◌, ℕ, ◌+◌, ◌<◌, ◌≤◌, Bool, true, false, cond, not, ◌&&◌, eqb, Option, Some, None, is_some, List, [], ◌∷◌, ◌++◌, length, refl, sym, ap, ◌∙◌, subst, arith, eqb-true}
+use Rattle.std.proofs.Common.{◌≡◌, ℕ, ◌<◌, ◌≤◌, Bool, true, false, cond, eqb, Some, is_some, List, [], ◌∷◌, ◌++◌, length, refl, ap, ◌∙◌, arith, eqb-true}
 use Rattle.am_retry.specs.declared.outcome.Outcome.{Outcome}
 use Rattle.am_board.specs.Data.{NoticeData}
-use Rattle.am_board.specs.Ticket.{outcome_of, is_nothing, has_something_for, count_unreported}
+use Rattle.am_board.specs.Ticket.{outcome_of, has_something_for, count_unreported}
 
 -- what is recorded first stays
 kept : (outcomes : List (ℕ × Outcome)) (p : ℕ × Outcome) (i : ℕ) → is_some (outcome_of outcomes i) ≡ true → is_some (outcome_of (outcomes ++ p ∷ []) i) ≡ true

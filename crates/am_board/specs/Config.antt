@@ -14,6 +14,11 @@ use Rattle.am_board.specs.declared.config.Limits.{Limits}
 use Rattle.am_board.specs.declared.config.Receiver.{Receiver}
 use Rattle.am_board.specs.declared.config.TheConstants.{MAX_RECEIVERS, MAX_INTEGRATIONS, MAX_RULES, MAX_NAMES, MAX_GROUPS, MAX_SILENCES, MAX_FLUSHES, MAX_HISTORY}
 
+-- the limits where none is lowered
+abbrev pub greatest_limits : Limits
+greatest_limits = record { names = MAX_NAMES; groups = MAX_GROUPS; silences = MAX_SILENCES; flushes = MAX_FLUSHES; history = MAX_HISTORY }
+
+-- a limit from 1 to its greatest value
 abbrev pub IsWithin : ℕ → ℕ → Type 0
 IsWithin limit most = (1 ≤ limit) × (limit ≤ most)
 

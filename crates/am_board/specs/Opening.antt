@@ -1,5 +1,5 @@
 -- The flush that a begin opens, before it is put into the state.
-use Rattle.std.specs.Prelude.{◌≡◌, ◌≢◌, ℕ, ◌*◌, ◌≤◌, ◌<◌, ◌⊎◌, min, List, [], map, IfSome, All, Option, Some, None, Result, Ok, Err, vec_len, vec_capacity}
+use Rattle.std.specs.Prelude.{◌≡◌, ◌≢◌, ℕ, ◌*◌, ◌≤◌, ◌<◌, ◌⊎◌, min, [], map, IfSome, All, Option, Some, None, Result, Ok, Err, vec_len, vec_capacity}
 use Rattle.am_board.specs.declared.config.Config.{Config}
 use Rattle.am_board.specs.declared.fault.Fault.{Fault}
 use Rattle.am_board.specs.declared.fault.Fault.TheVariants.{NoMemory, TooManyOpen}

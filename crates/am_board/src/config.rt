@@ -4,7 +4,7 @@ ghost use Rattle.std.specs.List.{list_all, list_any};
 ghost use Rattle.std.specs.Option.{option_copied};
 ghost use Rattle.std.specs.Str.{bytes_eq};
 ghost use Rattle.am_alerts.specs.Fault.{ok_unless};
-ghost use Rattle.am_board.specs.Config.{AreAllowed, IsWithin, is_within, are_allowed, has_receiver, has_receivers, has_receiver_twice, has_many_integrations, has_good_kinds, receivers_fault, bounds_fault, config_fault, kind_at, integration_text};
+ghost use Rattle.am_board.specs.Config.{AreAllowed, IsWithin, is_within, are_allowed, has_receiver, has_receivers, has_receiver_twice, has_many_integrations, has_good_kinds, greatest_limits, receivers_fault, bounds_fault, config_fault, kind_at, integration_text};
 
 use am_alerts::labels::is_label_name;
 use am_alerts::limits::{MAX_CHILDREN, MAX_DURATION};
@@ -69,6 +69,8 @@ pub struct Limits {
 }
 
 impl Default for Limits {
+    ghost is_default = { λ limits. limits ≡ greatest_limits };
+
     fn default() -> Limits {
         Limits {
             names: MAX_NAMES,

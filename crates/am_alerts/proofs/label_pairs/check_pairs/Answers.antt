@@ -1,6 +1,6 @@
-use Rattle.std.proofs.Common.{◌≡◌, sym, ap, ◌∙◌, Ok, Err, Some, None, refl, arith}
+use Rattle.std.proofs.Common.{sym, ap, ◌∙◌, refl}
 use Rattle.std.proofs.lemmas.Result.{err_from_is_err_and}
-use Rattle.am_alerts.specs.Fault.{ok_unless, first_fault}
+use Rattle.am_alerts.specs.Fault.{ok_unless}
 use Rattle.am_alerts.specs.Labels.{pair_fault, label_in}
 use Rattle.am_alerts.proofs.Faults.{none_from_ok, some_from_err, first_fault-map, first_fault_here, first_fault_more, first_fault_none}
 use Rattle.am_alerts.proofs.label_pairs.check_pairs.Goals as goal

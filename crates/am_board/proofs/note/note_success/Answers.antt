@@ -1,4 +1,4 @@
-use Rattle.std.proofs.Common.{◌≡◌, ◌∙◌, ◌+◌, ◌≤◌, ◌++◌, ◌∷◌, [], false, Some, None, map, vec_len, vec_capacity, nat_eq, refl, sym, ap, subst, arith, rules, if◌then◌else◌}
+use Rattle.std.proofs.Common.{◌≡◌, ◌∙◌, ◌+◌, ◌≤◌, ◌++◌, ◌∷◌, [], Some, None, map, vec_len, vec_capacity, nat_eq, refl, sym, ap, subst, arith, rules, if◌then◌else◌}
 use Rattle.std.specs.Prelude.{IfErr, slice_get}
 use Rattle.std.specs.Vec.{with_item}
 use Rattle.am_board.specs.Causes.{is_full, flush_cause}

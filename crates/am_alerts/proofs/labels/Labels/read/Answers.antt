@@ -1,6 +1,5 @@
-use Rattle.std.proofs.Common.{sym, List}
-use Rattle.am_alerts.specs.declared.labels.Label.{Label}
-use Rattle.am_alerts.specs.Labels.{labels_in, IsReadOf}
+use Rattle.std.proofs.Common.{sym}
+use Rattle.am_alerts.specs.Labels.{labels_in}
 use Rattle.am_alerts.proofs.Faults.{none_from_ok}
 use Rattle.am_alerts.proofs.LabelSets.{IsReadOf-sorted}
 use Rattle.am_alerts.proofs.labels.Labels.read.Goals as goal

@@ -1,5 +1,3 @@
-use Rattle.std.proofs.Common.{arith}
-use Rattle.std.proofs.lemmas.Result.{IfOk-weaker}
 use Rattle.am_alerts.proofs.Trees.{filter-groups_by_all}
 use Rattle.am_alerts.proofs.route.Routes.group_labels.Goals as goal
 

@@ -1,10 +1,7 @@
-use Rattle.std.proofs.Common.{◌≡◌, ◌+◌, ◌≤◌, ℕ, Option, None, Some, vec_len, length, sym, ap, subst, ◌∙◌, arith}
+use Rattle.std.proofs.Common.{◌≡◌, None, subst}
 use Rattle.std.specs.Prelude.{IfOk}
-use Rattle.am_board.specs.declared.fault.Fault.{Fault}
-use Rattle.am_board.specs.declared.fault.Fault.TheVariants.{HistoryFull}
 use Rattle.am_board.specs.declared.record.Call.TheVariants.{Begin}
 use Rattle.am_board.specs.History.{BoardData, reply_of, IsFresh}
-use Rattle.am_board.specs.Causes.{begin_cause}
 use Rattle.am_board.specs.Step.{IsAnswer}
 use Rattle.am_board.proofs.Calls.{recorded, told_now, refused, sound_again, caused_too, fresh_too}
 use Rattle.am_board.proofs.Limits.{begin_within, begin_caused}

@@ -1,9 +1,6 @@
-use Rattle.std.proofs.Common.{◌≡◌, ◌+◌, ◌≤◌, ℕ, Option, None, Some, vec_len, length, sym, ap, ◌∙◌, arith}
-use Rattle.am_board.specs.declared.fault.Fault.{Fault}
-use Rattle.am_board.specs.declared.fault.Fault.TheVariants.{HistoryFull}
+use Rattle.std.proofs.Common.{◌≡◌, None}
 use Rattle.am_board.specs.History.{call_of_silence}
 use Rattle.am_board.specs.declared.record.Reply.TheVariants as replies
-use Rattle.am_board.specs.Causes.{silence_cause}
 use Rattle.am_board.specs.Step.{IsAnswer}
 use Rattle.am_board.proofs.Calls.{recorded, told_now, refused, sound_again, caused}
 use Rattle.am_board.proofs.Limits.{silence_within, silence_caused}

@@ -1,4 +1,4 @@
-use Rattle.std.proofs.Common.{◌≡◌, ◌∙◌}
+use Rattle.std.proofs.Common.{◌∙◌}
 use Rattle.am_board.proofs.Calls.{summary_then}
 use Rattle.am_board.proofs.Sound.{few_alerts, few_inserts}
 use Rattle.am_board.proofs.board.Board.summary.Goals as goal

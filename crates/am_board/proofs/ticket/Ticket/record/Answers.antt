@@ -1,5 +1,5 @@
-use Rattle.std.proofs.Common.{◌≡◌, ◌<◌, ◌∙◌, ◌++◌, ◌∷◌, [], Bool, true, false, not, is_some, List, sym, ap, arith, rules}
-use Rattle.am_board.specs.Ticket.{outcome_of, has_something_for, count_unreported}
+use Rattle.std.proofs.Common.{◌≡◌, true, false, is_some, arith, rules}
+use Rattle.am_board.specs.Ticket.{outcome_of, has_something_for}
 use Rattle.am_board.proofs.Outcomes.{one_reported}
 use Rattle.am_board.proofs.ticket.Ticket.record.Goals as goal
 

@@ -132,17 +132,14 @@ fn keys_keep_their_order(rt: HostRuntime) -> Result<(), Fail> {
     Ok(())
 }
 
-// Whether or not each growth is refused, the log has the keys whose call succeeded, and no others.
+// Each key that is reserved is known, and has no row.
 #[test]
-fn a_refused_growth_leaves_the_log(rt: HostRuntime) -> Result<(), Fail> {
+fn reserved_keys_are_known(rt: HostRuntime) -> Result<(), Fail> {
     let mut log: NfLog<u64, u64> = NfLog::new(rt.alloc())?;
     for i in 0..20u32 {
         let before = log.len();
-        let grown: usize = match log.reserve(key(1, i)) {
-            Ok(()) => 1,
-            Err(AllocError) => 0,
-        };
-        assert_eq!(rt; Some(log.len()), before.checked_add(grown));
+        log.reserve(key(1, i))?;
+        assert_eq!(rt; Some(log.len()), before.checked_add(1));
         assert!(rt; log.get(&key(1, i)).is_none());
     }
     Ok(())

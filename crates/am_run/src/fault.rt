@@ -80,12 +80,22 @@ impl From<ScenarioFault> for RunFault {
 }
 
 impl From<AllocError> for ScenarioFault {
+    ghost use Rattle.std.specs.Prelude.{◌≡◌};
+    ghost use Rattle.am_run.specs.declared.fault.ScenarioFault.TheVariants as scenario_fault;
+
+    ghost from_gives = { λ _ fault. fault ≡ scenario_fault.NoMemory };
+
     fn from(_refused: AllocError) -> ScenarioFault {
         ScenarioFault::NoMemory
     }
 }
 
 impl<T: Drop> From<AllocFailed<T>> for ScenarioFault {
+    ghost use Rattle.std.specs.Prelude.{◌≡◌};
+    ghost use Rattle.am_run.specs.declared.fault.ScenarioFault.TheVariants as scenario_fault;
+
+    ghost from_gives = { λ _ fault. fault ≡ scenario_fault.NoMemory };
+
     fn from(_refused: AllocFailed<T>) -> ScenarioFault {
         ScenarioFault::NoMemory
     }

@@ -4,7 +4,7 @@ ghost use Rattle.am_alerts.specs.declared.limits.TheConstants.{MAX_MOMENT};
 
 use crate::dispatch::{Dispatcher, MAIN_PASS, OwnTicket, Step};
 use crate::fault::ScenarioFault;
-use crate::report::{Sent, push_notice};
+use crate::report::{Upshot, push_notice};
 use crate::scenario::{Call, Lane, Phase};
 use crate::sending::{last_end, report_on, send_notices};
 use crate::trouble::{Refused, Troubles};
@@ -189,7 +189,7 @@ impl Run {
                 None => (0, at),
                 Some(report) => (report.attempts, report.ended.max(at)),
             };
-            self.tell(notice, Sent { outcome, attempts });
+            self.tell(notice, Upshot { outcome, attempts });
             if notice.nothing() || outcome == Some(Outcome::Delivered) {
                 self.note(end, own, place);
             }
@@ -197,9 +197,9 @@ impl Run {
     }
 
     /// Adds the line on a notice.
-    fn tell(&mut self, notice: &Notice, sent: Sent) {
+    fn tell(&mut self, notice: &Notice, upshot: Upshot) {
         let config = self.dispatcher.board().config();
-        if push_notice(self.alloc, config, notice, sent, &mut self.lines).is_err() {
+        if push_notice(self.alloc, config, notice, upshot, &mut self.lines).is_err() {
             self.troubles.add_no_memory();
         }
     }

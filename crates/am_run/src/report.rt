@@ -13,7 +13,7 @@ use std::alloc::{AllocError, Global};
 
 /// What a notice came to.
 #[derive(Clone, Copy)]
-pub struct Sent {
+pub struct Upshot {
     /// None where there was nothing to send.
     pub outcome: Option<Outcome>,
     pub attempts: u64,
@@ -41,14 +41,14 @@ pub fn push_notice(
     alloc: Global,
     config: &Config,
     notice: &Notice,
-    sent: Sent,
+    upshot: Upshot,
     out: &mut String,
 ) -> Result<(), AllocError> {
     let ticket = notice.ticket;
     write!(out, "notice {ticket} ")?;
     push_target(alloc, config, &notice.group, notice.integration, out)?;
-    let outcome = outcome_text(sent.outcome);
-    let attempts = sent.attempts;
+    let outcome = outcome_text(upshot.outcome);
+    let attempts = upshot.attempts;
     write!(out, " {outcome} attempts={attempts}")?;
     push_lists(notice.firing.as_slice(), notice.resolved.as_slice(), out)?;
     out.push_str("\n")

@@ -35,12 +35,12 @@ pub fn run_scenario<R: AllocGlobal, S: Source, K: Sink>(
 {
     let alloc = rt.alloc();
     let input = read_all(alloc, source)?;
-    let report = report_on(alloc, input.as_slice())?;
+    let report = report_of(alloc, input.as_slice())?;
     write_all(sink, report.as_bytes())
 }
 
 /// The report on the scenario that these bytes are.
-fn report_on(alloc: Global, input: &[u8]) -> Result<String, ScenarioFault> {
+fn report_of(alloc: Global, input: &[u8]) -> Result<String, ScenarioFault> {
     let value = parse(alloc, input)?;
     let scenario = read_scenario(alloc, &value)?;
     play(alloc, scenario)

@@ -107,3 +107,30 @@ fn starved_report_is_want_of_memory(rt: HostRuntime) -> Result<(), Fail> {
     assert!(rt; matches!(outcome, Err(ScenarioFault::NoMemory)));
     Ok(())
 }
+
+/// Lane i calls with the pass i + 1; begins, notes and finishes have the pass 0.
+#[test]
+fn lanes_have_their_passes(rt: HostRuntime) -> Result<(), Fail> {
+    let alloc = rt.alloc();
+    let text = with(
+        &rt,
+        FIRST,
+        r#""lanes":[["#,
+        r#""lanes":[[{"insert":{"labels":[["alertname","B"]],"starts":0}}],["#,
+    )?;
+    let Scenario {
+        config,
+        scripts,
+        phases,
+    } = read(alloc, text.as_str())?;
+    let mut run = Run::new(alloc, Dispatcher::open(alloc, config)?);
+    let mut courier = ScriptedCourier::new(scripts.as_slice());
+    run_until_fault(&mut run, &mut courier, phases)?;
+    let (dispatcher, _lines) = run.into_parts();
+    let mut passes = Vec::new(alloc);
+    for record in dispatcher.board().history() {
+        passes.push(record.pass)?;
+    }
+    assert_eq!(rt; passes.as_slice(), [1, 2, 0, 0, 0, 0, 0, 0, 0].as_slice());
+    Ok(())
+}

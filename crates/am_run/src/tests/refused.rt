@@ -435,7 +435,7 @@ type Capped = (
     &'static str,
 );
 
-const CAPPED: [Capped; 5] = [
+const CAPPED: [Capped; 6] = [
     (
         r#"["alertname"]}}"#,
         "",
@@ -475,6 +475,14 @@ const CAPPED: [Capped; 5] = [
         r#"["a","=","b"]"#,
         32,
         "/phases/0/lanes/0/0/silence: value",
+    ),
+    (
+        r#"{"at":30000,"flush":true}"#,
+        r#"{"at":30000,"lanes":"#,
+        "}",
+        "[]",
+        15,
+        "/phases/1/lanes: value",
     ),
 ];
 

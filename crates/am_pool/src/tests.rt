@@ -54,7 +54,7 @@ impl Courier for Planned {
     }
 }
 
-/// A notice of one alert, with this deadline.
+/// A notice of one alert, with the deadline 330,000.
 fn notice(alloc: Global) -> Result<Notice, Fail> {
     let mut firing = Vec::new(alloc);
     firing.push(Alert::new(Labels::read(alloc, &[("alertname", "A")])?, 0, None)?)?;

@@ -59,19 +59,23 @@ pub enum Ending {
 }
 
 impl Desk {
+    /// A board of this configuration, with nothing in it.
     pub fn open(alloc: Global, config: Config) -> Result<Desk, BoardFault> {
         let board = Board::new(alloc, config, HOME)?;
         Ok(Desk { board })
     }
 
+    /// The board.
     pub fn board(&self) -> &Board {
         &self.board
     }
 
+    /// Inserts an alert.
     pub fn insert(&mut self, alloc: Global, now: u64, alert: Alert) -> Result<Inserted, Fault> {
         self.board.insert(alloc, PASS, now, alert)
     }
 
+    /// Sets a silence.
     pub fn silence(
         &mut self,
         alloc: Global,
@@ -81,10 +85,12 @@ impl Desk {
         self.board.silence(alloc, PASS, now, silence)
     }
 
+    /// Removes empty groups and expired rows.
     pub fn maintain(&mut self, alloc: Global, now: u64) -> Result<Maintained, Fault> {
         self.board.maintain(alloc, PASS, now)
     }
 
+    /// Begins the flush of the group that is due first.
     pub fn begin(&mut self, alloc: Global, now: u64) -> Result<Step, Fault> {
         match self.board.begin(alloc, PASS, now) {
             Ok(Begun::NothingDue) => Ok(Step::NothingDue),
@@ -94,6 +100,7 @@ impl Desk {
         }
     }
 
+    /// Logs the success of the notice at a place.
     pub fn note(
         &mut self,
         alloc: Global,
@@ -104,6 +111,7 @@ impl Desk {
         self.board.note(alloc, PASS, &own.ticket, place, now)
     }
 
+    /// Finishes the flush of a ticket.
     pub fn finish(&mut self, own: OwnTicket, now: u64) -> Ending {
         let OwnTicket { ticket } = own;
         match self.board.finish(PASS, ticket, now) {
@@ -136,18 +144,22 @@ pub fn finish_at(board: &mut Board, own: OwnTicket, now: u64) -> Elsewhere {
 }
 
 impl OwnTicket {
+    /// The number of the flush.
     pub fn number(&self) -> u64 {
         self.ticket.number()
     }
 
+    /// The deadline of the flush, in milliseconds.
     pub fn deadline(&self) -> u64 {
         self.ticket.deadline()
     }
 
+    /// The notices, by integration.
     pub fn notices(&self) -> &[Notice] {
         self.ticket.notices()
     }
 
+    /// What was recorded for the notice at a place.
     pub fn outcome(&self, place: usize) -> Option<Outcome> {
         self.ticket.outcome(place)
     }

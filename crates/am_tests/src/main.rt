@@ -1,5 +1,5 @@
-//! Plays scripts on a board: each line of the input has a call, an arrow and its answer, and is
-//! printed with the answer that the call gets. So the output of a true script is its input.
+//! Plays scripts on a board: each line of the input has a call, and is printed with an arrow and the
+//! answer that the call gets. The input has no answers, so that they can come from the board alone.
 //!
 //! If a request for memory is refused, the call is made again, once all that the board shows was
 //! seen to be as before. So a single refusal, of whatever request, changes nothing of the output.

@@ -1,23 +1,20 @@
-//! Scripts: a call and its answer in each line.
+//! Scripts: a call in each line, which is told its answer.
 use crate::answers::{answer, look};
 use crate::stage::{Stage, Told};
 use crate::words::Trouble;
 use am_board::fault::Fault;
 use std::alloc::{AllocError, Global};
 
-/// The lines of a script, each call with the answer that it gets. Lines without an arrow stay as
-/// they are.
+/// The lines of a script, each call with the answer that it gets. Empty lines and those that begin
+/// with `#` stay as they are; each other line is a call.
 pub fn play(alloc: Global, stage: &mut Stage, script: &str) -> Result<String, Trouble> {
     let mut played = String::new(alloc);
     for line in script.lines() {
-        match line.split_once(" ->") {
-            None => add(&mut played, line)?,
-            Some((call, _)) => {
-                let told = tell(alloc, stage, call)?;
-                add(&mut played, call)?;
-                add(&mut played, " -> ")?;
-                add(&mut played, told.as_str())?;
-            }
+        add(&mut played, line)?;
+        if !line.is_empty() && !line.starts_with('#') {
+            let told = tell(alloc, stage, line)?;
+            add(&mut played, " -> ")?;
+            add(&mut played, told.as_str())?;
         }
         add(&mut played, "\n")?;
     }

@@ -65,15 +65,19 @@ impl Stage {
         })
     }
 
+    /// The board of the desk.
     pub fn board(&self) -> &Board {
         self.desk.board()
     }
 
+    /// The tickets that weren't finished, in the order in which they came, but for those that another
+    /// desk handed back, which come last.
     pub fn tickets(&self) -> &[OwnTicket] {
         self.tickets.as_slice()
     }
 
-    /// Makes the call of a line. Where it isn't accepted, for memory too, nothing changes.
+    /// Makes the call of a line. Where a request for memory is refused, nothing changes, but for a
+    /// `fill`.
     pub fn make(&mut self, alloc: Global, line: &str) -> Result<Told, Trouble> {
         let mut words = Words::of(line);
         match words.word()? {
@@ -91,7 +95,8 @@ impl Stage {
             "groups" => Ok(Told::Groups),
             "summary" => Ok(Told::Summary),
             "history" => Ok(Told::History),
-            _ => self.keep(alloc, line),
+            "retention" | "limit" | "ungrouped" | "child" | "inhibit" => self.keep(alloc, line),
+            _ => Err(Trouble::BadLine),
         }
     }
 

@@ -74,6 +74,7 @@ pub fn read_silence(alloc: Global, words: &mut Words<'_>) -> Result<Silence, Tro
     }
 }
 
+/// The outcome of a report.
 pub fn read_outcome(word: &str) -> Result<Outcome, Trouble> {
     match word {
         "delivered" => Ok(Outcome::Delivered),

@@ -29,6 +29,7 @@ pub struct Words<'a> {
 }
 
 impl<'a> Words<'a> {
+    /// The words of this line.
     pub fn of(line: &'a str) -> Words<'a> {
         Words { rest: line }
     }
@@ -56,10 +57,12 @@ impl<'a> Words<'a> {
         self.rest
     }
 
+    /// The next word.
     pub fn word(&mut self) -> Result<&'a str, Trouble> {
         self.next().ok_or(Trouble::BadLine)
     }
 
+    /// The next word, as a number.
     pub fn number(&mut self) -> Result<u64, Trouble> {
         match self.word()?.parse::<u64>() {
             Ok(number) => Ok(number),

@@ -4,6 +4,8 @@ pub mod Finding
 pub mod LabelSets
 pub mod Names
 pub mod Pairs
+pub mod Patterns
+pub mod PatternLaws
 pub mod Positions
 pub mod Trees
 pub mod Durations

@@ -5,5 +5,6 @@ pub mod LabelOrder
 pub mod LabelText
 pub mod Labels
 pub mod Matcher
+pub mod Pattern
 pub mod Route
 pub mod RoutingTree

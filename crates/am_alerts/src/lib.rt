@@ -8,6 +8,7 @@ mod label_text;
 pub mod labels;
 pub mod limits;
 pub mod matcher;
+mod pattern;
 pub mod route;
 pub mod sequence;
 #[cfg(test)]

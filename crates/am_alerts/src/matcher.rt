@@ -1,9 +1,11 @@
 //! Matchers.
-ghost use Rattle.std.specs.Prelude.{◌≡◌, IfOk, IfSome, IsOk, IsTrue, None};
-ghost use Rattle.am_alerts.specs.Matcher.{compares_texts, compare_texts, matches_parts, match_all, matcher_fault};
+ghost use Rattle.std.specs.Prelude.{◌≡◌, ◌⊎◌, Err, IfErr, IfOk, IfSome, IsOk, IsTrue, None};
+ghost use Rattle.am_alerts.specs.Matcher.{compares_texts, compare_texts, has_pattern, matches_parts, match_all, matcher_fault, pattern_of};
+ghost use Rattle.am_alerts.specs.Pattern.{PatternRows, PatternsMatch};
 
 use crate::labels::{Labels, is_label_name};
 use crate::limits::MAX_LABEL_BYTES;
+use crate::pattern::{Pattern, PatternFault};
 use crate::sequence::Copied;
 use crate::text::Text;
 use std::alloc::{AllocError, Global};
@@ -15,6 +17,10 @@ use thiserror::Error;
 pub enum Operator {
     Equal,
     NotEqual,
+    /// The value is a pattern `p`, which is built as `^(?:p)$` and has to match.
+    Like,
+    /// The same, and it must not match.
+    NotLike,
 }
 
 /// What a matcher is made of.
@@ -32,6 +38,7 @@ pub enum MatcherFault {
     BadName = 1,
     #[error("the name or the value has more than 1,024 bytes")]
     TooLong = 2,
+    /// For its syntax, or for the size that it has once it is built.
     #[error("the pattern is refused")]
     BadPattern = 3,
     #[error("out of memory")]
@@ -42,6 +49,8 @@ pub enum MatcherFault {
 #[derive(Debug, Drop)]
 pub struct Matcher {
     parts: MatcherParts,
+    /// For `Like` and `NotLike`, built once.
+    pattern: Option<Pattern>,
 }
 
 impl Model for Matcher {
@@ -49,12 +58,11 @@ impl Model for Matcher {
 
     ghost Value = { MatcherParts };
 
-    ghost use Rattle.std.specs.Prelude.{◌≡◌, None};
-    ghost use Rattle.am_alerts.specs.Matcher.{matcher_fault};
-
     ghost view = { λ m. m.parts };
 
-    ghost invariant = { λ m. matcher_fault m.parts ≡ None };
+    ghost use Rattle.am_alerts.specs.Matcher.{IsMatcher};
+
+    ghost invariant = { λ m. IsMatcher m.parts m.pattern };
 }
 
 impl MatcherParts {
@@ -76,12 +84,30 @@ impl Copied for MatcherParts {
     }
 }
 
+impl From<PatternFault> for MatcherFault {
+    ghost use Rattle.std.specs.Prelude.{◌≡◌};
+    ghost use Rattle.am_alerts.specs.Matcher.{of_pattern_fault};
+
+    ghost from_gives = { λ given fault. fault ≡ of_pattern_fault given };
+
+    fn from(fault: PatternFault) -> MatcherFault {
+        match fault {
+            PatternFault::BadPattern => MatcherFault::BadPattern,
+            PatternFault::NoMemory => MatcherFault::NoMemory,
+        }
+    }
+}
+
 impl Matcher {
     /// The matcher of these parts. Refused in this order: `BadName`, `TooLong` (the name or the
-    /// value has more than 1,024 bytes).
-    pub fn new(parts: MatcherParts) -> Result<Matcher, MatcherFault>
+    /// value has more than 1,024 bytes), `BadPattern` (the operator is `Like` or `NotLike`, and
+    /// `^(?:value)$` is no pattern, or one that is too big once it is built), `NoMemory`.
+    pub fn new(alloc: Global, parts: MatcherParts) -> Result<Matcher, MatcherFault>
         ensures refused { IfSome (matcher_fault parts) (λ fault. result ≡ Err fault) }
         ensures value { IfOk result (λ matcher. matcher ≡ parts) }
+        ensures pattern { IfOk result (λ _. IsTrue (has_pattern parts)) }
+        ensures others { matcher_fault parts ≡ None → IfErr result
+            (λ fault. (fault ≡ MatcherFault.BadPattern) ⊎ (fault ≡ MatcherFault.NoMemory)) }
         ensures made { IsTrue (compares_texts parts.op) → matcher_fault parts ≡ None → IsOk result }
     {
         if !is_label_name(parts.name.as_str()) {
@@ -92,27 +118,47 @@ impl Matcher {
         {
             return Err(MatcherFault::TooLong);
         }
-        Ok(Matcher { parts })
+        let pattern = pattern_of(alloc, &parts)?;
+        Ok(Matcher { parts, pattern })
     }
 
     pub fn parts(&self) -> &MatcherParts
         ensures parts { result.now ≡ self.now }
         ensures sound { matcher_fault self.now ≡ None }
+        ensures pattern { IsTrue (has_pattern self.now) }
     {
         &self.parts
     }
 
-    /// Whether the value that a label set has under the matcher's name passes its test.
-    pub fn matches(&self, _alloc: Global, labels: &Labels) -> Result<bool, AllocError>
+    /// Whether the value that a label set has under the matcher's name passes its test. Only a
+    /// pattern takes memory.
+    pub fn matches(&self, alloc: Global, labels: &Labels) -> Result<bool, AllocError>
         ensures value { IfOk result (λ matched. matched ≡ matches_parts self.now labels.now) }
         ensures answers { IsTrue (compares_texts self.now.op) → IsOk result }
     {
         let value = labels.get(self.parts.name.as_str()).unwrap_or("");
-        let same = value == self.parts.value.as_str();
+        let same = match &self.pattern {
+            None => value == self.parts.value.as_str(),
+            Some(pattern) => pattern.has_match(alloc, value)?,
+        };
         Ok(match self.parts.op {
-            Operator::Equal => same,
-            Operator::NotEqual => !same,
+            Operator::Equal | Operator::Like => same,
+            Operator::NotEqual | Operator::NotLike => !same,
         })
+    }
+}
+
+/// The pattern of parts whose operator takes one.
+fn pattern_of(alloc: Global, parts: &MatcherParts) -> Result<Option<Pattern>, PatternFault>
+    ensures value { IfOk result (λ pattern. pattern ≡ pattern_of parts.now) }
+    ensures read { IfOk result (λ _. IsTrue (has_pattern parts.now)) }
+    ensures made { IsTrue (compares_texts parts.now.op) → IsOk result }
+{
+    match parts.op {
+        Operator::Equal | Operator::NotEqual => Ok(None),
+        Operator::Like | Operator::NotLike => {
+            Ok(Some(Pattern::whole(alloc, parts.value.as_str())?))
+        }
     }
 }
 
@@ -128,3 +174,10 @@ pub fn all_match(alloc: Global, matchers: &[Matcher], labels: &Labels) -> Result
     }
     Ok(true)
 }
+
+/// A pattern has a match in a text exactly where it matches a part of the text that begins between
+/// characters; and the worked rows of patterns hold.
+pub fn patterns_match()
+    ensures matches { PatternsMatch }
+    ensures rows { PatternRows }
+{}

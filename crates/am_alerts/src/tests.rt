@@ -184,8 +184,8 @@ fn parts(alloc: Global, name: &str, op: Operator, value: &str) -> Result<Matcher
 /// Whether a matcher of copied parts, alone and twice in a list, matches {alertname="A"}.
 fn matcher_outcome(alloc: Global, name: &str, op: Operator, value: &str) -> Result<bool, Fail> {
     let labels = read(alloc, "alertname=A")?;
-    let first = Matcher::new(parts(alloc, name, op, value)?)?;
-    let second = Matcher::new(first.parts().copy(alloc)?.copied(alloc)?)?;
+    let first = Matcher::new(alloc, parts(alloc, name, op, value)?)?;
+    let second = Matcher::new(alloc, first.parts().copy(alloc)?.copied(alloc)?)?;
     let alone = second.matches(alloc, &labels)?;
     let matchers = vec![in alloc; first, second]?;
     Ok(alone && all_match(alloc, matchers.as_slice(), &labels)?)
@@ -199,6 +199,11 @@ fn matches_labels(rt: HostRuntime) -> Result<(), Fail> {
         ("alertname", Operator::Equal, "A", true),
         ("alertname", Operator::NotEqual, "A", false),
         ("alertname", Operator::Equal, "", false),
+        ("severity", Operator::Like, ".*", true),
+        ("severity", Operator::Like, "db|web", false),
+        ("severity", Operator::NotLike, "db|web", true),
+        ("alertname", Operator::Like, "A", true),
+        ("alertname", Operator::NotLike, "A", false),
     ] {
         assert_eq!(rt; matcher_outcome(rt.alloc(), name, op, value)?, matched);
     }
@@ -210,9 +215,29 @@ fn matches_labels(rt: HostRuntime) -> Result<(), Fail> {
     Ok(())
 }
 
+/// Whether a value has a pattern.
+fn is_like(alloc: Global, pattern: &str, value: &str) -> Result<bool, Fail> {
+    let labels = Labels::read(alloc, [("team", value)].as_slice())?;
+    let matcher = Matcher::new(alloc, parts(alloc, "team", Operator::Like, pattern)?)?;
+    Ok(matcher.matches(alloc, &labels)?)
+}
+
+#[test]
+fn matches_patterns(rt: HostRuntime) -> Result<(), Fail> {
+    for (pattern, value, matched) in [
+        ("db|web", "db", true),
+        ("db|web", "dbx", false),
+        ("d", "db", false),
+        ("a)|(?:b", "ax", true),
+    ] {
+        assert_eq!(rt; is_like(rt.alloc(), pattern, value)?, matched);
+    }
+    Ok(())
+}
+
 fn matcher_fault(alloc: Global, name: &str, bytes: usize) -> Result<String, Fail> {
     let value = long(alloc, bytes)?;
-    let made = Matcher::new(parts(alloc, name, Operator::Equal, value.as_str())?);
+    let made = Matcher::new(alloc, parts(alloc, name, Operator::Equal, value.as_str())?);
     Ok(format!(in alloc; "{:?}", made.err())?)
 }
 
@@ -225,6 +250,12 @@ fn refuses_matchers(rt: HostRuntime) -> Result<(), Fail> {
     ] {
         assert_eq!(rt; matcher_fault(rt.alloc(), name, bytes)?.as_str(), wanted);
     }
+    let alloc = rt.alloc();
+    let made = Matcher::new(alloc, parts(alloc, "a", Operator::NotLike, "a(")?);
+    assert_eq!(rt;
+        format!(in alloc; "{:?}", made.err())?.as_str(),
+        "Some(BadPattern)"
+    );
     Ok(())
 }
 
@@ -250,7 +281,7 @@ fn grouping(alloc: Global, name: &str, count: usize) -> Result<GroupBy, AllocErr
 
 fn child(alloc: Global, name: &str, label: &str, goes_on: bool) -> Result<Child, Fail> {
     let value = if label == "team" { "db" } else { "critical" };
-    let matcher = Matcher::new(parts(alloc, label, Operator::Equal, value)?)?;
+    let matcher = Matcher::new(alloc, parts(alloc, label, Operator::Equal, value)?)?;
     Ok(Child {
         route: named_route(alloc, name, grouping(alloc, "alertname", 2)?)?,
         matchers: Sequence::from(vec![in alloc; matcher]?),

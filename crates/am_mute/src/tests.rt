@@ -10,11 +10,12 @@ use std::alloc::Global;
 use std::test::Fail;
 
 fn matcher(alloc: Global, name: &str, op: Operator, value: &str) -> Result<Matcher, Fail> {
-    Ok(Matcher::new(MatcherParts {
+    let parts = MatcherParts {
         name: Text::new(alloc, name)?,
         op,
         value: Text::new(alloc, value)?,
-    })?)
+    };
+    Ok(Matcher::new(alloc, parts)?)
 }
 
 /// As many matchers `name = value`.
@@ -137,6 +138,25 @@ fn a_silence_mutes_from_its_start_until_its_end(rt: HostRuntime) -> Result<(), F
     ] {
         let muted = muted(alloc, &labels(alloc, text)?, t, &silences, &[], &[])?;
         assert_eq!(rt; muted, expected, "{text} at {t}");
+    }
+    Ok(())
+}
+
+#[test]
+fn patterns_mute(rt: HostRuntime) -> Result<(), Fail> {
+    let alloc = rt.alloc();
+    let mut matchers = Vec::new(alloc);
+    matchers.push(matcher(alloc, "alertname", Operator::Like, "A|B")?)?;
+    matchers.push(matcher(alloc, "dc", Operator::NotLike, "x.*")?)?;
+    let silences = [Silence::new(7, matchers, 10, 20)?];
+    for (text, expected) in [
+        ("alertname=A", true),
+        ("alertname=B dc=y", true),
+        ("alertname=B dc=xy", false),
+        ("alertname=AB", false),
+    ] {
+        let muted = muted(alloc, &labels(alloc, text)?, 10, &silences, &[], &[])?;
+        assert_eq!(rt; muted, expected, "{text}");
     }
     Ok(())
 }

@@ -105,11 +105,11 @@ pub taking_found : (config : Config) (s : kept.State) (taking : Taking) (g : Gro
     → taking.due ≡ taking.t + (route_at config.routes g.name.route).group_interval
     → IsTaking config s taking g
 taking_found config s taking g groups flushes all open_now at within first is due =
-    let place : taking.place < vec_len s.groups = omega (arith, within, ap (λ (gs : List Group). length gs) all, s.groups.ok.0) in
+    let place : taking.place < length s.groups.items = omega (arith, within, ap (λ (gs : List Group). length gs) all) in
     record {
       moment = at;
       place = place;
-      group = λ d. get_or_default s.groups.items taking.place d g (omega (arith, place, s.groups.ok.0)) ∙ sym is;
+      group = λ d. get_or_default s.groups.items taking.place d g place ∙ sym is;
       first =
           (λ i. first_of (map flush_state (sym open_now i)) taking.t (map group_state (sym all i)))
           ∙ first

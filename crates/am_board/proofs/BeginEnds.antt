@@ -79,7 +79,7 @@ module _ (config : Config) (id : ℕ) (old : kept.State) (taking : Taking) (g : 
 
   -- the group is in its place, alone with its name
   within : taking.place < length old.groups.items
-  within = omega (arith, takes.place, old.groups.ok.0)
+  within = takes.place
 
   changed_there : (change : GroupState → GroupState) → changed_where (is_named g.name) change (map group_state old.groups.items) ≡ set (map group_state old.groups.items) taking.place (change (group_state g))
   changed_there change =
@@ -99,11 +99,14 @@ module _ (config : Config) (id : ℕ) (old : kept.State) (taking : Taking) (g : 
   routed_after h e = subst (AreRouted config.routes) (sym (names_set old.groups.items taking.place h g (e ∙ sym (ap (λ (x : Group). x.name) (takes.group g))))) good.routed
 
   -- the taken group, marked as begun
+  pub begun_state : (r : Group) → r ≡ get_or old.groups.items taking.place r → record (group_state r) { due = taking.due; flushed = true } ≡ begun_group config taking.t (group_state g)
+  begun_state r is =
+      ap (λ (x : Group). record (group_state x) { due = taking.due; flushed = true }) (is ∙ takes.group r)
+      ∙ ap (λ d. record (group_state g) { due = d; flushed = true }) takes.due
+
   pub begun_kept : (h r : Group) → r ≡ get_or old.groups.items taking.place r → h ≡ record r { due = taking.due; flushed = true } → group_state h ≡ begun_group config taking.t (group_state g)
   begun_kept h r is marked =
-      ap group_state marked
-      ∙ ap (λ (x : Group). record (group_state x) { due = taking.due; flushed = true }) (is ∙ takes.group r)
-      ∙ ap (λ d. record (group_state g) { due = d; flushed = true }) takes.due
+      ap group_state marked ∙ begun_state r is
 
   -- nobody is asked: the resolved alerts leave the group
   pub accepts_quiet : (h : Group) (name recorded : GroupName) (removed : ℕ) (new : kept.State)
@@ -111,14 +114,15 @@ module _ (config : Config) (id : ℕ) (old : kept.State) (taking : Taking) (g : 
       → group_state h ≡ without_resolved taking.t (begun_group config taking.t (group_state g))
       → name ≡ g.name → recorded ≡ g.name
       → removed ≡ count_resolved taking.t (group_state g)
-      → new ≡ record old { clock = taking.t; groups = with_item old.groups taking.place h; history = new.history }
+      → new.groups.items ≡ set old.groups.items taking.place h
+      → new ≡ record old { clock = taking.t; groups = new.groups; history = new.history }
       → new.history.items ≡ old.history.items ++ entry taking.pass (Begin taking.now) (Quiet recorded removed) ∷ []
       → vec_len new.history ≡ vec_len old.history + 1
       → vec_len new.history + vec_len old.flushes ≤ vec_capacity new.history
       → Accepts config id (entry taking.pass (Begin taking.now) (Quiet name removed)) old new
-  accepts_quiet h name recorded removed new none left named recorded_named gone is history records room =
+  accepts_quiet h name recorded removed new none left named recorded_named gone put is history records room =
       let named_as_before : h.name ≡ g.name = ap (λ (x : GroupState). x.name) left in
-      let groups = groups_after (λ x. without_resolved taking.t (begun_group config taking.t x)) h left in
+      let groups = ap (map group_state) put ∙ groups_after (λ x. without_resolved taking.t (begun_group config taking.t x)) h left in
       let log : new.log ≡ old.log = ap (λ (s : kept.State). s.log) is in
       let flushes : new.flushes ≡ old.flushes = ap (λ (s : kept.State). s.flushes) is in
       record {
@@ -131,7 +135,7 @@ module _ (config : Config) (id : ℕ) (old : kept.State) (taking : Taking) (g : 
             (ap state_of is
             ∙ ap (λ gs. record (state_of old) { clock = taking.t; groups = gs }) groups
             ∙ sym (after_this (Quiet name removed) ∙ ap (λ asked. after_asking config (state_of old) taking.t (group_state g) asked) none));
-        routed = subst (λ (s : kept.State). AreRouted config.routes (names_of s.groups.items)) (sym is) (routed_after h named_as_before);
+        routed = subst (λ gs. AreRouted config.routes (names_of gs)) (sym put) (routed_after h named_as_before);
         prepared = subst (λ (s : kept.State). All (IsPrepared config s.log) s.flushes.items) (sym is) good.prepared;
         history = history ∙ (λ i. old.history.items ++ entry taking.pass (Begin taking.now) (Quiet ((recorded_named ∙ sym named) i) removed) ∷ []);
         records = records;
@@ -143,7 +147,8 @@ module _ (config : Config) (id : ℕ) (old : kept.State) (taking : Taking) (g : 
       → asked_of config (state_of old) taking.t (group_state g) ≢ []
       → IsOpening config id (state_of old) taking.t (group_state g) o
       → group_state h ≡ begun_group config taking.t (group_state g)
-      → new ≡ record old { clock = taking.t; groups = with_item old.groups taking.place h; log = new.log; flushes = new.flushes; next_number = old.next_number + 1; history = new.history }
+      → new.groups.items ≡ set old.groups.items taking.place h
+      → new ≡ record old { clock = taking.t; groups = new.groups; log = new.log; flushes = new.flushes; next_number = old.next_number + 1; history = new.history }
       → log_rows new.log ≡ log_rows old.log
       → ((key : LogKey GroupName) → IsTrue (is_known same_name old.log key) → IsTrue (is_known same_name new.log key))
       → All (λ (a : Asked). a.key.group ≡ o.flush.group → IsTrue (is_known same_name new.log a.key)) o.flush.asked.items
@@ -152,10 +157,10 @@ module _ (config : Config) (id : ℕ) (old : kept.State) (taking : Taking) (g : 
       → vec_len new.history ≡ vec_len old.history + 1
       → vec_len new.history + vec_len new.flushes ≤ vec_capacity new.history
       → Accepts config id (entry taking.pass (Begin taking.now) (Flush o.number o.group o.deadline o.notices.items)) old new
-  accepts_flush h o new some opening marked is rows keeps asked flushes history records room =
+  accepts_flush h o new some opening marked put is rows keeps asked flushes history records room =
       let all_asked = asked_of config (state_of old) taking.t (group_state g) in
       let named_as_before : h.name ≡ g.name = ap (λ (x : GroupState). x.name) marked in
-      let groups = groups_after (begun_group config taking.t) h marked in
+      let groups = ap (map group_state) put ∙ groups_after (begun_group config taking.t) h marked in
       let opened : map flush_state new.flushes.items ≡ map flush_state old.flushes.items ++ flush_asking config (state_of old) taking.t (group_state g) all_asked ∷ [] =
       ap (map flush_state) flushes ∙ map-append flush_state old.flushes.items (o.flush ∷ []) ∙ ap (λ f. map flush_state old.flushes.items ++ f ∷ []) opening.flush in
       let of_group : o.flush.group ≡ g.name = ap (λ (f : FlushState). f.group) opening.flush in
@@ -176,7 +181,7 @@ module _ (config : Config) (id : ℕ) (old : kept.State) (taking : Taking) (g : 
             (ap state_of is
             ∙ (λ i. record (state_of old) { clock = taking.t; groups = groups i; rows = rows i; flushes = opened i; next_number = old.next_number + 1 })
             ∙ sym (after_this (Flush o.number o.group o.deadline o.notices.items) ∙ after_opened config (state_of old) taking.t (group_state g) all_asked some));
-        routed = subst (λ (s : kept.State). AreRouted config.routes (names_of s.groups.items)) (sym is) (routed_after h named_as_before);
+        routed = subst (λ gs. AreRouted config.routes (names_of gs)) (sym put) (routed_after h named_as_before);
         prepared =
             subst (λ fs. All (IsPrepared config new.log) fs) (sym flushes)
             (All-append (IsPrepared config new.log) old.flushes.items (o.flush ∷ []) (prepared_kept config old.log new.log keeps old.flushes.items good.prepared)

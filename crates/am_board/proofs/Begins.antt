@@ -98,7 +98,7 @@ each_there (g ∷ groups) = (
 )
 
 -- those that were there are there after a group is put in
-there-put_in : (name : GroupName) (g : GroupState) (groups : List GroupState) → has_group groups name ≡ true → has_group (put_in same_group g groups) name ≡ true
+pub there-put_in : (name : GroupName) (g : GroupState) (groups : List GroupState) → has_group groups name ≡ true → has_group (put_in same_group g groups) name ≡ true
 there-put_in name g [] there = absurd (false≢true there)
 there-put_in name g (h ∷ groups) there =
     elim (same_group g h) as (λ b. same_group g h ≡ b → has_group (cond b (g ∷ groups) (h ∷ put_in same_group g groups)) name ≡ true) [
@@ -127,15 +127,15 @@ module _ (test : GroupState → Bool) (change : GroupState → GroupState) (kept
 -- ---- what each call keeps
 
 -- a group that was begun since it was made is among these
-IsIn : List GroupState → GroupName → Option ℕ → Type 0
+pub IsIn : List GroupState → GroupName → Option ℕ → Type 0
 IsIn groups name None = Unit {0}
 IsIn groups name (Some t) = has_group groups name ≡ true
 
 -- the groups are due as their last begins say, those that were begun are there, and no two have one name
-record Keeps (config : Config) (groups : List GroupState) (last : GroupName → Option ℕ) : Type 0 where
-  due : AllByRecursion (λ g. IsBegunAt config g (last g.name)) groups
-  there : (name : GroupName) → IsIn groups name (last name)
-  apart : IsDistinct same_group groups
+pub record Keeps (config : Config) (groups : List GroupState) (last : GroupName → Option ℕ) : Type 0 where
+  pub due : AllByRecursion (λ g. IsBegunAt config g (last g.name)) groups
+  pub there : (name : GroupName) → IsIn groups name (last name)
+  pub apart : IsDistinct same_group groups
 
 still_in : (name : GroupName) (old new : List GroupState) → (has_group old name ≡ true → has_group new name ≡ true) → (o : Option ℕ) → IsIn old name o → IsIn new name o
 unfolding IsIn
@@ -318,7 +318,7 @@ module _ (config : Config) (id : ℕ) (s : State) (last : GroupName → Option �
         | false ↦ λ told. absurd (cc)
       ] e
 
-  keeps-call : (c : Call) (p : Reply) → reply config id s c ≡ Some p → After (after_call config s c) p
+  pub keeps-call : (c : Call) (p : Reply) → reply config id s c ≡ Some p → After (after_call config s c) p
   keeps-call (Insert now alert) p e =
       subst (After (after_call config s (Insert now alert))) (inside (reply_is.Inserted (inserted config s alert)) p e)
       (keeps-put_all config last (moment s now) (record { alert = alert; stamp = next_stamp s }) (names_for config alert.labels) s.groups k)
@@ -339,7 +339,7 @@ keeps_from config id [] s last legal k = k
 keeps_from config id (r ∷ history) s last legal k =
     keeps_from config id history (after config s r) (λ n. last_begin_after n s (after config s r).clock (last n) r.reply) legal.1 (keeps-call config id s last k r.call r.reply legal.0)
 
-opening_keeps : (config : Config) → Keeps config [] (λ n. None)
+pub opening_keeps : (config : Config) → Keeps config [] (λ n. None)
 opening_keeps config = record { due = tt; there = λ n. none_in [] n; apart = IsDistinct-nil same_group }
 
 is_there : (s : State) (name : GroupName) (o : Option ℕ) → IsIn s.groups name o → IsThere s name o

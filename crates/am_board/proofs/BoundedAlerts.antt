@@ -61,7 +61,7 @@ length-filter test (x ∷ xs) =
     ]
 
 -- what is put in adds one at most
-length-put_in : {X : Type 0} (like : X → X → Bool) (x : X) (xs : List X) → length (put_in like x xs) ≤ length xs + 1
+pub length-put_in : {X : Type 0} (like : X → X → Bool) (x : X) (xs : List X) → length (put_in like x xs) ≤ length xs + 1
 length-put_in like x [] = omega arith
 length-put_in like x (y ∷ ys) =
     let rest = length-put_in like x ys in
@@ -90,7 +90,7 @@ module _ (config : Config) (t : ℕ) (m : MemberState) where
         | Some g ↦ refl
       ]) ∙ members_of-in gs name
 
-  named-or_new : (gs : List GroupState) (name : GroupName) → same_name name (group_or_new config t gs name).name ≡ true
+  pub named-or_new : (gs : List GroupState) (name : GroupName) → same_name name (group_or_new config t gs name).name ≡ true
   named-or_new gs name =
       elim (find (is_named name) gs) as (λ o. find (is_named name) gs ≡ o → same_name name (unwrap_or o (new_group config t name)).name ≡ true) [
         | None ↦ λ e. same_name_equiv.refl name

@@ -22,6 +22,7 @@ use Rattle.am_board.specs.State.{AskedState, FlushState, State, moment, at_momen
 use Rattle.am_board.specs.Ticket.{outcome_of}
 use Rattle.am_retry.specs.declared.outcome.Outcome.{Outcome}
 use Rattle.am_board.specs.Step.{Accepts, Stays}
+use Rattle.am_board.proofs.FewGroups.{IsInsert, few_others}
 use Rattle.am_board.proofs.Agreeing.{row_views-agrees, group_views-agrees, summary_at-agrees}
 use Rattle.am_board.specs.Views.{row_views, group_views, summary_at, summary}
 use Rattle.am_board.proofs.Sound.{opened_now, counted, consistent_now, told_at, sound_then, sound_still}
@@ -31,8 +32,8 @@ abbrev seen : Inside → kept.State → BoardData
 seen b s = record { config = b.config; id = b.id; history = s.history.items }
 
 -- the limits, as a board's invariant has them
-abbrev pub IsWithin : Config → kept.State → Type 0
-IsWithin config s = (vec_len s.flushes ≤ config.limits.flushes) × (vec_len s.history + vec_len s.flushes ≤ config.limits.history)
+abbrev pub IsWithin : Config → State → kept.State → Type 0
+IsWithin config after s = (length after.groups ≤ config.limits.groups) × (vec_len s.flushes ≤ config.limits.flushes) × (vec_len s.history + vec_len s.flushes ≤ config.limits.history)
 
 -- a history that isn't full has room for so many records
 pub room_of : (config : Config) (records : ℕ) (s : State) (more : ℕ) {X : Type 0} (full other : Option X) → (if is_full config records s more then full else other) ≡ None → (full ≡ None → ⊥)
@@ -67,10 +68,10 @@ module _ (b : Inside) (sound : IsSound b) (now : BoardData) (view_is : seen b b.
   refused (Err fault) h = ap (λ (items : List Record). record { config = b.config; id = b.id; history = items }) h.1.history ∙ view_is
 
   -- the board is sound again
-  pub sound_again : ((x : T) → P x → IsWithin b.config new) → (r : Result T E) → MatchResult r P (λ fault. Q fault × Stays b.config b.state new) → IsSound (record b { state = new })
+  pub sound_again : ((x : T) → P x → IsWithin b.config (after_call b.config (state_of b.state) call) new) → (r : Result T E) → MatchResult r P (λ fault. Q fault × Stays b.config b.state new) → IsSound (record b { state = new })
   sound_again within (Ok x) h =
-      let limits : IsWithin b.config new = within x h in
-      sound_then b sound (entry pass call (told x)) new (accepts x h) limits.0 limits.1
+      let limits : IsWithin b.config (after_call b.config (state_of b.state) call) new = within x h in
+      sound_then b sound (entry pass call (told x)) new (accepts x h) limits.0 limits.1 limits.2
   sound_again within (Err fault) h = sound_still b sound new h.1
 
 -- why a call was refused, in other words
@@ -139,7 +140,7 @@ module _ (b : Inside) (sound : IsSound b) (now : BoardData) (view_is : seen b b.
   noted_now Q (Err fault) h = tt
 
   note_within : (r : Record) → IsNoteOf pass at ticket place r → Accepts b.config b.id r b.state new
-      → vec_len b.state.history + length (state_of b.state).flushes + 1 ≤ b.config.limits.history → IsWithin b.config new
+      → vec_len b.state.history + length (state_of b.state).flushes + 1 ≤ b.config.limits.history → IsWithin b.config (after b.config (state_of b.state) r) new
   note_within r is accepts room =
       let s : State = state_of b.state in
       let told : Call = Note at ticket.number is.0.integration (outcome_of ticket.outcomes is.0.integration) in
@@ -147,14 +148,15 @@ module _ (b : Inside) (sound : IsSound b) (now : BoardData) (view_is : seen b b.
       let opened : vec_len new.flushes ≡ length (after_call b.config s r.call).flushes = opened_then b.config b.id r b.state new accepts in
       let called : length (after_call b.config s r.call).flushes ≡ length (after_call b.config s told).flushes = ap (λ (x : Record). length (after_call b.config s x.call).flushes) is.2 in
       let before = opened_now b.state in
-      (omega (arith, opened, called, same, before, sound.opened), omega (arith, opened, called, same, room, accepts.records))
+      let few : length (after_call b.config s r.call).groups ≤ length s.groups = few_others b.config s r.call (ap (λ (x : Record). IsInsert x.call) is.2) in
+      (omega (arith, few, sound.groups), omega (arith, opened, called, same, before, sound.opened), omega (arith, opened, called, same, room, accepts.records))
 
   pub sound_noted : {T E : Type 0} (Q : E → Type 0) (result : Result T E) → MatchResult result (λ _. IsNoted) (λ fault. Q fault × Stays b.config b.state new) → IsSound (record b { state = new })
   sound_noted Q (Ok x) h =
       let accepts = h.1.2 b.id in
       let room = note_room b.config (vec_len b.state.history) (state_of b.state) ticket place (flush_numbered (state_of b.state).flushes ticket.number) h.0 in
-      let limits : IsWithin b.config new = note_within h.1.0 h.1.1 accepts room in
-      sound_then b sound h.1.0 new accepts limits.0 limits.1
+      let limits : IsWithin b.config (after b.config (state_of b.state) h.1.0) new = note_within h.1.0 h.1.1 accepts room in
+      sound_then b sound h.1.0 new accepts limits.0 limits.1 limits.2
   sound_noted Q (Err fault) h = sound_still b sound new h.1
 
 -- ---- what a board shows

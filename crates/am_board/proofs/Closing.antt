@@ -1,5 +1,5 @@
 -- What a board tells of a finish.
-use Rattle.std.proofs.Common.{◌≡◌, ℕ, ◌+◌, Bool, eqb-true, Option, Some, None, List, [], ◌∷◌, get_or, vec_len, sym, ap, ◌∙◌, subst, arith}
+use Rattle.std.proofs.Common.{◌≡◌, ℕ, ◌+◌, Bool, eqb-true, Option, Some, None, List, [], ◌∷◌, get_or, vec_len, refl, sym, ap, ◌∙◌, subst, arith}
 use Rattle.std.specs.Prelude.{◌==◌, Ok, position}
 use Rattle.std.specs.Option.{option_map}
 use Rattle.std.proofs.lemmas.List.Quantifiers.{position-Some}
@@ -15,11 +15,12 @@ use Rattle.am_board.specs.declared.state.State as kept
 use Rattle.am_board.specs.Board.{IsSound}
 use Rattle.am_board.specs.Data.{TicketData}
 use Rattle.am_board.specs.History.{BoardData, IsToldAt, entry, with_record, state_at}
-use Rattle.am_board.specs.Kept.{flush_state}
+use Rattle.am_board.specs.Kept.{state_of, flush_state}
 use Rattle.am_board.specs.State.{FlushState, State, flush_numbered}
 use Rattle.am_board.specs.Step.{IsGood, Accepts}
 use Rattle.am_board.proofs.Alone.{find-mapped, find-no_position}
 use Rattle.am_board.proofs.Calls.{recorded, told_now}
+use Rattle.am_board.proofs.FewGroups.{few_others}
 use Rattle.am_board.proofs.Sound.{good, sound_then}
 
 -- an element of a list in which a place is found
@@ -66,5 +67,6 @@ module _ (b : Inside) (sound : IsSound b) (now : BoardData) (view_is : record { 
 
     pub finish_sound : vec_len new.flushes + 1 ≡ vec_len b.state.flushes → IsSound (record b { state = new })
     finish_sound closed =
+        let few = few_others b.config (state_of b.state) call refl in
         sound_then b sound (entry pass call (replies.Finished x)) new accepted
-        (omega (arith, closed, sound.opened)) (omega (arith, closed, accepted.records, sound.kept))
+        (omega (arith, few, sound.groups)) (omega (arith, closed, sound.opened)) (omega (arith, closed, accepted.records, sound.kept))

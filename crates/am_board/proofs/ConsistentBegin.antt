@@ -24,16 +24,16 @@ use Rattle.am_board.proofs.ConsistentState.{IsOpen, IsSteady}
 -- ---- the group that is taken
 
 -- no open flush is of the group, and its alerts are those of the group of its name
-record IsTaken (s : State) (g : GroupState) : Type 0 where
-  free : AllByRecursion (λ f. same_name g.name f.group ≡ false) s.flushes
-  own : members_of s.groups g.name ≡ g.members
+pub record IsTaken (s : State) (g : GroupState) : Type 0 where
+  pub free : AllByRecursion (λ f. same_name g.name f.group ≡ false) s.flushes
+  pub own : members_of s.groups g.name ≡ g.members
 
 free_from : (due flushing : Bool) → (due && not flushing) ≡ true → flushing ≡ false
 free_from true true e = absurd (cc)
 free_from true false e = refl
 free_from false flushing e = absurd (cc)
 
-taken-is : (s : State) (t : ℕ) (g : GroupState) → IsDistinct same_group s.groups → taken s t ≡ Some g → IsTaken s g
+pub taken-is : (s : State) (t : ℕ) (g : GroupState) → IsDistinct same_group s.groups → taken s t ≡ Some g → IsTaken s g
 taken-is s t g h e =
     let may : GroupState → Type 0 = λ k. may_begin s t k ≡ true in
     let own : GroupState → Type 0 = λ k. members_of s.groups k.name ≡ k.members in

@@ -37,36 +37,6 @@ room_set m n name gs i g old less within is named fits room k d h same =
           subst (Fits n) (sym at) (omega (arith, had, less))
     ] refl
 
--- what a walk over the groups that makes room in those of one name has done up to a place
-pub record Reserving (from groups : List Group) (name : GroupName) (more upto : ℕ) : Type 0 where
-  pub names : names_of groups ≡ names_of from
-  pub states : map group_state groups ≡ map group_state from
-  pub others : (n : ℕ) (other : GroupName) → HasRoom n other from → HasRoom n other groups
-  pub room : (k : ℕ) (d : Group) → k < upto → (get_or groups k d).name ≡ name → Fits more (get_or groups k d)
-
--- one group is replaced by itself with more room
-pub others_step : (from gs : List Group) (i : ℕ) (g old : Group) → i < length gs → old ≡ get_or gs i old → IsReserved old g → ((n : ℕ) (other : GroupName) → HasRoom n other from → HasRoom n other gs) → (n : ℕ) (other : GroupName) → HasRoom n other from → HasRoom n other (set gs i g)
-others_step from gs i g old within is kept before n other room =
-    room_set n n other gs i g old (omega arith) within is kept.name (λ fits. omega (arith, fits, kept.len, kept.capacity)) (before n other room)
-
-pub reserving_step : (from gs : List Group) (name : GroupName) (more i : ℕ) (g old : Group) → i < length gs → old ≡ get_or gs i old → IsReserved old g → (old.name ≡ name → Fits more g) → Reserving from gs name more i → Reserving from (set gs i g) name more (i + 1)
-reserving_step from gs name more i g old within is kept fits before =
-    record {
-      names = names_set gs i g old (kept.name ∙ ap (λ x. x.name) is) ∙ before.names;
-      states = states_set gs i g old (kept.state ∙ ap group_state is) ∙ before.states;
-      others = others_step from gs i g old within is kept before.others;
-      room = λ k d less same.
-          elim (eqb k i) as (λ b. eqb k i ≡ b → Fits more (get_or (set gs i g) k d)) [
-            | true ↦ λ e.
-                let at : get_or (set gs i g) k d ≡ g = ap (λ j. get_or (set gs i g) j d) (eqb-true k i e) ∙ get_or-set_same gs i g d within in
-                subst (Fits more) (sym at) (fits (sym kept.name ∙ (ap (λ x. x.name) (sym at) ∙ same)))
-            | false ↦ λ e.
-                let apart : k ≢ i = eqb-false k i e in
-                let at : get_or (set gs i g) k d ≡ get_or gs k d = get_or-set_other gs i k g d apart in
-                subst (Fits more) (sym at) (before.room k d (omega arith) (ap (λ x. x.name) (sym at) ∙ same))
-          ] refl;
-    }
-
 -- a group is added
 pub names-push : (gs : List Group) (g : Group) → names_of (gs ++ g ∷ []) ≡ names_of gs ++ g.name ∷ []
 names-push [] g = refl

@@ -133,16 +133,16 @@ made_told config labels gs lent_gs ps lent_ps made e f told names =
     ∙ (ap (λ (xs : List Group). count_by (λ p. is_none (position (λ g. same_name p.name g.name) xs)) ps) e ∙ made_is config labels gs ps names))
 
 -- whether too many groups would be made, in what is kept
-makes_is : (config : Config) (s : kept.State) (a : AlertData) (made : ℕ) → made ≡ (inserted config (state_of s) a).made → makes_too_many config (state_of s) a ≡ nat_lt config.limits.groups (vec_len s.groups + made)
+makes_is : (config : Config) (s : kept.State) (a : AlertData) (made : ℕ) → made ≡ (inserted config (state_of s) a).made → makes_too_many config (state_of s) a ≡ nat_lt config.limits.groups (length s.groups.items + made)
 makes_is config s a made e =
-    let count : length (map group_state s.groups.items) ≡ vec_len s.groups = length-map s.groups.items group_state ∙ sym s.groups.ok.0 in
-    ap (λ n. nat_lt config.limits.groups (n + (inserted config (state_of s) a).made)) count ∙ ap (λ n. nat_lt config.limits.groups (vec_len s.groups + n)) (sym e)
+    let count : length (map group_state s.groups.items) ≡ length s.groups.items = length-map s.groups.items group_state in
+    ap (λ n. nat_lt config.limits.groups (n + (inserted config (state_of s) a).made)) count ∙ ap (λ n. nat_lt config.limits.groups (length s.groups.items + n)) (sym e)
 
-pub makes_many : (config : Config) (s : kept.State) (a : AlertData) (made : ℕ) → made ≡ (inserted config (state_of s) a).made → config.limits.groups < vec_len s.groups + made → makes_too_many config (state_of s) a ≡ true
-makes_many config s a made e many = makes_is config s a made e ∙ more_is config.limits.groups (vec_len s.groups + made) many
+pub makes_many : (config : Config) (s : kept.State) (a : AlertData) (made : ℕ) → made ≡ (inserted config (state_of s) a).made → config.limits.groups < length s.groups.items + made → makes_too_many config (state_of s) a ≡ true
+makes_many config s a made e many = makes_is config s a made e ∙ more_is config.limits.groups (length s.groups.items + made) many
 
-pub makes_few : (config : Config) (s : kept.State) (a : AlertData) (made : ℕ) → made ≡ (inserted config (state_of s) a).made → vec_len s.groups + made ≤ config.limits.groups → makes_too_many config (state_of s) a ≡ false
-makes_few config s a made e few = makes_is config s a made e ∙ no_more_is config.limits.groups (vec_len s.groups + made) few
+pub makes_few : (config : Config) (s : kept.State) (a : AlertData) (made : ℕ) → made ≡ (inserted config (state_of s) a).made → length s.groups.items + made ≤ config.limits.groups → makes_too_many config (state_of s) a ≡ false
+makes_few config s a made e few = makes_is config s a made e ∙ no_more_is config.limits.groups (length s.groups.items + made) few
 
 -- what an insert is told
 pub told_is : (config : Config) (s : State) (a : AlertData) (groups made : ℕ) → groups ≡ length (names_for config a.labels) → made ≡ (inserted config s a).made → inserted config s a ≡ record { stamp = s.inserts + 1; groups = groups; made = made }

@@ -19,13 +19,14 @@ use Rattle.am_board.specs.declared.config.Config.{Config}
 use Rattle.am_board.specs.declared.config.Integration.{Integration}
 use Rattle.am_board.specs.Board.{IsSound}
 use Rattle.am_board.specs.Begin.{taken, asked_of, flush_asking, after_asking, after_taking}
-use Rattle.am_board.specs.Causes.{insert_cause, silence_cause, begin_cause, maintain_cause, asks_some, opens_by}
+use Rattle.am_board.specs.Causes.{is_name_too_many, insert_cause, silence_cause, begin_cause, maintain_cause, asks_some, opens_by}
 use Rattle.am_board.specs.History.{BoardData, calls_at, state_at, call_of_silence, entry, reply_of}
 use Rattle.am_board.specs.Kept.{state_of}
 use Rattle.am_board.specs.Replay.{replay, after_call}
 use Rattle.am_board.specs.State.{GroupState, State, moment}
 use Rattle.am_board.specs.Step.{Accepts}
 use Rattle.am_board.proofs.Agreeing.{insert_cause-agrees, silence_cause-agrees, maintain_cause-agrees, begin_cause-agrees}
+use Rattle.am_board.proofs.FewGroups.{few_inserted, few_others}
 use Rattle.am_board.proofs.Calls.{IsWithin, room_of, opened_then}
 use Rattle.am_board.proofs.Sound.{opened_now, counted, consistent_now}
 
@@ -33,30 +34,34 @@ use Rattle.am_board.proofs.Sound.{opened_now, counted, consistent_now}
 keeps_within : (b : Inside) (sound : IsSound b) (pass : ℕ) (call : Call) (reply : Reply) (new : kept.State) → Accepts b.config b.id (entry pass call reply) b.state new
     → length (after_call b.config (state_of b.state) call).flushes ≤ length (state_of b.state).flushes
     → vec_len b.state.history + length (state_of b.state).flushes + 1 ≤ b.config.limits.history
-    → IsWithin b.config new
-keeps_within b sound pass call reply new accepts few room =
+    → length (after_call b.config (state_of b.state) call).groups ≤ b.config.limits.groups
+    → IsWithin b.config (after_call b.config (state_of b.state) call) new
+keeps_within b sound pass call reply new accepts few room groups =
     let opened = opened_then b.config b.id (entry pass call reply) b.state new accepts in
     let before = opened_now b.state in
-    (omega (arith, opened, before, few, sound.opened), omega (arith, opened, few, room, accepts.records))
+    (groups, omega (arith, opened, before, few, sound.opened), omega (arith, opened, few, room, accepts.records))
 
 module _ (b : Inside) (sound : IsSound b) (pass now : ℕ) (new : kept.State) where
   pub insert_within : (alert : AlertData) (x : Inserted) → insert_cause b.config (vec_len b.state.history) (state_of b.state) alert ≡ None
-      → Accepts b.config b.id (entry pass (Insert now alert) (replies.Inserted x)) b.state new → IsWithin b.config new
+      → Accepts b.config b.id (entry pass (Insert now alert) (replies.Inserted x)) b.state new → IsWithin b.config (after_call b.config (state_of b.state) (Insert now alert)) new
   insert_within alert x none accepts =
+      let parts = room_of b.config (vec_len b.state.history) (state_of b.state) 1 (Some HistoryFull) _ none (λ h. absurd (cc)) in
       keeps_within b sound pass (Insert now alert) (replies.Inserted x) new accepts (omega arith)
-      (room_of b.config (vec_len b.state.history) (state_of b.state) 1 (Some HistoryFull) _ none (λ h. absurd (cc))).0
+      parts.0 (few_inserted b.config (state_of b.state) (moment (state_of b.state) now) alert (is_name_too_many b.config (state_of b.state) alert) parts.1)
 
   pub silence_within : (silence : SilenceData) (x : Silenced) → silence_cause b.config (vec_len b.state.history) (state_of b.state) silence ≡ None
-      → Accepts b.config b.id (entry pass (call_of_silence now silence) (replies.Silenced x)) b.state new → IsWithin b.config new
+      → Accepts b.config b.id (entry pass (call_of_silence now silence) (replies.Silenced x)) b.state new → IsWithin b.config (after_call b.config (state_of b.state) (call_of_silence now silence)) new
   silence_within silence x none accepts =
       keeps_within b sound pass (call_of_silence now silence) (replies.Silenced x) new accepts (omega arith)
       (room_of b.config (vec_len b.state.history) (state_of b.state) 1 (Some HistoryFull) _ none (λ h. absurd (cc))).0
+      (omega (arith, few_others b.config (state_of b.state) (call_of_silence now silence) refl, sound.groups))
 
   pub maintain_within : (x : Maintained) → maintain_cause b.config (vec_len b.state.history) (state_of b.state) ≡ None
-      → Accepts b.config b.id (entry pass (Maintain now) (replies.Maintained x)) b.state new → IsWithin b.config new
+      → Accepts b.config b.id (entry pass (Maintain now) (replies.Maintained x)) b.state new → IsWithin b.config (after_call b.config (state_of b.state) (Maintain now)) new
   maintain_within x none accepts =
       keeps_within b sound pass (Maintain now) (replies.Maintained x) new accepts (omega arith)
       (room_of b.config (vec_len b.state.history) (state_of b.state) 1 (Some HistoryFull) None none (λ h. absurd (cc))).0
+      (omega (arith, few_others b.config (state_of b.state) (Maintain now) refl, sound.groups))
 
 -- ---- a begin opens a flush only where one more may be open
 
@@ -79,7 +84,7 @@ fits_taking config s t None few none = (few, omega arith)
 fits_taking config s t (Some g) few none = fits_asking config s t g (asked_of config s t g) few none
 
 pub begin_within : (b : Inside) (sound : IsSound b) (pass now : ℕ) (new : kept.State) (x : Begun) → begin_cause b.config (vec_len b.state.history) (state_of b.state) (moment (state_of b.state) now) ≡ None
-    → Accepts b.config b.id (entry pass (Begin now) (reply_of x)) b.state new → IsWithin b.config new
+    → Accepts b.config b.id (entry pass (Begin now) (reply_of x)) b.state new → IsWithin b.config (after_call b.config (state_of b.state) (Begin now)) new
 begin_within b sound pass now new x none accepts =
     let s : State = state_of b.state in
     let t : ℕ = moment s now in
@@ -88,7 +93,7 @@ begin_within b sound pass now new x none accepts =
     let few : length s.flushes ≤ b.config.limits.flushes = omega (arith, before, sound.opened) in
     let fits = fits_taking b.config s t (taken s t) few parts.1 in
     let opened = opened_then b.config b.id (entry pass (Begin now) (reply_of x)) b.state new accepts in
-    (omega (arith, opened, fits.0), omega (arith, opened, fits.1, parts.0, accepts.records))
+    (omega (arith, few_others b.config s (Begin now) refl, sound.groups), omega (arith, opened, fits.0), omega (arith, opened, fits.1, parts.0, accepts.records))
 
 -- a cause at the state that is kept is one at the state after the history
 module _ (b : Inside) (sound : IsSound b) (now : BoardData) (view_is : record { config = b.config; id = b.id; history = b.state.history.items } ≡ now) where

@@ -19,6 +19,7 @@ use Rattle.am_board.specs.Data.{NoticeData, TicketData}
 use Rattle.am_board.specs.Finish.{row_at, log_with}
 use Rattle.am_board.specs.Group.{names_of, AreRouted}
 use Rattle.am_board.specs.History.{entry}
+use Rattle.am_board.specs.GroupList.{GroupList}
 use Rattle.am_board.specs.Kept.{IsAsked, IsPrepared, Agrees, asked_state_of, flush_state, group_state, stamped, state_of}
 use Rattle.am_board.specs.LogRows.{log_rows}
 use Rattle.am_board.specs.Laws.{IsHeld, same_asked}
@@ -229,7 +230,7 @@ module _ (config : Config) (id : ℕ) (old new : kept.State) (ticket : TicketDat
         told = told;
         state = subst (λ f. Agrees (state_of new) (after_note_of config (state_of old) (moment (state_of old) now) n.integration n.outcome f)) (sym (open-there config old ticket place n found o is))
             (subst (λ b. Agrees (state_of new) (if b then after_note config (state_of old) (moment (state_of old) now) n.integration (flush_state o) else at_moment (state_of old) (moment (state_of old) now))) (sym (may-note config old ticket place n found o is)) (state d done));
-        routed = subst (λ (groups : Vec Group Global). AreRouted config.routes (names_of groups.items)) (sym done.groups) good.routed;
+        routed = subst (λ (groups : GroupList). AreRouted config.routes (names_of groups.items)) (sym done.groups) good.routed;
         prepared = subst (All (IsPrepared config new.log)) (sym done.flushes)
             (All-set (IsPrepared config new.log) old.flushes.items n.flush onew (prepared-noted config new.log o onew n.asked d there.1 done.noted (prepared-of config old.log new.log o done.keys ready)) (all_prepared config old.log new.log old.flushes.items done.keys good.prepared));
         history = done.history;

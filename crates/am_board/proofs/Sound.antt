@@ -86,15 +86,16 @@ module _ (b : Inside) (sound : IsSound b) where
         (Agrees-trans (state_of new) (after b.config (state_of b.state) r) accepts.state (after b.config replayed r) step)
 
     -- the board is sound again, where no limit is passed
-    pub sound_then : vec_len new.flushes ≤ b.config.limits.flushes → vec_len new.history + vec_len new.flushes ≤ b.config.limits.history
+    pub sound_then : length (after b.config (state_of b.state) r).groups ≤ b.config.limits.groups → vec_len new.flushes ≤ b.config.limits.flushes → vec_len new.history + vec_len new.flushes ≤ b.config.limits.history
         → IsSound (record b { state = new })
-    sound_then opened kept =
+    sound_then few opened kept =
         record {
           limits = sound.limits;
           configured = sound.configured;
           children = sound.children;
           legal = legal_then;
           agrees = agrees_then;
+          groups = subst (λ (s : State). length s.groups ≤ b.config.limits.groups) (sym accepts.state.rest) few;
           opened = opened;
           kept = kept;
           room = accepts.room;
@@ -115,6 +116,7 @@ module _ (b : Inside) (sound : IsSound b) where
           children = sound.children;
           legal = subst (IsLegal b.config b.id) (sym stays.history) sound.legal;
           agrees = subst (λ (s : State). Agrees s (replay b.config new.history.items)) (sym stays.state) (subst (λ (h : List Record). Agrees (state_of b.state) (replay b.config h)) (sym stays.history) sound.agrees);
+          groups = subst (λ (s : State). length s.groups ≤ b.config.limits.groups) (sym stays.state) sound.groups;
           opened = omega (arith, same_opened, sound.opened);
           kept = omega (arith, same_opened, stays.records, sound.kept);
           room = stays.room;
@@ -132,6 +134,7 @@ new_sound config id s configured children limits new =
       children = children;
       legal = subst (IsLegal config id) (sym new.history) tt;
       agrees = subst (λ (h : List Record). Agrees (state_of s) (replay config h)) (sym new.history) (subst (λ (x : State). Agrees x opening_state) (sym new.state) (Agrees-refl opening_state));
+      groups = subst (λ (x : State). length x.groups ≤ config.limits.groups) (sym new.state) (omega arith);
       opened = omega (arith, new.unflushed);
       kept = omega (arith, new.unflushed, new.records);
       room = omega (arith, new.unflushed, new.records);

@@ -14,6 +14,7 @@ pub record IsSound (b : Inside) : Type 0 where
   pub children : length b.config.routes.children ≤ MAX_CHILDREN
   pub legal : IsLegal b.config b.id b.state.history.items
   pub agrees : Agrees (state_of b.state) (replay b.config b.state.history.items)
+  pub groups : length (state_of b.state).groups ≤ b.config.limits.groups
   pub opened : vec_len b.state.flushes ≤ b.config.limits.flushes
   pub kept : vec_len b.state.history + vec_len b.state.flushes ≤ b.config.limits.history
   pub room : vec_len b.state.history + vec_len b.state.flushes ≤ vec_capacity b.state.history

@@ -13,9 +13,9 @@ use Rattle.am_board.specs.Group.{names_of, HasRoom}
 use Rattle.am_board.specs.Kept.{member_state, state_of}
 use Rattle.am_board.specs.State.{MemberState}
 
--- the list for a group that has to be made has room for so many
+-- the list for a group that has to be made has room for so many, and its name is there once more
 abbrev pub IsEmptyWithRoom : ℕ → Placement → Type 0
-IsEmptyWithRoom n placement = (vec_len placement.members ≡ 0) × (n ≤ vec_capacity placement.members)
+IsEmptyWithRoom n placement = (vec_len placement.members ≡ 0) × (n ≤ vec_capacity placement.members) × (placement.key ≡ placement.name)
 
 -- the group of each placement has room for so many more
 abbrev pub HaveRoom : ℕ → List Group → List Placement → Type 0
@@ -30,14 +30,14 @@ pub record IsReservedState (old new : State) : Type 0 where
   pub history : new.history.items ≡ old.history.items
   pub records : vec_len new.history ≡ vec_len old.history
   pub capacity : vec_capacity old.history ≤ vec_capacity new.history
-  pub known : vec_len new.known ≡ vec_len old.known
+  pub known : length new.known.items ≡ length old.known.items
   pub inserts : new.inserts ≡ old.inserts
 
 -- a state has room for all that an insert adds, and for the finish of each open flush
 pub record IsReadyFor (state : State) (placements : List Placement) : Type 0 where
   pub records : vec_len state.history + vec_len state.flushes + 1 ≤ vec_capacity state.history
-  pub known : vec_len state.known + 1 ≤ vec_capacity state.known
-  pub spare : vec_len state.groups + length placements ≤ vec_capacity state.groups
+  pub known : 1 ≤ state.known.room
+  pub spare : length placements ≤ state.groups.room
   pub room : HaveRoom (length placements) state.groups.items placements
 
 -- each placement is of a route of the tree

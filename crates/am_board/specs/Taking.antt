@@ -1,5 +1,5 @@
 -- What a begin goes by: the group that it takes, and how it may end.
-use Rattle.std.specs.Prelude.{◌≡◌, ℕ, ◌+◌, ◌<◌, Bool, not, ◌&&◌, nat_le, List, filter, slice_index_or, Option, Some, None, Result, Ok, Err, vec_len}
+use Rattle.std.specs.Prelude.{◌≡◌, ℕ, ◌+◌, ◌<◌, Bool, not, ◌&&◌, nat_le, List, filter, length, slice_index_or, Option, Some, None, Result, Ok, Err, vec_len}
 use Rattle.am_board.specs.declared.begin.Begun.{Begun}
 use Rattle.am_board.specs.declared.begin.Taking.{Taking}
 use Rattle.am_board.specs.declared.config.Config.{Config}
@@ -32,7 +32,7 @@ IsFirst groups (Some i) first = (d : Group) → first ≡ Some (group_state (sli
 -- a begin takes this group, at the moment of the call
 pub record IsTaking (config : Config) (s : kept.State) (taking : Taking) (g : Group) : Type 0 where
   pub moment : taking.t ≡ moment (state_of s) taking.now
-  pub place : taking.place < vec_len s.groups
+  pub place : taking.place < length s.groups.items
   pub group : (d : Group) → slice_index_or s.groups.items taking.place d ≡ g
   pub first : taken (state_of s) taking.t ≡ Some (group_state g)
   pub due : taking.due ≡ taking.t + (route_of config g.name).group_interval

@@ -22,7 +22,7 @@ ghost use Rattle.am_board.specs.declared.group.GroupName.{GroupName};
 use crate::config::Config;
 use crate::fault::Fault;
 use crate::flush::{OpenFlush, is_open};
-use crate::group::{Group, GroupName, mark_begun, take_resolved};
+use crate::group::{Group, GroupName};
 use crate::opening::{Opening, plan};
 use crate::record::{Call, Record, Reply};
 use crate::state::State;
@@ -80,7 +80,7 @@ pub(crate) fn take_group(
     let Some(place) = first_due(state.groups.as_slice(), state.flushes.as_slice(), t) else {
         return begin_nothing(state, pass, now, t);
     };
-    let due = due_again(config, state.groups[place].name.route, t);
+    let due = due_again(config, state.groups.at(place).name.route, t);
     let taking = Taking {
         pass,
         now,
@@ -120,19 +120,17 @@ fn begin_nothing(state: &mut State, pass: u32, now: u64, t: u64) -> Result<Begun
 
 /// A begin that asks nobody.
 fn begin_quiet(alloc: Global, state: &mut State, taking: Taking) -> Result<Begun, Fault>
-    requires { taking.place < vec_len state.old.groups }
+    requires { taking.place < length state.old.groups.items }
     ensures { (config : ConfigData) (id : ℕ) (g : Group) → IsGood config state.old → IsTaking config state.old taking g
         → asked_of config (state_of state.old) taking.t (group_state g) ≡ []
         → IsEnd config id taking.pass taking.now state.old state.new result }
 {
-    let name = state.groups[taking.place].name.copy(alloc)?;
+    let name = state.groups.at(taking.place).name.copy(alloc)?;
     let recorded = name.copy(alloc)?;
     state.history.reserve(state.flushes.len() + 1)?;
 
     state.clock = taking.t;
-    let group = &mut state.groups[taking.place];
-    mark_begun(group, taking.due);
-    let removed = take_resolved(group, taking.t);
+    let removed = state.groups.begin_quiet(taking.place, taking.due, taking.t);
     state.history.push_reserved(Record {
         pass: taking.pass,
         call: Call::Begin { now: taking.now },
@@ -155,7 +153,7 @@ fn begin_flush(
     taking: Taking,
     opening: Opening,
 ) -> Result<Begun, Fault>
-    requires place { taking.place < vec_len state.old.groups }
+    requires place { taking.place < length state.old.groups.items }
     requires none { vec_len opening.outcomes ≡ 0 }
     requires room { vec_len opening.notices ≤ vec_capacity opening.outcomes }
     ensures { (config : ConfigData) (g : Group) → IsGood config state.old → IsTaking config state.old taking g
@@ -168,7 +166,7 @@ fn begin_flush(
     reserve_rows(alloc, &mut state.log, &opening.flush)?;
 
     state.clock = taking.t;
-    mark_begun(&mut state.groups[taking.place], taking.due);
+    state.groups.begin(taking.place, taking.due);
     state.next_number = state.next_number.saturating_add(1);
     state.flushes.push_reserved(opening.flush);
     state.history.push_reserved(Record {

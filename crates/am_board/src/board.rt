@@ -5,6 +5,7 @@ ghost use Rattle.am_alerts.specs.Fault.{ok_unless};
 ghost use Rattle.am_board.specs.Causes.{insert_cause, silence_cause, begin_cause, maintain_cause, note_cause};
 ghost use Rattle.am_board.specs.Config.{AreAllowed, config_fault};
 ghost use Rattle.am_board.specs.History.{opening, state_at, calls_at, IsToldAt, with_record, entry, call_of_silence, reply_of, IsFresh, HandsBack, IsForeign, IsNotOpen, IsNoteOf};
+ghost use Rattle.am_board.specs.LookBack.{LooksBack};
 ghost use Rattle.am_board.specs.Replay.{IsLegal};
 ghost use Rattle.am_board.specs.State.{moment, flush_numbered};
 ghost use Rattle.am_board.specs.Step.{IsAnswer, IsNoteAnswer};
@@ -201,6 +202,7 @@ impl Board {
     pub fn history(&self) -> &[Record]
         ensures history { result.now ≡ self.now.history }
         ensures legal { IsLegal self.now.config self.now.id self.now.history }
+        ensures looks_back { LooksBack self.now.config self.now.history }
         ensures within { length self.now.history ≤ self.now.config.limits.history }
     {
         self.state.history.as_slice()

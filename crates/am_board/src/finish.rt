@@ -17,7 +17,8 @@ ghost use Rattle.am_board.specs.declared.config.Config.{Config as ConfigData};
 ghost use Rattle.am_board.specs.declared.views.RowView.{RowView};
 
 use crate::flush::{Asked, Leaving, OpenFlush, Told};
-use crate::group::{Group, GroupName, Member, find_group};
+use crate::group::{Group, GroupName, Member};
+use crate::groups::Groups;
 use crate::record::{Call, Finished, Record, Reply};
 use crate::state::State;
 use crate::ticket::outcome_of;
@@ -134,7 +135,7 @@ pub(crate) fn put_told(
 
 /// Takes the alerts that were resolved at the begin out of their group if every integration that was
 /// asked succeeded, and answers how many.
-fn take_out(groups: &mut Vec<Group>, flush: &OpenFlush, outcomes: &[(u32, Outcome)]) -> usize
+fn take_out(groups: &mut Groups, flush: &OpenFlush, outcomes: &[(u32, Outcome)]) -> usize
     ensures names { names_of groups.new.items ≡ names_of groups.old.items }
     ensures groups { IsDistinct same_group (map group_state groups.old.items)
         → map group_state groups.new.items ≡ changed_where (is_named flush.now.group) (finished_group outcomes.now (flush_state flush.now)) (map group_state groups.old.items) }
@@ -143,15 +144,15 @@ fn take_out(groups: &mut Vec<Group>, flush: &OpenFlush, outcomes: &[(u32, Outcom
     if !have_succeeded(flush.asked.as_slice(), outcomes) {
         return 0;
     }
-    match find_group(groups.as_slice(), &flush.group) {
+    match groups.find(&flush.group) {
         None => 0,
-        Some(i) => take_leaving(&mut groups[i], flush.leaving.as_slice()),
+        Some(i) => groups.take_leaving(i, flush.leaving.as_slice()),
     }
 }
 
 /// Takes the alerts out of a group that stand there as they did when they were found resolved, and
 /// answers how many.
-fn take_leaving(group: &mut Group, leaving: &[Leaving]) -> usize
+pub(crate) fn take_leaving(group: &mut Group, leaving: &[Leaving]) -> usize
     ensures group { group_state group.new ≡ record (group_state group.old) { members = without (is_leaving (map stamped leaving.now)) (map member_state group.old.members.items) } }
     ensures count { result ≡ count_by (is_leaving (map stamped leaving.now)) (map member_state group.old.members.items) }
 {

@@ -1,12 +1,11 @@
 //! Aggregation groups.
-ghost use Rattle.std.specs.Prelude.{◌≡◌, ℕ, ◌+◌, ◌<◌, ◌≤◌, ◌↔◌, ◌&&◌, length, map, min, nat_lt, not, position, slice_index_or, true, if◌then◌else◌, vec_len, vec_capacity, IfOk, IfSome, OnOk, IsTrue};
+ghost use Rattle.std.specs.Prelude.{◌≡◌, ◌+◌, ◌<◌, ◌≤◌, ◌&&◌, length, map, min, nat_lt, not, position, true, if◌then◌else◌, vec_len, vec_capacity, IfOk, IfSome, OnOk};
 ghost use Rattle.am_alerts.specs.Labels.{same_label_set};
 ghost use Rattle.am_board.specs.Begin.{count_resolved, without_resolved};
-ghost use Rattle.am_board.specs.Group.{names_of, HasRoom, Fits, IsReserved};
+ghost use Rattle.am_board.specs.Group.{Fits, IsReserved};
 ghost use Rattle.am_board.specs.Insert.{same_member, wait_of, group_with};
 ghost use Rattle.am_board.specs.Kept.{member_state, group_state};
 ghost use Rattle.am_board.specs.Lists.{put_in};
-ghost use Rattle.am_board.specs.State.{same_name};
 ghost use Rattle.am_board.specs.declared.config.Config.{Config};
 
 use am_alerts::alert::Alert;
@@ -113,49 +112,12 @@ pub(crate) fn position_of(members: &[Member], labels: &Labels) -> Option<usize>
         .position(|member| *labels == *member.alert.labels())
 }
 
-/// Whether two groups have one name.
-pub(crate) fn is_same(one: &GroupName, other: &GroupName) -> bool
-    ensures test { result ≡ same_name one.now other.now }
-    ensures told { IsTrue result ↔ (one.now ≡ other.now) }
-{
-    *one == *other
-}
-
-/// The place of the group of this name.
-pub(crate) fn find_group(groups: &[Group], name: &GroupName) -> Option<usize>
-    ensures place { result ≡ position (λ g. same_name name.now g.name) groups.now }
-    ensures within { IfSome result (λ i. i < length groups.now) }
-    ensures named { IfSome result (λ i. (d : Group) → (slice_index_or groups.now i d).name ≡ name.now) }
-{
-    groups.iter().position(|group| is_same(name, &group.name))
-}
-
-/// Makes room for so many more alerts in a group, if it has this name.
-fn reserve_if_named(group: &mut Group, name: &GroupName, more: usize) -> Result<(), AllocError>
+/// Makes room for so many more alerts in a group.
+pub(crate) fn reserve_members(group: &mut Group, more: usize) -> Result<(), AllocError>
     ensures kept { IsReserved group.old group.new }
-    ensures room { OnOk result (group.old.name ≡ name.now → Fits more group.new) }
+    ensures room { OnOk result (Fits more group.new) }
 {
-    if is_same(&group.name, name) {
-        group.members.reserve(more)?;
-    }
-    Ok(())
-}
-
-/// Makes room for so many more alerts in the group of this name.
-pub(crate) fn reserve_named(
-    groups: &mut [Group],
-    name: &GroupName,
-    more: usize,
-) -> Result<(), AllocError>
-    ensures names { names_of groups.new ≡ names_of groups.old }
-    ensures states { map group_state groups.new ≡ map group_state groups.old }
-    ensures room { OnOk result (HasRoom more name.now groups.new) }
-    ensures others { (n : ℕ) (other : GroupName) → HasRoom n other groups.old → HasRoom n other groups.new }
-{
-    for group in groups.iter_mut() {
-        reserve_if_named(group, name, more)?;
-    }
-    Ok(())
+    group.members.reserve(more)
 }
 
 /// A group that was taken is due at this moment again.

@@ -6,7 +6,6 @@ ghost use Rattle.am_board.specs.Causes.{insert_cause, is_full, is_name_too_many}
 ghost use Rattle.am_board.specs.History.{entry};
 ghost use Rattle.am_board.specs.Insert.{same_alert, put_into_group, names_for, after_insert};
 ghost use Rattle.am_board.specs.Kept.{state_of, member_state, group_state};
-ghost use Rattle.am_board.specs.Lists.{put_in};
 ghost use Rattle.am_board.specs.Step.{IsGood, Accepts, Stays, IsAnswer};
 ghost use Rattle.am_board.specs.Placement.{IsReservedState, IsReadyFor, IsEmptyWithRoom, HaveRoom, AreRoutedPlacements, IsPlacementOf, name_at, stamped_alert};
 ghost use Rattle.am_board.specs.State.{MemberState, same_name};
@@ -16,10 +15,12 @@ ghost use Rattle.am_board.specs.declared.group.GroupName.{GroupName};
 
 use crate::config::Config;
 use crate::fault::Fault;
-use crate::group::{Group, GroupName, Member, find_group, reserve_named};
+use crate::group::{Group, GroupName, Member};
+use crate::groups::Groups;
 use crate::record::{Call, Inserted, Record, Reply};
-use crate::state::{State, find_known};
+use crate::state::State;
 use am_alerts::alert::Alert;
+use am_alerts::labels::Labels;
 use am_alerts::route::Routes;
 use std::alloc::{AllocError, Global};
 
@@ -27,6 +28,8 @@ use std::alloc::{AllocError, Global};
 #[derive(Debug, Drop)]
 pub(crate) struct Placement {
     pub(crate) name: GroupName,
+    /// The name once more, for a group that has to be made to stand under.
+    pub(crate) key: GroupName,
     pub(crate) member: Member,
     /// How long the group waits for its first flush, in milliseconds.
     pub(crate) wait: u64,
@@ -53,10 +56,11 @@ pub(crate) fn put_alert(
     let t = state.moment(now);
     let stamp = state.inserts + 1;
     let placements = prepare_all(alloc, &config.routes, &alert, stamp)?;
-    let made = count_missing(state.groups.as_slice(), placements.as_slice());
+    let made = count_missing(&state.groups, placements.as_slice());
     if state.groups.len() + made > config.limits.groups {
         return Err(Fault::TooManyGroups);
     }
+    let labels = alert.labels().copy(alloc)?;
     let copy = alert.copy(alloc)?;
     reserve_insert(state, placements.as_slice())?;
 
@@ -65,7 +69,7 @@ pub(crate) fn put_alert(
         groups: placements.len(),
         made,
     };
-    put_prepared(state, t, known, copy, placements);
+    put_prepared(state, t, known, labels, copy, placements);
     let call = Call::Insert { now, alert };
     let reply = Reply::Inserted(inserted);
     state.history.push_reserved(Record { pass, call, reply });
@@ -76,7 +80,7 @@ pub(crate) fn put_alert(
 /// for a record, or where the labels are new and no more may be known.
 fn find_place(config: &Config, state: &State, alert: &Alert) -> Result<Option<usize>, Fault>
     ensures place { IfOk result (λ place. place ≡ position (same_alert alert.now) state.now.known.items) }
-    ensures within { IfOk result (λ place. IfSome place (λ i. i < vec_len state.now.known)) }
+    ensures within { IfOk result (λ place. IfSome place (λ i. i < length state.now.known.items)) }
     ensures room { OnOk result (is_full config.now (vec_len state.now.history) (state_of state.now) 1 ≡ false) }
     ensures names { OnOk result (is_name_too_many config.now (state_of state.now) alert.now ≡ false) }
     ensures refused { IfErr result (IsAnswer (insert_cause config.now (vec_len state.now.history) (state_of state.now) alert.now)) }
@@ -84,7 +88,7 @@ fn find_place(config: &Config, state: &State, alert: &Alert) -> Result<Option<us
     if !state.has_room(1, config.limits.history) {
         return Err(Fault::HistoryFull);
     }
-    let place = find_known(state.known.as_slice(), alert.labels());
+    let place = state.known.find(alert.labels());
     if place.is_none() && state.known.len() >= config.limits.names {
         return Err(Fault::TooManyNames);
     }
@@ -96,11 +100,13 @@ fn put_prepared(
     state: &mut State,
     t: u64,
     known: Option<usize>,
+    labels: Labels,
     alert: Alert,
     placements: Vec<Placement>,
 )
+    requires labels { labels ≡ alert.labels }
     requires place { known ≡ position (same_alert alert) state.old.known.items }
-    requires within { IfSome known (λ i. i < vec_len state.old.known) }
+    requires within { IfSome known (λ i. i < length state.old.known.items) }
     requires inserts { state.old.inserts ≤ vec_len state.old.history }
     requires ready { IsReadyFor state.old placements.items }
     requires empty { All (IsEmptyWithRoom (vec_len placements)) placements.items }
@@ -112,7 +118,7 @@ fn put_prepared(
 {
     state.clock = t;
     state.inserts += 1;
-    keep_known(&mut state.known, known, alert);
+    state.known.put(known, labels, alert);
     place_all(&mut state.groups, placements, t);
 }
 
@@ -164,8 +170,10 @@ fn prepare(
 {
     let labels = routes.group_labels(alloc, route, alert.labels())?;
     let alert = alert.copy(alloc)?;
+    let name = GroupName { route, labels };
     Ok(Placement {
-        name: GroupName { route, labels },
+        key: name.copy(alloc)?,
+        name,
         member: Member { alert, stamp },
         wait: routes.route(route).group_wait,
         members: Vec::with_capacity(alloc, room)?,
@@ -173,46 +181,32 @@ fn prepare(
 }
 
 /// How many of these placements are of groups that aren't there.
-fn count_missing(groups: &[Group], placements: &[Placement]) -> usize
-    ensures { result ≡ count_by (λ p. is_none (position (λ g. same_name p.name g.name) groups.now)) placements.now }
+fn count_missing(groups: &Groups, placements: &[Placement]) -> usize
+    ensures { result ≡ count_by (λ p. is_none (position (λ g. same_name p.name g.name) groups.now.items)) placements.now }
 {
     placements
         .iter()
-        .filter(|placement| find_group(groups, &placement.name).is_none())
+        .filter(|placement| groups.find(&placement.name).is_none())
         .count()
 }
 
 /// Makes room for so many more alerts in each group of these placements.
-fn reserve_all(groups: &mut Vec<Group>, placements: &[Placement]) -> Result<(), AllocError>
+fn reserve_all(groups: &mut Groups, placements: &[Placement]) -> Result<(), AllocError>
     ensures names { names_of groups.new.items ≡ names_of groups.old.items }
     ensures states { map group_state groups.new.items ≡ map group_state groups.old.items }
-    ensures len { vec_len groups.new ≡ vec_len groups.old }
-    ensures capacity { vec_capacity groups.new ≡ vec_capacity groups.old }
+    ensures spare { groups.new.room ≡ groups.old.room }
     ensures room { OnOk result (HaveRoom (length placements.now) groups.new.items placements.now) }
 {
     let more = placements.len();
     for placement in placements {
-        reserve_named(groups.as_mut_slice(), &placement.name, more)?;
+        groups.reserve_named(&placement.name, more)?;
     }
     Ok(())
 }
 
-/// Puts an alert in place of the one that is known at a place, or adds it.
-fn keep_known(known: &mut Vec<Alert>, place: Option<usize>, alert: Alert)
-    requires place { place ≡ position (same_alert alert) known.old.items }
-    requires within { IfSome place (λ i. i < vec_len known.old) }
-    requires room { vec_len known.old < vec_capacity known.old }
-    ensures { known.new.items ≡ put_in same_alert alert known.old.items }
-{
-    match place {
-        Some(i) => known[i] = alert,
-        None => known.push_reserved(alert),
-    }
-}
-
 /// Puts each placement into its group, in their order.
-fn place_all(groups: &mut Vec<Group>, mut placements: Vec<Placement>, t: u64)
-    requires spare { vec_len groups.old + vec_len placements ≤ vec_capacity groups.old }
+fn place_all(groups: &mut Groups, mut placements: Vec<Placement>, t: u64)
+    requires spare { vec_len placements ≤ groups.old.room }
     requires room { HaveRoom (vec_len placements) groups.old.items placements.items }
     requires ready { All (IsEmptyWithRoom (vec_len placements)) placements.items }
     ensures routed { (tree : RoutingTree) → AreRouted tree (names_of groups.old.items) → AreRoutedPlacements tree placements.items → AreRouted tree (names_of groups.new.items) }
@@ -225,21 +219,17 @@ fn place_all(groups: &mut Vec<Group>, mut placements: Vec<Placement>, t: u64)
 }
 
 /// Puts a placement into its group, which is made if it is missing.
-fn place(groups: &mut Vec<Group>, placement: Placement, t: u64)
-    requires spare { vec_len groups.old < vec_capacity groups.old }
+fn place(groups: &mut Groups, placement: Placement, t: u64)
+    requires spare { 0 < groups.old.room }
     requires room { HasRoom 1 placement.name groups.old.items }
     requires ready { IsEmptyWithRoom 1 placement }
-    ensures len { vec_len groups.new ≤ vec_len groups.old + 1 }
-    ensures capacity { vec_capacity groups.new ≡ vec_capacity groups.old }
+    ensures spare { groups.old.room ≤ groups.new.room + 1 }
     ensures names { AddsAtMost (names_of groups.old.items) placement.name (names_of groups.new.items) }
     ensures others { (n : ℕ) (name : GroupName) → IsEmptyWithRoom (suc n) placement → HasRoom (suc n) name groups.old.items → HasRoom n name groups.new.items }
     ensures state { (config : Config) (m : MemberState) → t ≤ MAX_MOMENT → IsPlacementOf config.routes m placement → map group_state groups.new.items ≡ put_into_group config t m (map group_state groups.old.items) placement.name }
 {
-    match find_group(groups.as_slice(), &placement.name) {
-        Some(i) => {
-            let group = &mut groups[i];
-            group.insert(placement.member, placement.wait, t);
-        }
+    match groups.find(&placement.name) {
+        Some(i) => groups.insert(i, placement.member, placement.wait, t),
         None => {
             let mut group = Group {
                 name: placement.name,
@@ -248,7 +238,7 @@ fn place(groups: &mut Vec<Group>, placement: Placement, t: u64)
                 members: placement.members,
             };
             group.insert(placement.member, placement.wait, t);
-            groups.push_reserved(group);
+            groups.add(placement.key, group);
         }
     }
 }

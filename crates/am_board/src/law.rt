@@ -1,5 +1,6 @@
 //! Laws of histories.
 ghost use Rattle.am_board.specs.Laws.{ReplayAppends, LegalAppends, ClockIsMoment, LegalKeeps};
+ghost use Rattle.am_board.specs.LookBack.{AlertsAreFound, RowsAreFound, RowsWereTold, RefiringAlertsStay, FlushesEndOnce, BeginsAskRightly, HistoriesLookBack};
 
 /// What the definitions of the sequential dispatcher say of a history with one record more: its
 /// state is the one after that record, it is legal where the history before is and the record's
@@ -16,4 +17,35 @@ pub fn histories_go_record_by_record()
 /// last begin.
 pub fn legal_histories_are_consistent()
     ensures { LegalKeeps }
+{}
+
+/// Which alerts are in which group after a legal history, read off the history from its end.
+pub fn looking_back_finds_alerts()
+    ensures { AlertsAreFound }
+{}
+
+/// Which rows the log has after a legal history, read off the history from its end, and for what each stands.
+pub fn looking_back_finds_rows()
+    ensures found { RowsAreFound }
+    ensures told { RowsWereTold }
+{}
+
+/// An alert that fires again while a flush of its group is open stays in the group.
+pub fn refiring_alerts_stay()
+    ensures { RefiringAlertsStay }
+{}
+
+/// Each flush has one begin and at most one finish, and its group isn't taken before.
+pub fn flushes_end_once()
+    ensures { FlushesEndOnce }
+{}
+
+/// A begin asks exactly the integrations that the history before it says.
+pub fn begins_ask_rightly()
+    ensures { BeginsAskRightly }
+{}
+
+/// What looking back says of every legal history, all of it.
+pub fn legal_histories_look_back()
+    ensures { HistoriesLookBack }
 {}

@@ -1,17 +1,12 @@
 //! Maintenance.
-ghost use Rattle.std.specs.Prelude.{◌≡◌, ℕ, None, MatchResult, map, count_by, vec_len};
-ghost use Rattle.am_alerts.specs.RoutingTree.{RoutingTree};
+ghost use Rattle.std.specs.Prelude.{◌≡◌, ℕ, None, MatchResult, vec_len};
 ghost use Rattle.am_board.specs.Causes.{maintain_cause};
-ghost use Rattle.am_board.specs.Group.{names_of, AreRouted};
 ghost use Rattle.am_board.specs.History.{entry};
-ghost use Rattle.am_board.specs.Kept.{state_of, group_state};
-ghost use Rattle.am_board.specs.Lists.{without};
+ghost use Rattle.am_board.specs.Kept.{state_of};
 ghost use Rattle.am_board.specs.Step.{IsGood, Accepts, Stays, IsAnswer};
-ghost use Rattle.am_board.specs.Upkeep.{is_deserted};
 
 use crate::config::Config;
 use crate::fault::Fault;
-use crate::group::Group;
 use crate::record::{Call, Maintained, Record, Reply};
 use crate::state::State;
 
@@ -35,29 +30,11 @@ pub(crate) fn sweep(
     let t = state.moment(now);
     state.clock = t;
     let maintained = Maintained {
-        groups: drop_deserted(&mut state.groups),
+        groups: state.groups.drop_deserted(),
         entries: state.log.collect(t),
     };
     let call = Call::Maintain { now };
     let reply = Reply::Maintained(maintained);
     state.history.push_reserved(Record { pass, call, reply });
     Ok(maintained)
-}
-
-/// Removes the groups without alerts, and answers how many.
-fn drop_deserted(groups: &mut Vec<Group>) -> usize
-    ensures groups { map group_state groups.new.items ≡ without is_deserted (map group_state groups.old.items) }
-    ensures count { result ≡ count_by is_deserted (map group_state groups.old.items) }
-    ensures routed { (tree : RoutingTree) → AreRouted tree (names_of groups.old.items) → AreRouted tree (names_of groups.new.items) }
-{
-    let before = groups.len();
-    groups.retain(|group| !is_deserted(group));
-    before - groups.len()
-}
-
-/// Whether a group has no alerts.
-fn is_deserted(group: &Group) -> bool
-    ensures { result ≡ is_deserted (group_state group.now) }
-{
-    group.members.is_empty()
 }

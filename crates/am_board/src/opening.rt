@@ -48,11 +48,11 @@ pub(crate) fn plan(
     taking: Taking,
 ) -> Result<Option<Opening>, Fault>
     requires good { IsGood config.now state.now }
-    requires place { taking.place < vec_len state.now.groups }
+    requires place { taking.place < length state.now.groups.items }
     requires moment { taking.t ≤ MAX_MOMENT }
     ensures { (d : Group) → IsPlan config.now id (vec_len state.now.flushes) (state_of state.now) taking.t (group_state (slice_index_or state.now.groups.items taking.place d)) result }
 {
-    let group = &state.groups[taking.place];
+    let group = state.groups.at(taking.place);
     plan_of(alloc, config, id, state, group, taking.t)
 }
 

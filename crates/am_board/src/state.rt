@@ -1,12 +1,12 @@
 //! What a dispatcher holds.
-ghost use Rattle.std.specs.Prelude.{◌≡◌, ◌+◌, ◌<◌, ◌≤◌, ◌↔◌, [], length, IsTrue, IfSome, IsOkAnd, max, min, position, vec_len};
-ghost use Rattle.am_alerts.specs.Labels.{same_label_set};
+ghost use Rattle.std.specs.Prelude.{◌≡◌, ◌+◌, ◌≤◌, ◌↔◌, IsTrue, IsOkAnd, max, min, vec_len};
 ghost use Rattle.am_board.specs.Kept.{IsNew};
 
 use crate::flush::OpenFlush;
-use crate::group::{Group, GroupName};
+use crate::group::GroupName;
+use crate::groups::Groups;
+use crate::known::Known;
 use crate::record::Record;
-use am_alerts::alert::Alert;
 use am_alerts::labels::Labels;
 use am_alerts::limits::MAX_MOMENT;
 use am_mute::silence::Silence;
@@ -19,8 +19,8 @@ pub(crate) struct State {
     pub(crate) clock: u64,
     /// How many inserts there were.
     pub(crate) inserts: u64,
-    pub(crate) known: Vec<Alert>,
-    pub(crate) groups: Vec<Group>,
+    pub(crate) known: Known,
+    pub(crate) groups: Groups,
     pub(crate) silences: Vec<Silence>,
     pub(crate) log: NfLog<GroupName, Labels>,
     pub(crate) flushes: Vec<OpenFlush>,
@@ -38,8 +38,8 @@ impl State {
         Ok(State {
             clock: 0,
             inserts: 0,
-            known: Vec::new(alloc),
-            groups: Vec::new(alloc),
+            known: Known::new(alloc),
+            groups: Groups::new(alloc),
             silences: Vec::new(alloc),
             log: NfLog::new(alloc)?,
             flushes: Vec::new(alloc),
@@ -62,12 +62,4 @@ impl State {
     {
         self.clock.max(now.min(MAX_MOMENT))
     }
-}
-
-/// The place of the known alert with these labels.
-pub(crate) fn find_known(known: &[Alert], labels: &Labels) -> Option<usize>
-    ensures place { result ≡ position (λ a. same_label_set labels.now a.labels) known.now }
-    ensures within { IfSome result (λ i. i < length known.now) }
-{
-    known.iter().position(|alert| *labels == *alert.labels())
 }

@@ -59,7 +59,8 @@ pub struct Summary {
 impl Board {
     /// How much there is. Takes no memory.
     pub fn summary(&self) -> Summary
-        ensures { summary_data result ≡ summary self.now.config self.now.history }
+        ensures summary { summary_data result ≡ summary self.now.config self.now.history }
+        ensures within { (result.groups ≤ self.now.config.limits.groups) × (result.flushes ≤ self.now.config.limits.flushes) }
     {
         summary_of(&self.state)
     }

@@ -1,5 +1,4 @@
 use Rattle.std.proofs.Common.{◌≡◌, ◌+◌, [], ◌∷◌, ◌++◌, refl, ap, ◌∙◌, arith}
-use Rattle.std.specs.Vec.{with_item}
 use Rattle.am_board.specs.History.{entry}
 use Rattle.am_board.specs.declared.record.Call.TheVariants.{Begin}
 use Rattle.am_board.specs.declared.record.Reply.TheVariants.{Flush}
@@ -16,10 +15,11 @@ pub returns : goal.returns
 returns c config g good takes some opening =
     let old = c.args.state.now in
     let o = c.args.opening in
-    let begun = begun_kept config c.args.id old c.args.taking g good takes c.mark_begun.new.group c.index_mut.result.now c.index_mut.ensures.value c.mark_begun.ensures in
+    let group = c.begin.ensures in
+    let begun = begun_kept config c.args.id old c.args.taking g good takes group.to group.from group.was group.changed in
     let next : c.saturating_add-state.result ≡ old.next_number + 1 = omega (arith, c.saturating_add-state.ensures, good.numbers, c.in_ok-reserve.ensures.ok, c.in_ok-reserve.ensures.len, c.reserve.new.self.small) in (
-      accepts_flush config c.args.id old c.args.taking g good takes c.mark_begun.new.group o _ some opening begun
-          (ap (λ n. record old { clock = c.args.taking.t; groups = with_item old.groups c.args.taking.place c.mark_begun.new.group; log = c.reserve_rows.new.log; flushes = c.push_reserved.new.self; next_number = n; history = c.push_reserved-2.new.self }) next)
+      accepts_flush config c.args.id old c.args.taking g good takes group.to o _ some opening begun group.items
+          (ap (λ n. record old { clock = c.args.taking.t; groups = c.begin.new.self; log = c.reserve_rows.new.log; flushes = c.push_reserved.new.self; next_number = n; history = c.push_reserved-2.new.self }) next)
           c.reserve_rows.ensures.rows c.reserve_rows.ensures.known c.in_ok-reserve_rows.ensures.asked
           (c.push_reserved.ensures.items ∙ ap (λ fs. fs ++ o.flush ∷ []) c.in_ok-reserve-2.ensures.items)
           (c.push_reserved-2.ensures.items ∙ ap (λ rs. rs ++ entry c.args.taking.pass (Begin c.args.taking.now) (Flush o.number o.recorded_group o.deadline o.recorded_notices) ∷ []) c.in_ok-reserve.ensures.items)

@@ -10,23 +10,23 @@ use Rattle.am_board.specs.Taking.{IsTaking}
 use Rattle.am_board.proofs.BeginCauses.{told, taken-none, cause-closed, cause-few, cause-quiet, planned_none, planned_some, planned_err, stays_same, taking_found}
 use Rattle.am_board.proofs.GroupNames.{routed_at}
 use Rattle.am_board.proofs.begin.take_group.Goals as goal
-use Rattle.am_board.proofs.begin.take_group.Goals.{After-index, After-due_again-due, In-Some-2}
+use Rattle.am_board.proofs.begin.take_group.Goals.{After-at, After-due_again-due, In-Some-2}
 
-within : (c : After-index) → c.in-Some.place < length c.args.state.now.groups.items
+within : (c : After-at) → c.in-Some.place < length c.args.state.now.groups.items
 within c = omega (arith, c.in-Some.ensures.within, ap (λ (gs : List Group). length gs) c.as_slice.ensures.value)
 
 pub due_again-due-requires-clause-route : goal.due_again-due-requires-clause-route
 due_again-due-requires-clause-route c =
-    routed_at c.args.config.now.routes c.args.state.now.groups.items c.in-Some.place c.index.result.now c.requires.good.routed (within c) c.index.ensures
+    routed_at c.args.config.now.routes c.args.state.now.groups.items c.in-Some.place c.at.result.now c.requires.good.routed (within c) c.at.ensures
 
 -- the group that the begin takes
 abbrev taking : (c : After-due_again-due) → Taking
 taking c = record { pass = c.args.pass; now = c.args.now; t = c.moment-t.result; place = c.in-Some.place; due = c.due_again-due.result }
 
-takes : (c : After-due_again-due) → IsTaking c.args.config.now c.args.state.now (taking c) c.index.result.now
+takes : (c : After-due_again-due) → IsTaking c.args.config.now c.args.state.now (taking c) c.at.result.now
 takes c =
-    taking_found c.args.config.now c.args.state.now (taking c) c.index.result.now c.as_slice.result.now c.as_slice-2.result.now c.as_slice.ensures.value c.as_slice-2.ensures.value
-    c.moment-t.ensures c.in-Some.ensures.within (c.in-Some.ensures.first c.index.result.now) c.index.ensures c.due_again-due.ensures
+    taking_found c.args.config.now c.args.state.now (taking c) c.at.result.now c.as_slice.result.now c.as_slice-2.result.now c.as_slice.ensures.value c.as_slice-2.ensures.value
+    c.moment-t.ensures c.in-Some.ensures.within (c.in-Some.ensures.first c.at.result.now) c.at.ensures c.due_again-due.ensures
 
 pub returns-in_default : goal.returns-in_default
 returns-in_default c =
@@ -42,12 +42,12 @@ returns-in_err-plan c =
     let at = (goal.at.returns-in_err-plan c).After-due_again-due in
     let p = err_from_is_err_and c.from_residual.result c.from_residual.ensures.1 in
     rw (p.1, p.2)
-    (planned_err c.args.config.now c.args.id c.args.state.now (taking at) c.index.result.now (takes at) (c.has_room.ensures.0 c.if-not-has_room.false) c.in_err-plan.field-0.0 c.in_err-plan.ensures, stays_same c.args.config.now c.args.state.now c.requires.good)
+    (planned_err c.args.config.now c.args.id c.args.state.now (taking at) c.at.result.now (takes at) (c.has_room.ensures.0 c.if-not-has_room.false) c.in_err-plan.field-0.0 c.in_err-plan.ensures, stays_same c.args.config.now c.args.state.now c.requires.good)
 
 -- the flush that is opened, where the begin takes the group
-opened : (c : In-Some-2) → IsTaking c.args.config.now c.args.state.now (record { pass = c.args.pass; now = c.args.now; t = c.moment-t.result; place = c.in-Some.place; due = c.due_again-due.result }) c.index.result.now
-    → IsPlan c.args.config.now c.args.id (vec_len c.args.state.now.flushes) (state_of c.args.state.now) c.moment-t.result (group_state c.index.result.now) (Ok (Some c.in-Some-2.opening))
-opened c takes = planned_some c.args.config.now c.args.id c.args.state.now _ c.index.result.now takes c.in_ok-plan.field-0 c.in-Some-2.opening c.in_ok-plan.ensures c.in-Some-2.is
+opened : (c : In-Some-2) → IsTaking c.args.config.now c.args.state.now (record { pass = c.args.pass; now = c.args.now; t = c.moment-t.result; place = c.in-Some.place; due = c.due_again-due.result }) c.at.result.now
+    → IsPlan c.args.config.now c.args.id (vec_len c.args.state.now.flushes) (state_of c.args.state.now) c.moment-t.result (group_state c.at.result.now) (Ok (Some c.in-Some-2.opening))
+opened c takes = planned_some c.args.config.now c.args.id c.args.state.now _ c.at.result.now takes c.in_ok-plan.field-0 c.in-Some-2.opening c.in_ok-plan.ensures c.in-Some-2.is
 
 pub begin_flush-requires-clause-none : goal.begin_flush-requires-clause-none
 begin_flush-requires-clause-none c =
@@ -64,10 +64,10 @@ returns-in-None c =
     let config = c.args.config.now in
     let s = c.args.state.now in
     let at = (goal.at.returns-in-None c).After-due_again-due in
-    let none = planned_none config c.args.id s (taking at) c.index.result.now (takes at) c.in_ok-plan.field-0 c.in_ok-plan.ensures c.in-None.is in
-    let cause = cause-quiet config c.args.id s (taking at) c.index.result.now (takes at) (c.has_room.ensures.0 c.if-not-has_room.false) none in
+    let none = planned_none config c.args.id s (taking at) c.at.result.now (takes at) c.in_ok-plan.field-0 c.in_ok-plan.ensures c.in-None.is in
+    let cause = cause-quiet config c.args.id s (taking at) c.at.result.now (takes at) (c.has_room.ensures.0 c.if-not-has_room.false) none in
     told config c.args.id c.args.pass c.args.now s c.begin_quiet.new.state (begin_cause config (vec_len s.history) (state_of s) (moment (state_of s) c.args.now)) c.begin_quiet.result cause
-    (c.begin_quiet.ensures config c.args.id c.index.result.now c.requires.good (takes at) none)
+    (c.begin_quiet.ensures config c.args.id c.at.result.now c.requires.good (takes at) none)
 
 pub returns-in-Some-2 : goal.returns-in-Some-2
 returns-in-Some-2 c =
@@ -77,4 +77,4 @@ returns-in-Some-2 c =
     let plan = opened (goal.at.returns-in-Some-2 c).In-Some-2 (takes at) in
     let cause = cause-few config s c.args.now c.moment-t.result c.moment-t.ensures (c.has_room.ensures.0 c.if-not-has_room.false) plan.1 in
     told config c.args.id c.args.pass c.args.now s c.begin_flush.new.state (begin_cause config (vec_len s.history) (state_of s) (moment (state_of s) c.args.now)) c.begin_flush.result cause
-    (c.begin_flush.ensures config c.index.result.now c.requires.good (takes at) plan.0 plan.2)
+    (c.begin_flush.ensures config c.at.result.now c.requires.good (takes at) plan.0 plan.2)

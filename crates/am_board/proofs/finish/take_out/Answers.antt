@@ -2,6 +2,7 @@ use Rattle.std.proofs.Common.{◌≡◌, ◌∙◌, true, false, Some, None, Lis
 use Rattle.std.specs.Prelude.{position}
 use Rattle.std.specs.List.{list_all}
 use Rattle.am_board.specs.Finish.{has_succeeded, leaves_by, finished_group, is_leaving}
+use Rattle.am_board.specs.Group.{names_of}
 use Rattle.am_board.specs.Kept.{asked_state_of, member_state, group_state, flush_state, stamped}
 use Rattle.am_board.specs.State.{GroupState, same_name, members_in}
 use Rattle.am_board.specs.Lists.{without}
@@ -26,43 +27,44 @@ returns-then-not-have_succeeded-clause-count c =
 pub returns-in-None-clause-groups : goal.returns-in-None-clause-groups
 returns-in-None-clause-groups c distinct =
     let at : position (λ g. same_name c.args.flush.now.group g.name) c.args.groups.now.items ≡ None =
-    ap (position (λ (g : Group). same_name c.args.flush.now.group g.name)) (sym c.as_slice-2.ensures.value) ∙ sym c.in-None.ensures.place in
+    sym c.in-None.ensures.place in
     sym (changed-missing c.args.flush.now.group c.args.groups.now.items (finished_group c.args.outcomes.now (flush_state c.args.flush.now)) at)
 
 pub returns-in-None-clause-count : goal.returns-in-None-clause-count
 returns-in-None-clause-count c =
     let at : position (λ g. same_name c.args.flush.now.group g.name) c.args.groups.now.items ≡ None =
-    ap (position (λ (g : Group). same_name c.args.flush.now.group g.name)) (sym c.as_slice-2.ensures.value) ∙ sym c.in-None.ensures.place in
+    sym c.in-None.ensures.place in
     sym (ap (count_by (leaves_by c.args.outcomes.now (flush_state c.args.flush.now))) (members-missing c.args.flush.now.group c.args.groups.now.items at))
 
 pub returns-in-Some-clause-names : goal.returns-in-Some-clause-names
 returns-in-Some-clause-names c =
-    names_set c.args.groups.now.items c.in-Some.i c.take_leaving.new.group c.index_mut.result.now
-    (ap (λ (g : GroupState). g.name) c.take_leaving.ensures.group ∙ ap (λ (g : Group). g.name) c.index_mut.ensures.value)
+    let group = c.take_leaving.ensures.group in
+    ap names_of group.items ∙ names_set c.args.groups.now.items c.in-Some.i group.to group.from (group.name ∙ ap (λ (g : Group). g.name) group.was)
 
 pub returns-in-Some-clause-groups : goal.returns-in-Some-clause-groups
 returns-in-Some-clause-groups c distinct =
     let gs = c.args.groups.now.items in
-    let d = c.index_mut.result.now in
+    let group = c.take_leaving.ensures.group in
     let at : position (λ g. same_name c.args.flush.now.group g.name) c.args.groups.now.items ≡ Some c.in-Some.i =
-    ap (position (λ (g : Group). same_name c.args.flush.now.group g.name)) (sym c.as_slice-2.ensures.value) ∙ sym c.in-Some.ensures.place in
+    sym c.in-Some.ensures.place in
     let succeeded : list_all (λ a. has_succeeded c.args.outcomes.now (asked_state_of a)) c.args.flush.now.asked.items ≡ true =
     ap (list_all (λ a. has_succeeded c.args.outcomes.now (asked_state_of a))) (sym c.as_slice.ensures.value) ∙ (sym c.have_succeeded.ensures ∙ c.if-not-have_succeeded.false) in
-    let left = group-left c.args.outcomes.now c.args.flush.now succeeded (group_state (get_or gs c.in-Some.i d)) in
-    changed-found c.args.flush.now.group gs c.in-Some.i d (finished_group c.args.outcomes.now (flush_state c.args.flush.now)) c.take_leaving.new.group at distinct
-    (c.take_leaving.ensures.group
-    ∙ ap (λ (ls : List Leaving). record (group_state d) { members = without (is_leaving (map stamped ls)) (map member_state d.members.items) }) c.as_slice-in-Some.ensures.value
-    ∙ ap (λ (g : Group). record (group_state g) { members = without (is_leaving (map stamped c.args.flush.now.leaving.items)) (map member_state g.members.items) }) c.index_mut.ensures.value
+    let left = group-left c.args.outcomes.now c.args.flush.now succeeded (group_state (get_or gs c.in-Some.i group.from)) in
+    ap (map group_state) group.items
+    ∙ changed-found c.args.flush.now.group gs c.in-Some.i group.from (finished_group c.args.outcomes.now (flush_state c.args.flush.now)) group.to at distinct
+    (group.changed
+    ∙ ap (λ (ls : List Leaving). record (group_state group.from) { members = without (is_leaving (map stamped ls)) (map member_state group.from.members.items) }) c.as_slice-in-Some.ensures.value
+    ∙ ap (λ (g : Group). record (group_state g) { members = without (is_leaving (map stamped c.args.flush.now.leaving.items)) (map member_state g.members.items) }) group.was
     ∙ sym left)
 
 pub returns-in-Some-clause-count : goal.returns-in-Some-clause-count
 returns-in-Some-clause-count c =
+    let group = c.take_leaving.ensures.group in
     let at : position (λ g. same_name c.args.flush.now.group g.name) c.args.groups.now.items ≡ Some c.in-Some.i =
-    ap (position (λ (g : Group). same_name c.args.flush.now.group g.name)) (sym c.as_slice-2.ensures.value) ∙ sym c.in-Some.ensures.place in
+    sym c.in-Some.ensures.place in
     let succeeded : list_all (λ a. has_succeeded c.args.outcomes.now (asked_state_of a)) c.args.flush.now.asked.items ≡ true =
     ap (list_all (λ a. has_succeeded c.args.outcomes.now (asked_state_of a))) (sym c.as_slice.ensures.value) ∙ (sym c.have_succeeded.ensures ∙ c.if-not-have_succeeded.false) in
-    c.take_leaving.ensures.count
-    ∙ ap (λ (ls : List Leaving). count_by (is_leaving (map stamped ls)) (map member_state c.index_mut.result.now.members.items)) c.as_slice-in-Some.ensures.value
-    ∙ ap (λ (g : Group). count_by (is_leaving (map stamped c.args.flush.now.leaving.items)) (map member_state g.members.items)) c.index_mut.ensures.value
-    ∙ ap (count_by (is_leaving (map stamped c.args.flush.now.leaving.items))) (sym (members-found c.args.flush.now.group c.args.groups.now.items c.in-Some.i c.index_mut.result.now at))
+    c.take_leaving.ensures.count group.from
+    ∙ ap (λ (ls : List Leaving). count_by (is_leaving (map stamped ls)) (map member_state (get_or c.args.groups.now.items c.in-Some.i group.from).members.items)) c.as_slice-in-Some.ensures.value
+    ∙ ap (count_by (is_leaving (map stamped c.args.flush.now.leaving.items))) (sym (members-found c.args.flush.now.group c.args.groups.now.items c.in-Some.i group.from at))
     ∙ sym (count-left c.args.outcomes.now c.args.flush.now succeeded (members_in (map group_state c.args.groups.now.items) c.args.flush.now.group))

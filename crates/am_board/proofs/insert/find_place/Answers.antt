@@ -11,13 +11,13 @@ use Rattle.am_board.proofs.insert.find_place.Goals.{else-is_none-via-then-is_non
 abbrev found : List Label → List AlertData → Option ℕ
 found labels alerts = position (λ a. same_label_set labels a.labels) alerts
 
--- the place is one of the known alerts
-of_known : (labels given : List Label) (known lent : List AlertData) (place : Option ℕ) → given ≡ labels → lent ≡ known → place ≡ found given lent → place ≡ found labels known
-of_known labels given known lent place e h is = is ∙ (ap (found given) h ∙ ap (λ l. found l known) e)
+-- the place is that of the alert's own labels
+of_labels : (labels given : List Label) (known : List AlertData) (place : Option ℕ) → given ≡ labels → place ≡ found given known → place ≡ found labels known
+of_labels labels given known place e is = is ∙ ap (λ l. found l known) e
 
 pub returns-then-len-config : goal.returns-then-len-config
 returns-then-len-config c =
-    let place = of_known c.args.alert.now.labels c.labels.result.now c.args.state.now.known.items c.as_slice.result.now _ c.labels.ensures.labels c.as_slice.ensures.value c.find_known-place.ensures.place in
+    let place = of_labels c.args.alert.now.labels c.labels.result.now c.args.state.now.known.items _ c.labels.ensures.labels c.find-place.ensures.place in
     record {
       place = tt;
       within = tt;
@@ -25,20 +25,20 @@ returns-then-len-config c =
       names = tt;
       refused = answer_names c.args.config.now (vec_len c.args.state.now.history) (state_of c.args.state.now) c.args.alert.now
           (not_full c.args.config.now c.args.state.now (c.has_room.ensures.0 c.if-not-has_room.false))
-          (names_many c.args.config.now (state_of c.args.state.now) c.args.alert.now c.find_known-place.result place (none_told c.find_known-place.result c.is_none.result c.is_none.ensures ∙ c.if-is_none.true) (omega (arith, c.args.state.now.known.ok.0)));
+          (names_many c.args.config.now (state_of c.args.state.now) c.args.alert.now c.find-place.result place (none_told c.find-place.result c.is_none.result c.is_none.ensures ∙ c.if-is_none.true) (omega arith));
     }
 
 pub returns-clause-place : goal.returns-clause-place
 returns-clause-place c =
-    of_known c.args.alert.now.labels c.labels.result.now c.args.state.now.known.items c.as_slice.result.now _ c.labels.ensures.labels c.as_slice.ensures.value c.find_known-place.ensures.place
+    of_labels c.args.alert.now.labels c.labels.result.now c.args.state.now.known.items _ c.labels.ensures.labels c.find-place.ensures.place
 
 pub returns-clause-room : goal.returns-clause-room
 returns-clause-room c = not_full c.args.config.now c.args.state.now (c.has_room.ensures.0 c.if-not-has_room.false)
 
 pub returns-clause-names : goal.returns-clause-names
 returns-clause-names c =
-    let place = of_known c.args.alert.now.labels c.labels.result.now c.args.state.now.known.items c.as_slice.result.now _ c.labels.ensures.labels c.as_slice.ensures.value c.find_known-place.ensures.place in
+    let place = of_labels c.args.alert.now.labels c.labels.result.now c.args.state.now.known.items _ c.labels.ensures.labels c.find-place.ensures.place in
     elim c.else-is_none.branch [
-      | else-is_none-via-then-is_none+else-len-config w ↦ names_few c.args.config.now (state_of c.args.state.now) c.args.alert.now (omega (arith, c.args.state.now.known.ok.0))
-      | else-is_none-via-else-is_none w ↦ names_known c.args.config.now (state_of c.args.state.now) c.args.alert.now c.find_known-place.result place (none_told c.find_known-place.result c.is_none.result c.is_none.ensures ∙ w.if-is_none.false)
+      | else-is_none-via-then-is_none+else-len-config w ↦ names_few c.args.config.now (state_of c.args.state.now) c.args.alert.now (omega arith)
+      | else-is_none-via-else-is_none w ↦ names_known c.args.config.now (state_of c.args.state.now) c.args.alert.now c.find-place.result place (none_told c.find-place.result c.is_none.result c.is_none.ensures ∙ w.if-is_none.false)
     ]

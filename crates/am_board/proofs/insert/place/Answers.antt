@@ -4,33 +4,56 @@ use Rattle.am_board.specs.Insert.{wait_of, new_group, group_with}
 use Rattle.am_board.specs.Kept.{group_state}
 use Rattle.am_board.specs.declared.group.Group.{Group}
 use Rattle.am_board.specs.Group.{names_of, HasRoom}
-use Rattle.am_board.proofs.GroupNames.{names_set, names-push, room_push}
+use Rattle.am_board.proofs.GroupNames.{names_set, names-push, room_set, room_push}
+use Rattle.am_board.proofs.GroupRoom.{named_at}
 use Rattle.am_board.proofs.Placing.{place_in, put_group_at, put_group_new, new_group_is}
 use Rattle.am_board.proofs.insert.place.Goals as goal
+use Rattle.am_board.proofs.insert.place.Goals.{In-Some}
+
+named : (c : In-Some) → (d : Group) → (get_or c.args.groups.now.items c.in-Some.i d).name ≡ c.args.placement.name
+named c d = named_at c.args.placement.name c.args.groups.now.items c.in-Some.i d (sym c.in-Some.ensures.place)
+
+pub insert-requires-clause-room : goal.insert-requires-clause-room
+insert-requires-clause-room c d = c.requires.room c.in-Some.i d c.in-Some.ensures.within (named ((goal.at.insert-requires-clause-room c).In-Some) d)
+
+pub returns-in-Some-clause-spare : goal.returns-in-Some-clause-spare
+returns-in-Some-clause-spare c = omega (arith, c.insert.ensures.room)
 
 pub returns-in-Some-clause-names : goal.returns-in-Some-clause-names
 returns-in-Some-clause-names c =
-    inl (names_set c.args.groups.now.items c.in-Some.i c.insert.new.self c.index_mut-group.result.now (c.insert.ensures.name ∙ ap (λ (g : Group). g.name) c.index_mut-group.ensures.value))
+    let group = c.insert.ensures in
+    inl (ap names_of group.items ∙ names_set c.args.groups.now.items c.in-Some.i group.to group.from (group.name ∙ ap (λ (g : Group). g.name) group.was))
+
+pub returns-in-Some-clause-others : goal.returns-in-Some-clause-others
+returns-in-Some-clause-others c n name ready room =
+    let group = c.insert.ensures in
+    subst (HasRoom n name) (sym group.items)
+    (room_set (suc n) n name c.args.groups.now.items c.in-Some.i group.to group.from (omega arith) c.in-Some.ensures.within group.was group.name (λ fits. omega (arith, fits, group.changed.len, group.changed.capacity)) room)
 
 pub returns-in-Some-clause-state : goal.returns-in-Some-clause-state
 returns-in-Some-clause-state c config m early is =
     let gs : List Group = c.args.groups.now.items in
     let name : GroupName = c.args.placement.name in
-    let old : Group = c.index_mut-group.result.now in
-    let lent : c.as_slice.result.now ≡ gs = c.as_slice.ensures.value in
-    let at : place_in name gs ≡ Some c.in-Some.i = ap (place_in name) (sym lent) ∙ sym c.in-Some.ensures.place in
-    let within : c.in-Some.i < length gs = subst (λ (xs : List Group). c.in-Some.i < length xs) lent c.in-Some.ensures.within in
-    let named : old.name ≡ name = ap (λ (g : Group). g.name) c.index_mut-group.ensures.value ∙ (ap (λ (xs : List Group). (get_or xs c.in-Some.i old).name) (sym lent) ∙ c.in-Some.ensures.named old) in
-    put_group_at config c.args.t m gs c.in-Some.i old c.insert.new.self name at within c.index_mut-group.ensures.value named
-    (c.insert.ensures.state config (is.wait ∙ ap (wait_of config) (sym named)) ∙ ap (λ n. group_with config c.args.t n (group_state old)) is.member)
+    let group = c.insert.ensures in
+    let at : place_in name gs ≡ Some c.in-Some.i = sym c.in-Some.ensures.place in
+    let of_name : group.from.name ≡ name = ap (λ (g : Group). g.name) group.was ∙ named ((goal.at.returns-in-Some-clause-state c).In-Some) group.from in
+    ap (map group_state) group.items
+    ∙ put_group_at config c.args.t m gs c.in-Some.i group.from group.to name at c.in-Some.ensures.within group.was of_name
+    (group.changed.state config (is.wait ∙ ap (wait_of config) (sym of_name)) ∙ ap (λ n. group_with config c.args.t n (group_state group.from)) is.member)
+
+pub add-requires-clause-name : goal.add-requires-clause-name
+add-requires-clause-name c = c.requires.ready.2 ∙ sym c.insert-in-None.ensures.name
+
+pub add-requires-clause-missing : goal.add-requires-clause-missing
+add-requires-clause-missing c = ap (λ n. place_in n c.args.groups.now.items) c.requires.ready.2 ∙ sym c.in-None.ensures.place
 
 pub returns-in-None-clause-names : goal.returns-in-None-clause-names
 returns-in-None-clause-names c =
-    inr (ap names_of c.push_reserved.ensures.items ∙ (names-push c.args.groups.now.items c.insert-in-None.new.self ∙ ap (λ n. names_of c.args.groups.now.items ++ n ∷ []) c.insert-in-None.ensures.name))
+    inr (ap names_of c.add.ensures.items ∙ (names-push c.args.groups.now.items c.insert-in-None.new.self ∙ ap (λ n. names_of c.args.groups.now.items ++ n ∷ []) c.insert-in-None.ensures.name))
 
 pub returns-in-None-clause-others : goal.returns-in-None-clause-others
 returns-in-None-clause-others c n name ready room =
-    subst (HasRoom n name) (sym c.push_reserved.ensures.items)
+    subst (HasRoom n name) (sym c.add.ensures.items)
     (room_push (suc n) n name c.args.groups.now.items c.insert-in-None.new.self (omega arith) (omega (arith, ready.0, ready.1, c.insert-in-None.ensures.len, c.insert-in-None.ensures.capacity)) room)
 
 pub returns-in-None-clause-state : goal.returns-in-None-clause-state
@@ -38,9 +61,9 @@ returns-in-None-clause-state c config m early is =
     let gs : List Group = c.args.groups.now.items in
     let name : GroupName = c.args.placement.name in
     let fresh : Group = record { name = name; due = c.saturating_add.result; flushed = false; members = c.args.placement.members } in
-    let at : place_in name gs ≡ None = ap (place_in name) (sym c.as_slice.ensures.value) ∙ sym c.in-None.ensures.place in
+    let at : place_in name gs ≡ None = sym c.in-None.ensures.place in
     let due : c.saturating_add.result ≡ c.args.t + c.args.placement.wait = omega (arith, c.saturating_add.ensures, early, is.bounded) in
     let made : group_state fresh ≡ new_group config c.args.t name = new_group_is config c.args.t fresh name refl (due ∙ ap (λ n. c.args.t + n) is.wait) refl (omega (arith, c.requires.ready.0, c.args.placement.members.ok.0)) in
-    ap (map group_state) c.push_reserved.ensures.items
+    ap (map group_state) c.add.ensures.items
     ∙ put_group_new config c.args.t m gs c.insert-in-None.new.self name at
     (c.insert-in-None.ensures.state config is.wait ∙ (ap (λ n. group_with config c.args.t n (group_state fresh)) is.member ∙ ap (group_with config c.args.t m) made))

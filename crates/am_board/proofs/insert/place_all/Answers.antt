@@ -34,7 +34,7 @@ loop-placement-init c =
 pub place-requires-clause-ready : goal.place-requires-clause-ready
 place-requires-clause-ready c =
     let last = All-pop (IsEmptyWithRoom (vec_len c.loop-placement.placements)) c.loop-placement.placements.items c.pop.new.self.items (Some c.in-Some.placement) c.in-Some.ensures.items c.loop-placement.invariant.ready in
-    (last.1.0, omega (arith, last.1.1, c.in-Some.ensures.len))
+    (last.1.0, omega (arith, last.1.1, c.in-Some.ensures.len), last.1.2)
 
 pub loop-placement-preserved : goal.loop-placement-preserved
 loop-placement-preserved c =
@@ -50,9 +50,9 @@ loop-placement-preserved c =
     let rooms = All-pop (λ (p : Placement). HasRoom (suc n) p.name c.loop-placement.groups.items) c.loop-placement.placements.items rest (Some x) popped room in
     let readies = All-pop (IsEmptyWithRoom (suc n)) c.loop-placement.placements.items rest (Some x) popped ready in
     record {
-      spare = omega (arith, c.place.ensures.len, c.place.ensures.capacity, c.loop-placement.invariant.spare, counted);
+      spare = omega (arith, c.place.ensures.spare, c.loop-placement.invariant.spare, counted);
       room = All-weaker (λ (p : Placement). HasRoom (suc n) p.name c.loop-placement.groups.items) (λ (p : Placement). HasRoom n p.name c.place.new.groups.items) (λ p had. c.place.ensures.others n p.name readies.1 had) rest rooms.0;
-      ready = All-weaker (IsEmptyWithRoom (suc n)) (IsEmptyWithRoom n) (λ p had. (had.0, omega (arith, had.1))) rest readies.0;
+      ready = All-weaker (IsEmptyWithRoom (suc n)) (IsEmptyWithRoom n) (λ p had. (had.0, omega (arith, had.1), had.2)) rest readies.0;
       routed = λ tree groups placements.
           let before = c.loop-placement.invariant.routed tree groups placements in
           let parts = All-pop (λ (p : Placement). p.name.route ≤ length tree.children) c.loop-placement.placements.items rest (Some x) popped before.1 in

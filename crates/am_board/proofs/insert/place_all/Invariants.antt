@@ -1,4 +1,4 @@
-use Rattle.std.proofs.Common.{◌≡◌, ◌≤◌, ◌+◌, map, vec_len, vec_capacity}
+use Rattle.std.proofs.Common.{◌≡◌, ◌≤◌, map, vec_len}
 use Rattle.std.specs.Prelude.{All, fold, reverse}
 use Rattle.am_alerts.specs.RoutingTree.{RoutingTree}
 use Rattle.am_alerts.specs.declared.limits.TheConstants.{MAX_MOMENT}
@@ -13,7 +13,7 @@ use Rattle.am_board.proofs.insert.place_all.Given as goal
 -- what is left to be put has its room, all that was put is of a route that is there, and with what is left the groups are those that are asked for
 abbrev pub invariant-loop-placement : goal.invariant-loop-placement
 invariant-loop-placement l = record {
-  spare : vec_len l.groups + vec_len l.placements ≤ vec_capacity l.groups;
+  spare : vec_len l.placements ≤ l.groups.room;
   room : HaveRoom (vec_len l.placements) l.groups.items l.placements.items;
   ready : All (IsEmptyWithRoom (vec_len l.placements)) l.placements.items;
   routed : (tree : RoutingTree) → AreRouted tree (names_of l.fn.groups.items) → AreRoutedPlacements tree l.fn.placements.items → AreRouted tree (names_of l.groups.items) × AreRoutedPlacements tree l.placements.items;

@@ -1,4 +1,4 @@
-use Rattle.std.proofs.Common.{◌≡◌, ◌∙◌, ◌+◌, ◌++◌, ◌∷◌, [], List, Some, length, sym, ap, subst, arith, Vec, Global, vec_len, vec_capacity}
+use Rattle.std.proofs.Common.{◌≡◌, ◌∙◌, ◌+◌, ◌++◌, ◌∷◌, [], List, Some, length, refl, sym, ap, subst, arith, Vec, Global, vec_len, vec_capacity}
 use Rattle.std.specs.Prelude.{All}
 use Rattle.am_alerts.specs.AlertData.{AlertData}
 use Rattle.am_board.specs.declared.insert.Placement.{Placement}
@@ -20,8 +20,8 @@ returns-then-len-made c =
     let config : Config = c.args.config.now in
     let s : kept.State = c.args.state.now in
     let made : c.count_missing-made.result ≡ (inserted config (state_of s) c.args.alert).made =
-    made_told config c.args.alert.labels s.groups.items c.as_slice.result.now c.in_ok-placements.placements.items c.as_slice-2.result.now c.count_missing-made.result c.as_slice.ensures.value c.as_slice-2.ensures.value c.count_missing-made.ensures c.in_ok-placements.ensures.names in
-    (answer_groups config (vec_len s.history) (state_of s) c.args.alert c.in_ok-known.ensures.room c.in_ok-known.ensures.names (makes_many config s c.args.alert c.count_missing-made.result made (omega (arith, c.if-len-made.true, c.len.ensures))), stays_itself config s c.requires.good)
+    made_told config c.args.alert.labels s.groups.items s.groups.items c.in_ok-placements.placements.items c.as_slice.result.now c.count_missing-made.result refl c.as_slice.ensures.value c.count_missing-made.ensures c.in_ok-placements.ensures.names in
+    (answer_groups config (vec_len s.history) (state_of s) c.args.alert c.in_ok-known.ensures.room c.in_ok-known.ensures.names (makes_many config s c.args.alert c.count_missing-made.result made (omega (arith, c.if-len-made.true, c.len.ensures.len))), stays_itself config s c.requires.good)
 
 pub returns : goal.returns
 returns c =
@@ -35,7 +35,7 @@ returns c =
     let kept = c.in_ok-reserve_insert.ensures.kept in
     let ready = c.in_ok-reserve_insert.ensures.ready in
     let made : c.count_missing-made.result ≡ (inserted config (state_of s) alert).made =
-    made_told config alert.labels s.groups.items c.as_slice.result.now placements c.as_slice-2.result.now c.count_missing-made.result c.as_slice.ensures.value c.as_slice-2.ensures.value c.count_missing-made.ensures names in
+    made_told config alert.labels s.groups.items s.groups.items placements c.as_slice.result.now c.count_missing-made.result refl c.as_slice.ensures.value c.count_missing-made.ensures names in
     let groups : c.len-2.result ≡ length (names_for config alert.labels) = omega (arith, c.len-2.ensures, c.in_ok-placements.placements.ok.0, count_is config alert.labels placements names) in
     let still = stays_reserved config s reserved c.requires.good kept in
     let logged : All (IsPrepared config new.log) reserved.flushes.items = subst (λ log. All (IsPrepared config log) reserved.flushes.items) (sym c.put_prepared.ensures.log) still.prepared in
@@ -43,7 +43,7 @@ returns c =
     let records : vec_len new.history ≡ vec_len reserved.history = ap (λ (rs : Vec Record Global). vec_len rs) c.put_prepared.ensures.history in
     let room : vec_capacity new.history ≡ vec_capacity reserved.history = ap (λ (rs : Vec Record Global). vec_capacity rs) c.put_prepared.ensures.history in
     let added : Record = entry c.args.pass (call.Insert c.args.now alert) (reply.Inserted (record { stamp = s.inserts + 1; groups = c.len-2.result; made = c.count_missing-made.result })) in (
-      no_cause config (vec_len s.history) (state_of s) alert c.in_ok-known.ensures.room c.in_ok-known.ensures.names (makes_few config s alert c.count_missing-made.result made (omega (arith, c.if-len-made.false, c.len.ensures))),
+      no_cause config (vec_len s.history) (state_of s) alert c.in_ok-known.ensures.room c.in_ok-known.ensures.names (makes_few config s alert c.count_missing-made.result made (omega (arith, c.if-len-made.false, c.len.ensures.len))),
       λ id. record {
         told = ap (λ (told : Inserted). Some (reply.Inserted told)) (told_is config (state_of s) alert c.len-2.result c.count_missing-made.result groups made);
         state = agrees_same _ _ (insert_leaves config s reserved new c.moment-t.result c.args.now alert c.in_ok-copy.copy placements (c.put_prepared.ensures.state config) kept c.in_ok-copy.ensures c.moment-t.ensures c.requires.good.consistent.clock c.in_ok-placements.ensures.placed names);

@@ -10,18 +10,14 @@ use Rattle.am_board.proofs.insert.reserve_all.Goals as goal
 
 pub loop-placement-preserved : goal.loop-placement-preserved
 loop-placement-preserved c =
-    let new : List Group = c.reserve_named.new.groups in
-    let old : List Group = c.loop-placement.groups.items in
-    let whole : take c.loop-placement.groups.len (new ++ drop (length new) old) ≡ new = whole_again c.loop-placement.groups.len new (drop (length new) old) (omega arith) in
+    let new : List Group = c.reserve_named.new.self.items in
     record {
-      names = ap names_of whole ∙ (c.in_ok-reserve_named.ensures.names ∙ (ap names_of c.as_mut_slice.ensures.value ∙ c.loop-placement.invariant.names));
-      states = ap (map group_state) whole ∙ (c.in_ok-reserve_named.ensures.states ∙ (ap (map group_state) c.as_mut_slice.ensures.value ∙ c.loop-placement.invariant.states));
-      len = c.loop-placement.invariant.len;
-      capacity = c.loop-placement.invariant.capacity;
-      more = refl;
+      names = c.in_ok-reserve_named.ensures.names ∙ c.loop-placement.invariant.names;
+      states = c.in_ok-reserve_named.ensures.states ∙ c.loop-placement.invariant.states;
+      spare = c.in_ok-reserve_named.ensures.spare ∙ c.loop-placement.invariant.spare;
+      more = c.loop-placement.invariant.more;
       room = λ k d less.
-          subst (HasRoom (length c.args.placements.now) (get_or c.args.placements.now k d).name) (sym whole)
-          (elim (eqb k c.loop-placement.placement-index) as (λ b. eqb k c.loop-placement.placement-index ≡ b → HasRoom (length c.args.placements.now) (get_or c.args.placements.now k d).name new) [
+          elim (eqb k c.loop-placement.placement-index) as (λ b. eqb k c.loop-placement.placement-index ≡ b → HasRoom (length c.args.placements.now) (get_or c.args.placements.now k d).name new) [
             | true ↦ λ e.
                 let at : c.placement-item.result.name ≡ (get_or c.args.placements.now k d).name =
                 ap (λ (p : Placement). p.name) c.placement-item.is ∙ ap (λ (p : Placement). p.name) (get_or_default c.args.placements.now c.loop-placement.placement-index c.placement-item.result d (omega arith)) ∙ ap (λ j. (get_or c.args.placements.now j d).name) (sym (eqb-true k c.loop-placement.placement-index e)) in
@@ -29,6 +25,6 @@ loop-placement-preserved c =
             | false ↦ λ e.
                 let apart : k ≢ c.loop-placement.placement-index = eqb-false k c.loop-placement.placement-index e in
                 let before = c.loop-placement.invariant.room k d (omega arith) in
-                c.in_ok-reserve_named.ensures.others (length c.args.placements.now) (get_or c.args.placements.now k d).name (subst (HasRoom (length c.args.placements.now) (get_or c.args.placements.now k d).name) (sym c.as_mut_slice.ensures.value) before)
-          ] refl);
+                c.in_ok-reserve_named.ensures.others (length c.args.placements.now) (get_or c.args.placements.now k d).name before
+          ] refl;
     }

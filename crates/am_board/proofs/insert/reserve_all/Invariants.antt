@@ -1,4 +1,4 @@
-use Rattle.std.proofs.Common.{◌≡◌, ◌<◌, ℕ, map, get_or, length, vec_len, vec_capacity}
+use Rattle.std.proofs.Common.{◌≡◌, ◌<◌, ℕ, map, get_or, length}
 use Rattle.am_board.specs.Group.{names_of, HasRoom}
 use Rattle.am_board.specs.Kept.{group_state}
 use Rattle.am_board.specs.declared.insert.Placement.{Placement}
@@ -9,8 +9,7 @@ abbrev pub invariant-loop-placement : goal.invariant-loop-placement
 invariant-loop-placement l = record {
   names : names_of l.groups.items ≡ names_of l.fn.groups.items;
   states : map group_state l.groups.items ≡ map group_state l.fn.groups.items;
-  len : vec_len l.groups ≡ vec_len l.fn.groups;
-  capacity : vec_capacity l.groups ≡ vec_capacity l.fn.groups;
+  spare : l.groups.room ≡ l.fn.groups.room;
   more : l.more ≡ length l.placements;
   room : (k : ℕ) (d : Placement) → k < l.placement-index → HasRoom l.more (get_or l.placements k d).name l.groups.items;
 }

@@ -1,10 +1,22 @@
-use Rattle.std.proofs.Common.{◌∙◌}
+use Rattle.std.proofs.Common.{◌≤◌, ◌∙◌, ap, arith}
+use Rattle.am_board.specs.History.{BoardData}
+use Rattle.am_board.specs.Views.{SummaryData}
 use Rattle.am_board.proofs.Calls.{summary_then}
-use Rattle.am_board.proofs.Sound.{few_alerts, few_inserts}
+use Rattle.am_board.proofs.Sound.{few_alerts, few_inserts, opened_now}
 use Rattle.am_board.proofs.board.Board.summary.Goals as goal
 
 pub summary_of-requires : goal.summary_of-requires
 summary_of-requires c = record { alerts = few_alerts c.self.inside c.self.invariant; inserts = few_inserts c.self.inside c.self.invariant }
 
-pub returns : goal.returns
-returns c = c.summary_of.ensures ∙ summary_then c.self.inside c.self.invariant c.args.self.now c.self.view_is
+pub returns-clause-summary : goal.returns-clause-summary
+returns-clause-summary c = c.summary_of.ensures ∙ summary_then c.self.inside c.self.invariant c.args.self.now c.self.view_is
+
+pub returns-clause-within : goal.returns-clause-within
+returns-clause-within c =
+    let sound = c.self.invariant in
+    let is = c.summary_of.ensures in
+    let groups = ap (λ (s : SummaryData). s.groups) is in
+    let flushes = ap (λ (s : SummaryData). s.flushes) is in
+    let most = ap (λ (b : BoardData). b.config.limits.groups) c.self.view_is in
+    let most_open = ap (λ (b : BoardData). b.config.limits.flushes) c.self.view_is in
+    (omega (arith, groups, sound.groups, most), omega (arith, flushes, opened_now c.self.inside.state, sound.opened, most_open))

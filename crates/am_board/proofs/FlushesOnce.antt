@@ -1,0 +1,401 @@
+-- Each flush has one begin and at most one finish, and its group isn't taken before.
+use Rattle.std.proofs.Common.{◌≡◌, ℕ, ◌≤◌, Bool, true, false, cond, not, ◌&&◌, ◌||◌, Option, Some, None, List, [], ◌∷◌, reverse, refl, sym, ap, ◌∙◌, subst, arith, if◌then◌else◌}
+use Rattle.std.specs.Prelude.{find, filter, ◌==◌, nat_le}
+use Rattle.std.specs.List.{AllByRecursion, list_any}
+use Rattle.std.specs.Option.{option_map}
+use Rattle.std.proofs.Math.Bool.{or-false}
+use Rattle.std.proofs.lemmas.Bool.{false≢true, eqb-true, ne_eqb, leb-true}
+use Rattle.std.proofs.lemmas.Cmp.{nat_eq_equiv}
+use Rattle.std.proofs.lemmas.List.{reverse-reverse}
+use Rattle.std.proofs.lemmas.List.Folds.{list_any-append}
+use Rattle.am_alerts.specs.LabelOrder.{same_label_set_equiv}
+use Rattle.am_alerts.specs.AlertData.{AlertData}
+use Rattle.am_alerts.specs.declared.labels.Label.{Label}
+use Rattle.am_alerts.specs.declared.matcher.MatcherParts.{MatcherParts}
+use Rattle.am_mute.specs.Silence.{silence_of}
+use Rattle.am_nflog.specs.Members.{is_empty}
+use Rattle.am_retry.specs.declared.outcome.Outcome.{Outcome}
+use Rattle.am_board.specs.declared.config.Config.{Config}
+use Rattle.am_board.specs.declared.config.Integration.{Integration}
+use Rattle.am_board.specs.declared.group.GroupName.{GroupName}
+use Rattle.am_board.specs.declared.record.Call.{Call}
+use Rattle.am_board.specs.declared.record.Call.TheVariants.{Insert, Silence, Begin, Finish, Maintain, Note}
+use Rattle.am_board.specs.declared.record.Call.TheVariants as call_is
+use Rattle.am_board.specs.declared.record.Record.{Record}
+use Rattle.am_board.specs.declared.record.Reply.TheVariants as reply_is
+use Rattle.am_board.specs.declared.record.Reply.{Reply}
+use Rattle.am_board.specs.declared.record.Reply.TheVariants.{Inserted, Silenced, NothingDue, Quiet, Flush, Finished, Maintained, Noted}
+use Rattle.am_board.specs.Begin.{due_cmp, may_begin, taken, asked_of, after_asking, after_taking, reply_asking, reply_taking, flush_asking}
+use Rattle.am_board.specs.Begin as begin_is
+use Rattle.am_board.specs.Configured.{route_of}
+use Rattle.am_board.specs.Entry.{present_in}
+use Rattle.am_board.specs.Finish.{finished, after_finish_of}
+use Rattle.am_board.specs.History.{entry}
+use Rattle.am_board.specs.Insert.{inserted}
+use Rattle.am_board.specs.Laws.{last_begin_after, IsBegunAt}
+use Rattle.am_board.specs.LookBack.{member_with, number_in, has_open, begun_at, IsLater, IsOneOfEach, FlushesEndOnce}
+use Rattle.am_board.specs.Note.{with_note, may_note, after_note, after_note_of, noted}
+use Rattle.am_board.specs.Past.{AtEach, past_of, moment_at, is_flush, is_flush_of, is_finish, takes, has_begun, has_finished}
+use Rattle.am_board.specs.Replay.{reply, after_call, IsLegal}
+use Rattle.am_board.specs.State.{MemberState, GroupState, FlushState, State, at_moment, moment, same_name, is_flushing, members_in, flush_numbered}
+use Rattle.am_board.specs.Upkeep.{silenced, maintained}
+use Rattle.am_board.proofs.Begins.{Keeps, keeps-call, opening_keeps}
+use Rattle.am_board.proofs.ConsistentBegin.{taken-is}
+use Rattle.am_board.proofs.ConsistentGroups.{members_of, members_of-in}
+use Rattle.am_board.proofs.ConsistentLists.{all-find, all-filter, all-least, all-passes, all-both, find-passes}
+use Rattle.am_board.proofs.ConsistentState.{IsOpen, IsSteady}
+use Rattle.am_board.proofs.FoundAlerts.{inside, steady_past, finds_past}
+use Rattle.am_board.proofs.FoundSteps.{clock-step}
+use Rattle.am_board.proofs.LogRows.{same_name-is}
+use Rattle.am_board.proofs.Opened.{Finds}
+use Rattle.am_board.proofs.Pasts.{state_after, IsLegalPast, legal_of_past}
+use Rattle.am_board.proofs.PastWords.{has_labels}
+use Rattle.am_board.proofs.SetWords.{any-filter, any-alike, any-and, any-map, passes}
+use Rattle.am_board.proofs.ToldSets.{present-passes}
+
+-- whether a reply is a flush whose group and number pass a test
+abbrev pub flush_passes : (GroupName → ℕ → Bool) → Reply → Bool
+flush_passes test (Inserted inserted) = false
+flush_passes test (Silenced silenced) = false
+flush_passes test NothingDue = false
+flush_passes test (Quiet group removed) = false
+flush_passes test (Flush number group deadline notices) = test group number
+flush_passes test (Finished finished) = false
+flush_passes test (Maintained maintained) = false
+flush_passes test Noted = false
+
+-- whether a record is a flush whose group and number pass a test, and that isn't finished in a past
+abbrev pub is_open_in : (GroupName → ℕ → Bool) → List Record → Record → Bool
+is_open_in test past r = flush_passes test r.reply && not (has_finished (number_in r.reply) past)
+
+-- the open flushes of a state are those of the past, and its groups are due as the last begins say
+pub record Counts (config : Config) (s : State) (past : List Record) : Type 0 where
+  pub opens : (test : GroupName → ℕ → Bool) → list_any (is_open_in test past) past ≡ list_any (λ f. test f.group f.number) s.flushes
+  pub begun : (n : ℕ) → s.next_number ≤ n → has_begun n past ≡ false
+  pub ended : (n : ℕ) → s.next_number ≤ n → has_finished n past ≡ false
+  pub keeps : Keeps config s.groups (λ name. begun_at config name past)
+
+-- ---- words
+
+any_none : {X : Type 0} (test : X → Bool) (xs : List X) → AllByRecursion (λ x. test x ≡ false) xs → list_any test xs ≡ false
+any_none test [] all = refl
+any_none test (x ∷ xs) all = ap (λ b. b || list_any test xs) all.0 ∙ any_none test xs all.1
+
+any_some : {X : Type 0} (test : X → Bool) (x : X) (xs : List X) → find test xs ≡ Some x → list_any test xs ≡ true
+any_some test x [] e = absurd (cc)
+any_some test x (y ∷ ys) found =
+    elim (test y) as (λ b. cond b (Some y) (find test ys) ≡ Some x → (b || list_any test ys) ≡ true) [ true ↦ λ e. refl | false ↦ λ e. any_some test x ys e ] found
+
+-- a flush of a number, and one of a group
+of_number : (number : ℕ) (past : List Record) (p : Reply) → (flush_passes (λ g n. n == number) p && not (has_finished (number_in p) past)) ≡ (is_flush number p && not (has_finished number past))
+of_number number past (Inserted inserted) = refl
+of_number number past (Silenced silenced) = refl
+of_number number past NothingDue = refl
+of_number number past (Quiet group removed) = refl
+of_number number past (Flush n group deadline notices) =
+    elim (n == number) as (λ b. (n == number) ≡ b → (b && not (has_finished n past)) ≡ (b && not (has_finished number past))) [
+      | true ↦ λ e. ap (λ m. not (has_finished m past)) (eqb-true n number e)
+      | false ↦ λ e. refl
+    ] refl
+of_number number past (Finished finished) = refl
+of_number number past (Maintained maintained) = refl
+of_number number past Noted = refl
+
+of_group : (name : GroupName) (p : Reply) → is_flush_of name p ≡ flush_passes (λ g n. same_name name g) p
+of_group name (Inserted inserted) = refl
+of_group name (Silenced silenced) = refl
+of_group name NothingDue = refl
+of_group name (Quiet group removed) = refl
+of_group name (Flush n group deadline notices) = refl
+of_group name (Finished finished) = refl
+of_group name (Maintained maintained) = refl
+of_group name Noted = refl
+
+-- a flush that a finish of another number leaves open
+of_other : (test : GroupName → ℕ → Bool) (m : ℕ) (past : List Record) (p : Reply)
+    → (flush_passes test p && not ((m == number_in p) || has_finished (number_in p) past)) ≡ (flush_passes (λ g n. not (m == n) && test g n) p && not (has_finished (number_in p) past))
+of_other test m past (Inserted inserted) = refl
+of_other test m past (Silenced silenced) = refl
+of_other test m past NothingDue = refl
+of_other test m past (Quiet group removed) = refl
+of_other test m past (Flush n group deadline notices) = by (test group n) (m == n) (has_finished n past)
+  where
+    by : (a b c : Bool) → (a && not (b || c)) ≡ ((not b && a) && not c)
+    by true true c = refl
+    by true false c = refl
+    by false true c = refl
+    by false false c = refl
+of_other test m past (Finished finished) = refl
+of_other test m past (Maintained maintained) = refl
+of_other test m past Noted = refl
+
+-- ---- what the open flushes say
+
+module _ (config : Config) (s : State) (past : List Record) (n : Counts config s past) where
+  -- the flush of a number is open exactly if it has begun and isn't finished
+  pub open-number : (number : ℕ) → (has_begun number past && not (has_finished number past)) ≡ list_any (λ f. f.number == number) s.flushes
+  open-number number =
+      sym (any-and (λ r. is_flush number r.reply) (not (has_finished number past)) past)
+      ∙ sym (any-alike (is_open_in (λ g m. m == number) past) (λ r. is_flush number r.reply && not (has_finished number past)) (λ r. of_number number past r.reply) past)
+      ∙ n.opens (λ g m. m == number)
+
+  pub open-group : (name : GroupName) → has_open name past ≡ is_flushing s.flushes name
+  open-group name =
+      any-alike (λ r. is_flush_of name r.reply && not (has_finished (number_in r.reply) past)) (is_open_in (λ g m. same_name name g) past) (λ r. ap (λ b. b && not (has_finished (number_in r.reply) past)) (of_group name r.reply)) past
+      ∙ n.opens (λ g m. same_name name g)
+
+-- a group without alerts is one in which looking back finds none
+empty-found : (config : Config) (s : State) (past : List Record) → Finds config s past → (name : GroupName) → is_empty (members_in s.groups name) ≡ is_empty (present_in config name past)
+empty-found config s past k name = ap is_empty (members_of-in s.groups name) ∙ by (members_of s.groups name) (present_in config name past) refl refl
+  where
+    anyone : MemberState → Bool
+    anyone m = true
+
+    same : (labels : List Label) → list_any (λ m. has_labels labels m && true) (present_in config name past) ≡ passes (λ m. true) (member_with labels (members_of s.groups name))
+    same labels = present-passes config name past labels (λ m. true) ∙ ap (passes (λ m. true)) (sym (k.found name labels))
+
+    by : (xs ys : List MemberState) → members_of s.groups name ≡ xs → present_in config name past ≡ ys → is_empty xs ≡ is_empty ys
+    by [] [] e f = refl
+    by [] (y ∷ ys) e f =
+        absurd (false≢true (sym (ap (λ ms. passes (λ m. true) (member_with y.alert.labels ms)) e) ∙ sym (same y.alert.labels) ∙ ap (λ ms. list_any (λ m. has_labels y.alert.labels m && true) ms) f
+        ∙ ap (λ b. (b && true) || list_any (λ m. has_labels y.alert.labels m && true) ys) (same_label_set_equiv.refl y.alert.labels)))
+    by (x ∷ xs) [] e f =
+        absurd (false≢true (sym (ap (λ ms. list_any (λ m. has_labels x.alert.labels m && true) ms) f) ∙ same x.alert.labels ∙ ap (λ ms. passes (λ m. true) (member_with x.alert.labels ms)) e
+        ∙ ap (λ b. passes (λ m. true) (cond b (Some x) (member_with x.alert.labels xs))) (same_label_set_equiv.refl x.alert.labels)))
+    by (x ∷ xs) (y ∷ ys) e f = refl
+
+-- ---- one record more
+
+module _ (config : Config) (id : ℕ) (s : State) (past : List Record) (pass : ℕ) (steady : IsSteady s) (k : Finds config s past) (n : Counts config s past) where
+  -- the last begin of a group, one record later
+  abbrev Begins : Call → Reply → Type 0
+  Begins c p = (name : GroupName) → last_begin_after name s (after_call config s c).clock (begun_at config name past) p ≡ begun_at config name (entry pass c p ∷ past)
+
+  -- what holds of a record, and what is counted after it
+  abbrev Holds : Call → State → Reply → Type 0
+  Holds c new p = IsOneOfEach config (entry pass c p) past × Counts config new (entry pass c p ∷ past)
+
+  keeps-after : (c : Call) (p : Reply) → reply config id s c ≡ Some p → Begins c p → Keeps config (after_call config s c).groups (λ name. begun_at config name (entry pass c p ∷ past))
+  keeps-after c p e same = subst (Keeps config (after_call config s c).groups) (λ j name. same name j) (keeps-call config id s (λ name. begun_at config name past) n.keeps c p e)
+
+  -- the group that is taken was begun an interval ago, if it was
+  later-taken : (t : ℕ) (g : GroupState) → taken s t ≡ Some g → IsLater (route_of config g.name).group_interval t (begun_at config g.name past)
+  later-taken t g e =
+      let test = may_begin s t in
+      let P : GroupState → Type 0 = λ h. test h ≡ true in
+      let Q : GroupState → Type 0 = λ h. IsBegunAt config h (begun_at config h.name past) in
+      let R : GroupState → Type 0 = λ h. IsLater (route_of config h.name).group_interval t (begun_at config h.name past) in
+      all-least R due_cmp g (filter test s.groups) (all-both P Q R (λ h passes is. due h (begun_at config h.name past) passes is) (filter test s.groups) (all-passes test s.groups) (all-filter Q test s.groups n.keeps.due)) e
+    where
+      first : (a b : Bool) → (a && b) ≡ true → a ≡ true
+      first true b h = refl
+      first false b h = absurd (false≢true h)
+
+      due : (h : GroupState) (o : Option ℕ) → may_begin s t h ≡ true → IsBegunAt config h o → IsLater (route_of config h.name).group_interval t o
+      due h None passes is = tt
+      due h (Some last) passes is =
+          let come : h.due ≤ t = leb-true h.due t (first (nat_le h.due t) (not (is_flushing s.flushes h.name)) passes) in
+          subst (λ d. d ≤ t) is.1 come
+
+  none-begun : (c : Call) (p : Reply) → ((number : ℕ) → is_flush number p ≡ false) → ((number : ℕ) → is_finish number c ≡ false) → ((name : GroupName) → takes name p ≡ false) → IsOneOfEach config (entry pass c p) past
+  none-begun c p a b d =
+      record {
+        begins = λ number e. absurd (false≢true (sym (a number) ∙ e));
+        begun = λ number e. absurd (false≢true (sym (b number) ∙ e));
+        finishes = λ number e. absurd (false≢true (sym (b number) ∙ e));
+        alone = λ name e. absurd (false≢true (sym (d name) ∙ e));
+        later = λ name e. absurd (false≢true (sym (d name) ∙ e));
+      }
+
+  insert : (now : ℕ) (a : AlertData) → Holds (Insert now a) (after_call config s (Insert now a)) (Inserted (inserted config s a))
+  insert now a = (
+    none-begun (Insert now a) (Inserted (inserted config s a)) (λ m. refl) (λ m. refl) (λ name. refl),
+    record { opens = n.opens; begun = n.begun; ended = n.ended; keeps = keeps-after (Insert now a) (Inserted (inserted config s a)) refl (λ name. refl) },
+  )
+
+  silence : (now number : ℕ) (matchers : List MatcherParts) (start end : ℕ) → Holds (Silence now number matchers start end) (after_call config s (Silence now number matchers start end)) (Silenced (silenced s (silence_of number matchers start end)))
+  silence now number matchers start end =
+      let c = call_is.Silence now number matchers start end in
+      let p = reply_is.Silenced (silenced s (silence_of number matchers start end)) in (
+        none-begun c p (λ m. refl) (λ m. refl) (λ name. refl),
+        record { opens = n.opens; begun = n.begun; ended = n.ended; keeps = keeps-after c p refl (λ name. refl) },
+      )
+
+  maintain : (now : ℕ) → Holds (Maintain now) (after_call config s (Maintain now)) (Maintained (maintained s (moment s now)))
+  maintain now =
+      let p = reply_is.Maintained (maintained s (moment s now)) in (
+        none-begun (Maintain now) p (λ m. refl) (λ m. refl) (λ name. refl),
+        record {
+          opens = n.opens;
+          begun = n.begun;
+          ended = n.ended;
+          keeps = keeps-after (Maintain now) p refl (λ name. ap (λ b. if b then None else begun_at config name past) (empty-found config s past k name));
+        },
+      )
+
+  -- a begin that takes a group
+  taking-one : (now : ℕ) (g : GroupState) (p : Reply) → taken s (moment s now) ≡ Some g → ((number : ℕ) → is_flush number p ≡ true → has_begun number past ≡ false) → ((name : GroupName) → takes name p ≡ same_name name g.name) → IsOneOfEach config (entry pass (Begin now) p) past
+  taking-one now g p e first is =
+      let at = clock-step config s past k now (entry pass (Begin now) p) refl in
+      record {
+        begins = first;
+        begun = λ number h. absurd (false≢true h);
+        finishes = λ number h. absurd (false≢true h);
+        alone = λ name h.
+            let own : name ≡ g.name = same_name-is name g.name (sym (is name) ∙ h) in
+            open-group config s past n name ∙ ap (is_flushing s.flushes) own ∙ any_none (λ f. same_name g.name f.group) s.flushes (taken-is s (moment s now) g steady.groups e).free;
+        later = λ name h.
+            let own : name ≡ g.name = same_name-is name g.name (sym (is name) ∙ h) in
+            subst (λ t. IsLater (route_of config name).group_interval t (begun_at config name past)) at
+            (subst (λ m. IsLater (route_of config m).group_interval (moment s now) (begun_at config m past)) (sym own) (later-taken (moment s now) g e));
+      }
+
+  -- the last begin of a group, after a begin
+  begins-asking : (now : ℕ) (g : GroupState) (asked : List (ℕ × Integration)) (name : GroupName)
+      → last_begin_after name s (after_asking config s (moment s now) g asked).clock (begun_at config name past) (reply_asking config id s (moment s now) g asked) ≡ begun_at config name (entry pass (Begin now) (reply_asking config id s (moment s now) g asked) ∷ past)
+  begins-asking now g [] name =
+      ap (λ t. cond (same_name name g.name) (Some t) (begun_at config name past)) (clock-step config s past k now (entry pass (Begin now) (reply_asking config id s (moment s now) g [])) refl)
+      ∙ ap (λ b. cond b (Some (moment_at (entry pass (Begin now) (reply_asking config id s (moment s now) g []) ∷ past))) (begun_at config name past)) (sym (or-false (same_name name g.name)))
+  begins-asking now g (i ∷ is) name =
+      ap (λ t. cond (same_name name g.name) (Some t) (begun_at config name past)) (clock-step config s past k now (entry pass (Begin now) (reply_asking config id s (moment s now) g (i ∷ is))) refl)
+
+  begins-taking : (now : ℕ) (o : Option GroupState) (name : GroupName)
+      → last_begin_after name s (after_taking config s (moment s now) o).clock (begun_at config name past) (reply_taking config id s (moment s now) o) ≡ begun_at config name (entry pass (Begin now) (reply_taking config id s (moment s now) o) ∷ past)
+  begins-taking now None name = refl
+  begins-taking now (Some g) name = begins-asking now g (asked_of config s (moment s now) g) name
+
+  asking : (now : ℕ) (g : GroupState) (asked : List (ℕ × Integration)) → taken s (moment s now) ≡ Some g
+      → Keeps config (after_asking config s (moment s now) g asked).groups (λ name. begun_at config name (entry pass (Begin now) (reply_asking config id s (moment s now) g asked) ∷ past))
+      → Holds (Begin now) (after_asking config s (moment s now) g asked) (reply_asking config id s (moment s now) g asked)
+  asking now g [] e keeps = (
+    taking-one now g (reply_asking config id s (moment s now) g []) e (λ number h. absurd (false≢true h)) (λ name. or-false (same_name name g.name)),
+    record { opens = n.opens; begun = n.begun; ended = n.ended; keeps = keeps },
+  )
+  asking now g (i ∷ is) e keeps = (
+    taking-one now g (reply_asking config id s (moment s now) g (i ∷ is)) e (λ number h. let own : s.next_number ≡ number = eqb-true s.next_number number h in n.begun number (omega (arith, own))) (λ name. refl),
+    record {
+      opens = λ test.
+          ap (λ b. (test g.name s.next_number && not b) || list_any (is_open_in test past) past) (n.ended s.next_number (omega arith))
+          ∙ ap (λ b. (test g.name s.next_number && true) || b) (n.opens test)
+          ∙ turn (test g.name s.next_number) (list_any (λ f. test f.group f.number) s.flushes)
+          ∙ sym (list_any-append (λ (f : FlushState). test f.group f.number) s.flushes (flush_asking config s (moment s now) g (i ∷ is) ∷ []));
+      begun = λ m h. ap (λ b. b || has_begun m past) (ne_eqb s.next_number m (λ own. omega (arith, h, own))) ∙ n.begun m (omega (arith, h));
+      ended = λ m h. n.ended m (omega (arith, h));
+      keeps = keeps;
+    },
+  )
+    where
+      turn : (a b : Bool) → ((a && true) || b) ≡ (b || (a || false))
+      turn true true = refl
+      turn true false = refl
+      turn false true = refl
+      turn false false = refl
+
+  begin : (now : ℕ) (o : Option GroupState) → taken s (moment s now) ≡ o
+      → Keeps config (after_taking config s (moment s now) o).groups (λ name. begun_at config name (entry pass (Begin now) (reply_taking config id s (moment s now) o) ∷ past))
+      → Holds (Begin now) (after_taking config s (moment s now) o) (reply_taking config id s (moment s now) o)
+  begin now None e keeps = (
+    none-begun (Begin now) NothingDue (λ m. refl) (λ m. refl) (λ name. refl),
+    record { opens = n.opens; begun = n.begun; ended = n.ended; keeps = keeps },
+  )
+  begin now (Some g) e keeps = asking now g (asked_of config s (moment s now) g) e keeps
+
+  finish : (now m : ℕ) (outcomes : List (ℕ × Outcome)) (f : FlushState) → flush_numbered s.flushes m ≡ Some f → Holds (Finish now m outcomes) (after_finish_of config s (moment s now) outcomes (Some f)) (Finished (finished s outcomes f))
+  finish now m outcomes f is =
+      let p = reply_is.Finished (finished s outcomes f) in
+      let c = call_is.Finish now m outcomes in
+      let same : f.number ≡ m = eqb-true f.number m (find-passes (λ (h : FlushState). h.number == m) f s.flushes is) in
+      let held = all-find (IsOpen s.next_number s.groups) (λ h. h.number == m) f s.flushes steady.opened is in
+      let is_open : (has_begun m past && not (has_finished m past)) ≡ true = open-number config s past n m ∙ any_some (λ (h : FlushState). h.number == m) f s.flushes is in
+      let told : option_map (λ h. reply_is.Finished (finished s outcomes h)) (flush_numbered s.flushes m) ≡ Some p = ap (option_map (λ h. reply_is.Finished (finished s outcomes h))) is in (
+        record {
+          begins = λ number h. absurd (false≢true h);
+          begun = λ number h. subst (λ x. has_begun x past ≡ true) (eqb-true m number h) (two (has_begun m past) (has_finished m past) is_open).0;
+          finishes = λ number h. subst (λ x. has_finished x past ≡ false) (eqb-true m number h) (two (has_begun m past) (has_finished m past) is_open).1;
+          alone = λ name h. absurd (false≢true h);
+          later = λ name h. absurd (false≢true h);
+        },
+        record {
+          opens = λ test.
+              any-alike (is_open_in test (entry pass c p ∷ past)) (is_open_in (λ g x. not (m == x) && test g x) past) (λ q. of_other test m past q.reply) past
+              ∙ n.opens (λ g x. not (m == x) && test g x)
+              ∙ any-alike (λ h. not (m == h.number) && test h.group h.number) (λ h. not (h.number == f.number) && test h.group h.number)
+              (λ h. ap (λ b. not b && test h.group h.number) (nat_eq_equiv.symm m h.number ∙ ap (λ x. h.number == x) (sym same))) s.flushes
+              ∙ sym (any-filter (λ (h : FlushState). test h.group h.number) (λ h. not (h.number == f.number)) s.flushes);
+          begun = n.begun;
+          ended = λ x h. ap (λ b. b || has_finished x past) (ne_eqb m x (λ own. omega (arith, h, own, same, held.number))) ∙ n.ended x h;
+          keeps =
+              subst (λ o. Keeps config (after_finish_of config s (moment s now) outcomes o).groups (λ name. begun_at config name (entry pass c p ∷ past))) is
+              (keeps-after c p told (λ name. refl));
+        },
+      )
+    where
+      two : (a b : Bool) → (a && not b) ≡ true → (a ≡ true) × (b ≡ false)
+      two true true h = absurd (false≢true h)
+      two true false h = (refl, refl)
+      two false b h = absurd (false≢true h)
+
+  note : (now m i : ℕ) (outcome : Option Outcome) (f : FlushState) → flush_numbered s.flushes m ≡ Some f → may_note i outcome f ≡ true → Holds (Note now m i outcome) (after_note config s (moment s now) i f) Noted
+  note now m i outcome f is may =
+      let c = call_is.Note now m i outcome in
+      let told : noted i outcome (flush_numbered s.flushes m) ≡ Some reply_is.Noted = ap (noted i outcome) is ∙ ap (λ b. if b then Some reply_is.Noted else None) may in (
+        none-begun c Noted (λ x. refl) (λ x. refl) (λ name. refl),
+        record {
+          opens = λ test.
+              n.opens test
+              ∙ any-alike (λ h. test h.group h.number) (λ h. test (cond (h.number == f.number) (with_note i h) h).group (cond (h.number == f.number) (with_note i h) h).number) (λ h. kept test h (h.number == f.number)) s.flushes
+              ∙ sym (any-map (λ (h : FlushState). test h.group h.number) (λ h. cond (h.number == f.number) (with_note i h) h) s.flushes);
+          begun = n.begun;
+          ended = n.ended;
+          keeps = n.keeps;
+        },
+      )
+    where
+      kept : (test : GroupName → ℕ → Bool) (h : FlushState) (b : Bool) → test h.group h.number ≡ test (cond b (with_note i h) h).group (cond b (with_note i h) h).number
+      kept test h true = refl
+      kept test h false = refl
+
+  finish_of : (now m : ℕ) (outcomes : List (ℕ × Outcome)) (o : Option FlushState) (p : Reply) → flush_numbered s.flushes m ≡ o → option_map (λ f. reply_is.Finished (finished s outcomes f)) o ≡ Some p → Holds (Finish now m outcomes) (after_finish_of config s (moment s now) outcomes o) p
+  finish_of now m outcomes None p is e = absurd (cc)
+  finish_of now m outcomes (Some f) p is e = subst (Holds (Finish now m outcomes) (after_finish_of config s (moment s now) outcomes (Some f))) (inside (reply_is.Finished (finished s outcomes f)) p e) (finish now m outcomes f is)
+
+  note_of : (now m i : ℕ) (outcome : Option Outcome) (o : Option FlushState) (p : Reply) → flush_numbered s.flushes m ≡ o → noted i outcome o ≡ Some p → Holds (Note now m i outcome) (after_note_of config s (moment s now) i outcome o) p
+  note_of now m i outcome None p is e = absurd (cc)
+  note_of now m i outcome (Some f) p is e =
+      elim (may_note i outcome f) as (λ b. may_note i outcome f ≡ b → (if b then Some reply_is.Noted else None) ≡ Some p → Holds (Note now m i outcome) (if b then after_note config s (moment s now) i f else at_moment s (moment s now)) p) [
+        | true ↦ λ may told. subst (Holds (Note now m i outcome) (after_note config s (moment s now) i f)) (inside reply_is.Noted p told) (note now m i outcome f is may)
+        | false ↦ λ may told. absurd (cc)
+      ] refl e
+
+  one_call : (c : Call) (p : Reply) → reply config id s c ≡ Some p → Holds c (after_call config s c) p
+  one_call (Insert now a) p e = subst (Holds (Insert now a) (after_call config s (Insert now a))) (inside (reply_is.Inserted (inserted config s a)) p e) (insert now a)
+  one_call (Silence now number matchers start end) p e =
+      subst (Holds (Silence now number matchers start end) (after_call config s (Silence now number matchers start end))) (inside (reply_is.Silenced (silenced s (silence_of number matchers start end))) p e) (silence now number matchers start end)
+  one_call (Begin now) p e =
+      let o = taken s (moment s now) in
+      subst (Holds (Begin now) (after_call config s (Begin now))) (inside (begin_is.begun config id s (moment s now)) p e)
+      (begin now o refl (keeps-after (Begin now) (begin_is.begun config id s (moment s now)) refl (begins-taking now o)))
+  one_call (Finish now m outcomes) p e = finish_of now m outcomes (flush_numbered s.flushes m) p refl e
+  one_call (Maintain now) p e = subst (Holds (Maintain now) (after_call config s (Maintain now))) (inside (reply_is.Maintained (maintained s (moment s now))) p e) (maintain now)
+  one_call (Note now m i outcome) p e = note_of now m i outcome (flush_numbered s.flushes m) p refl e
+
+-- ---- each legal past
+
+counts_past : (config : Config) (id : ℕ) (past : List Record) → IsLegalPast config id past → Counts config (state_after config past) past
+counts_past config id [] legal =
+    record { opens = λ test. refl; begun = λ m h. refl; ended = λ m h. refl; keeps = opening_keeps config }
+counts_past config id (r ∷ past) legal =
+    (one_call config id (state_after config past) past r.pass (steady_past config past) (finds_past config id past legal.1) (counts_past config id past legal.1) r.call r.reply legal.0).1
+
+pub each_past : (config : Config) (id : ℕ) (past : List Record) → IsLegalPast config id past → AtEach (IsOneOfEach config) past
+each_past config id [] legal = tt
+each_past config id (r ∷ past) legal = (
+  (one_call config id (state_after config past) past r.pass (steady_past config past) (finds_past config id past legal.1) (counts_past config id past legal.1) r.call r.reply legal.0).0,
+  each_past config id past legal.1,
+)
+
+pub flushes_end_once : FlushesEndOnce
+flushes_end_once config id history legal =
+    let past = past_of history in
+    let back : reverse past ≡ history = reverse-reverse history in
+    each_past config id past (legal_of_past config id past (subst (IsLegal config id) (sym back) legal))

@@ -1,0 +1,10 @@
+use Rattle.std.proofs.Common.{subst}
+use Rattle.am_board.specs.History.{BoardData}
+use Rattle.am_board.specs.LookBack.{LooksBack}
+use Rattle.am_board.proofs.LooksBack.{histories_look_back}
+use Rattle.am_board.proofs.board.Board.history.Goals as goal
+
+pub returns-clause-looks_back : goal.returns-clause-looks_back
+returns-clause-looks_back c =
+    subst (λ (d : BoardData). LooksBack d.config d.history) c.self.view_is
+    (histories_look_back c.self.inside.config c.self.inside.id c.self.inside.state.history.items c.self.invariant.legal)

@@ -1,0 +1,40 @@
+use Rattle.std.proofs.Common.{◌≡◌, [], ◌∷◌, ◌++◌, None, ap, sym, subst, ◌∙◌}
+use Rattle.std.specs.Prelude.{OnOk}
+use Rattle.std.specs.List.{position}
+use Rattle.std.specs.Map.{values_of}
+use Rattle.indexmap.specs.IndexMap.{insert_entry}
+use Rattle.am_board.specs.GroupList.{GroupList, name_of}
+use Rattle.am_board.specs.Keyed.{AreKeyed}
+use Rattle.am_board.specs.Lists.{put_in}
+use Rattle.am_board.specs.State.{same_name}
+use Rattle.am_board.specs.declared.group.Group.{Group}
+use Rattle.am_board.specs.declared.group.GroupName.{GroupName}
+use Rattle.am_board.proofs.GroupRoom.{same_name-decides}
+use Rattle.am_board.proofs.Keyed.{same_key, put_in-entries, AreKeyed-insert}
+use Rattle.am_board.proofs.Places.{put_new}
+use Rattle.am_board.proofs.groups.Groups.add.Goals as goal
+use Rattle.am_board.proofs.groups.Groups.add.Goals.{After-unwrap}
+
+-- there is room, so that the entry was made
+entered : (c : After-unwrap) → c.insert.new.self.entries ≡ insert_entry same_name c.self.inside.groups.entries c.args.group.name c.args.group
+entered c =
+    subst (λ r. OnOk r (c.insert.new.self.entries ≡ insert_entry same_name c.self.inside.groups.entries c.args.name c.args.group)) c.unwrap.ensures c.insert.ensures.entries
+    ∙ ap (λ n. insert_entry same_name c.self.inside.groups.entries n c.args.group) c.requires.name
+
+keyed : (c : After-unwrap) → AreKeyed name_of c.insert.new.self.entries
+keyed c = subst (AreKeyed name_of) (sym (entered c)) (AreKeyed-insert same_name name_of same_name-decides c.args.group c.self.inside.groups.entries c.self.invariant)
+
+added : (c : After-unwrap) → values_of c.insert.new.self.entries ≡ c.args.self.now.items ++ c.args.group ∷ []
+added c =
+    let like = same_key same_name name_of in
+    let missing : position (like c.args.group) c.args.self.now.items ≡ None = ap (λ (n : GroupName). position (λ (g : Group). same_name n g.name) c.args.self.now.items) (sym c.requires.name) ∙ c.requires.missing in
+    ap values_of (entered c)
+    ∙ put_in-entries same_name name_of c.args.group c.self.inside.groups.entries c.self.invariant
+    ∙ ap (λ (k : GroupList). put_in like c.args.group k.items) c.self.view_is
+    ∙ put_new like c.args.group c.args.self.now.items missing
+
+pub invariant_of-self : goal.invariant_of-self
+invariant_of-self c = keyed ((goal.at.invariant_of-self c).After-unwrap)
+
+pub returns-clause-items : goal.returns-clause-items
+returns-clause-items c = added ((goal.at.returns-clause-items c).After-unwrap)

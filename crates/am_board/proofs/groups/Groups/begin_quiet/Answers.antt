@@ -1,0 +1,25 @@
+use Rattle.std.proofs.Common.{◌≡◌, true, map, ap, sym, subst, ◌∙◌}
+use Rattle.indexmap.specs.IndexMap.{spare}
+use Rattle.am_board.specs.GroupList.{name_of}
+use Rattle.am_board.specs.Kept.{group_state}
+use Rattle.am_board.specs.State.{GroupState, same_name}
+use Rattle.am_board.specs.declared.group.Group.{Group}
+use Rattle.am_board.proofs.GroupRoom.{changes_at, lent_as, written_at}
+use Rattle.am_board.proofs.Keyed.{AreKeyed-set}
+use Rattle.am_board.specs.Begin.{count_resolved, without_resolved}
+use Rattle.am_board.proofs.groups.Groups.begin_quiet.Goals as goal
+
+pub invariant_of-self : goal.invariant_of-self
+invariant_of-self c =
+    AreKeyed-set same_name name_of c.self.inside.groups.entries c.args.i c.index_mut-group.result.now c.take_resolved.new.group c.self.invariant c.index_mut-group.ensures.value (ap (λ (g : GroupState). g.name) c.take_resolved.ensures.group ∙ ap (λ (g : Group). g.name) c.mark_begun.ensures)
+
+pub returns-clause-group : goal.returns-clause-group
+returns-clause-group c =
+    changes_at c.self.inside.groups.entries (spare c.self.inside.groups) c.args.self.now c.self.view_is c.args.i c.index_mut-group.result.now c.index_mut-group.ensures.value
+    (λ from to. group_state to ≡ without_resolved c.args.t (record (group_state from) { due = c.args.due; flushed = true })) c.take_resolved.new.group (ap (λ (g : GroupState). g.name) c.take_resolved.ensures.group ∙ ap (λ (g : Group). g.name) c.mark_begun.ensures) (c.take_resolved.ensures.group ∙ ap (λ (g : Group). without_resolved c.args.t (group_state g)) c.mark_begun.ensures)
+
+pub returns-clause-count : goal.returns-clause-count
+returns-clause-count c d =
+    c.take_resolved.ensures.count
+    ∙ ap (λ (g : Group). count_resolved c.args.t (group_state g)) c.mark_begun.ensures
+    ∙ ap (λ (g : Group). count_resolved c.args.t (group_state g)) (lent_as c.self.inside.groups.entries (spare c.self.inside.groups) c.args.self.now c.self.view_is c.args.i c.index_mut-group.result.now c.index_mut-group.ensures.value d)

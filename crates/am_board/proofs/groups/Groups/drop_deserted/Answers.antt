@@ -1,0 +1,48 @@
+use Rattle.std.proofs.Common.{◌≡◌, ◌≤◌, not, length, map, filter, ap, ◌∙◌, rules, arith, subst, sym}
+use Rattle.std.specs.List.{count_by}
+use Rattle.std.specs.Map.{values_of}
+use Rattle.indexmap.proofs.CallerLemmas.{filter-RetainsPairs}
+use Rattle.am_board.specs.declared.group.Group.{Group}
+use Rattle.am_board.specs.declared.group.GroupName.{GroupName}
+use Rattle.am_board.specs.Group.{names_of, AreRouted}
+use Rattle.am_board.specs.GroupList.{GroupList, name_of}
+use Rattle.am_board.specs.Keyed.{AreKeyed}
+use Rattle.am_board.specs.Kept.{group_state}
+use Rattle.am_board.specs.Lists.{without}
+use Rattle.am_board.specs.State.{same_name}
+use Rattle.am_board.specs.Upkeep.{is_deserted}
+use Rattle.am_board.proofs.Keyed.{values-filter, length-values, AreKeyed-filter}
+use Rattle.am_board.proofs.Maintenance.{map-without, length-without, All-map_filter}
+use Rattle.am_board.proofs.groups.Groups.drop_deserted.Goals as goal
+use Rattle.am_board.proofs.groups.Groups.drop_deserted.Goals.{After-retain}
+
+stay : (c : After-retain) → c.retain.new.self.entries ≡ filter (λ e. not (is_deserted (group_state e.1))) c.self.inside.groups.entries
+stay c = filter-RetainsPairs _ _ _ (λ k v b w g call. search rules) _ _ c.retain.ensures.filtered
+
+left : (c : After-retain) → values_of c.retain.new.self.entries ≡ filter (λ g. not (is_deserted (group_state g))) (values_of c.self.inside.groups.entries)
+left c = ap values_of (stay c) ∙ values-filter (λ (g : Group). not (is_deserted (group_state g))) c.self.inside.groups.entries
+
+pub invariant_of-self : goal.invariant_of-self
+invariant_of-self c =
+    subst (AreKeyed name_of) (sym (stay ((goal.at.invariant_of-self c).After-retain)))
+    (AreKeyed-filter same_name name_of (λ e. not (is_deserted (group_state e.1))) c.self.inside.groups.entries c.self.invariant)
+
+pub returns-clause-groups : goal.returns-clause-groups
+returns-clause-groups c =
+    let es = c.self.inside.groups.entries in
+    ap (map group_state) (left ((goal.at.returns-clause-groups c).After-retain)) ∙ map-without is_deserted group_state (values_of es) ∙ ap (λ (k : GroupList). without is_deserted (map group_state k.items)) c.self.view_is
+
+pub returns-clause-count : goal.returns-clause-count
+returns-clause-count c =
+    let es = c.self.inside.groups.entries in
+    let fewer = ap length (left ((goal.at.returns-clause-count c).After-retain)) in
+    let gone = length-without is_deserted group_state (values_of es) in
+    let told = ap (λ (k : GroupList). count_by is_deserted (map group_state k.items)) c.self.view_is in
+    omega (arith, fewer, gone, told, length-values es, length-values c.retain.new.self.entries, c.len.ensures.len, c.len-before.ensures.len)
+
+pub returns-clause-routed : goal.returns-clause-routed
+returns-clause-routed c tree routed =
+    let es = c.self.inside.groups.entries in
+    let before = subst (λ (k : GroupList). AreRouted tree (names_of k.items)) (sym c.self.view_is) routed in
+    subst (λ gs. AreRouted tree (names_of gs)) (sym (left ((goal.at.returns-clause-routed c).After-retain)))
+    (All-map_filter (λ (n : GroupName). n.route ≤ length tree.children) (λ g. not (is_deserted (group_state g))) (λ (g : Group). g.name) (values_of es) before)

@@ -1,0 +1,25 @@
+use Rattle.std.proofs.Common.{◌≡◌, map, ap, sym, subst, ◌∙◌}
+use Rattle.indexmap.specs.IndexMap.{spare}
+use Rattle.am_board.specs.GroupList.{name_of}
+use Rattle.am_board.specs.Kept.{group_state}
+use Rattle.am_board.specs.State.{GroupState, same_name}
+use Rattle.am_board.specs.declared.group.Group.{Group}
+use Rattle.am_board.proofs.GroupRoom.{changes_at, lent_as, written_at}
+use Rattle.am_board.proofs.Keyed.{AreKeyed-set}
+use Rattle.am_board.specs.Group.{Fits, IsReserved}
+use Rattle.std.proofs.lemmas.Result.{on_ok_weaker}
+use Rattle.am_board.proofs.groups.Groups.reserve_at.Goals as goal
+
+pub invariant_of-self : goal.invariant_of-self
+invariant_of-self c =
+    AreKeyed-set same_name name_of c.self.inside.groups.entries c.args.i c.index_mut.result.now c.reserve_members.new.group c.self.invariant c.index_mut.ensures.value (c.reserve_members.ensures.kept.name)
+
+pub returns-clause-kept : goal.returns-clause-kept
+returns-clause-kept c =
+    changes_at c.self.inside.groups.entries (spare c.self.inside.groups) c.args.self.now c.self.view_is c.args.i c.index_mut.result.now c.index_mut.ensures.value
+    IsReserved c.reserve_members.new.group (c.reserve_members.ensures.kept.name) (c.reserve_members.ensures.kept)
+
+pub returns-clause-room : goal.returns-clause-room
+returns-clause-room c =
+    let there = λ (d : Group). written_at c.self.inside.groups.entries (spare c.self.inside.groups) c.args.self.now c.self.view_is c.args.i c.index_mut.result.now c.index_mut.ensures.value c.reserve_members.new.group d in
+    on_ok_weaker c.reserve_members.result (λ fits d. subst (Fits c.args.more) (sym (there d)) fits) c.reserve_members.ensures.room

@@ -1,0 +1,26 @@
+use Rattle.std.proofs.Common.{◌≡◌, map, ap, sym, subst, ◌∙◌}
+use Rattle.indexmap.specs.IndexMap.{spare}
+use Rattle.am_board.specs.GroupList.{name_of}
+use Rattle.am_board.specs.Kept.{group_state}
+use Rattle.am_board.specs.State.{GroupState, same_name}
+use Rattle.am_board.specs.declared.group.Group.{Group}
+use Rattle.am_board.proofs.GroupRoom.{changes_at, lent_as, written_at}
+use Rattle.am_board.proofs.Keyed.{AreKeyed-set}
+use Rattle.std.specs.Prelude.{count_by}
+use Rattle.am_board.specs.Finish.{is_leaving}
+use Rattle.am_board.specs.Kept.{member_state, stamped}
+use Rattle.am_board.specs.Lists.{without}
+use Rattle.am_board.proofs.groups.Groups.take_leaving.Goals as goal
+
+pub invariant_of-self : goal.invariant_of-self
+invariant_of-self c =
+    AreKeyed-set same_name name_of c.self.inside.groups.entries c.args.i c.index_mut.result.now c.take_leaving.new.group c.self.invariant c.index_mut.ensures.value (ap (λ (g : GroupState). g.name) c.take_leaving.ensures.group)
+
+pub returns-clause-group : goal.returns-clause-group
+returns-clause-group c =
+    changes_at c.self.inside.groups.entries (spare c.self.inside.groups) c.args.self.now c.self.view_is c.args.i c.index_mut.result.now c.index_mut.ensures.value
+    (λ from to. group_state to ≡ record (group_state from) { members = without (is_leaving (map stamped c.args.leaving.now)) (map member_state from.members.items) }) c.take_leaving.new.group (ap (λ (g : GroupState). g.name) c.take_leaving.ensures.group) (c.take_leaving.ensures.group)
+
+pub returns-clause-count : goal.returns-clause-count
+returns-clause-count c d =
+    c.take_leaving.ensures.count ∙ ap (λ (g : Group). count_by (is_leaving (map stamped c.args.leaving.now)) (map member_state g.members.items)) (lent_as c.self.inside.groups.entries (spare c.self.inside.groups) c.args.self.now c.self.view_is c.args.i c.index_mut.result.now c.index_mut.ensures.value d)

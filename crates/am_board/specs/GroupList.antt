@@ -1,0 +1,13 @@
+-- The groups as they are kept: under their names, in the order in which they were made.
+use Rattle.std.specs.Prelude.{ℕ, List}
+use Rattle.am_board.specs.declared.group.Group.{Group}
+use Rattle.am_board.specs.declared.group.GroupName.{GroupName}
+
+-- groups, with room for so many more
+pub record GroupList : Type 0 where
+  pub items : List Group
+  pub room : ℕ
+
+-- the name that a group stands under
+abbrev pub name_of : Group → GroupName
+name_of g = g.name

@@ -1,0 +1,6 @@
+-- Entries that stand under what their values tell of themselves.
+use Rattle.std.specs.Prelude.{◌≡◌, List, All}
+
+-- each entry stands under its value's key
+abbrev pub AreKeyed : {K X : Type 0} → (X → K) → List (K × X) → Type 0
+AreKeyed key entries = All (λ e. e.0 ≡ key e.1) entries

@@ -1,0 +1,13 @@
+-- The known alerts as they are kept: under their labels, in the order in which these first came.
+use Rattle.std.specs.Prelude.{ℕ, List}
+use Rattle.am_alerts.specs.AlertData.{AlertData}
+use Rattle.am_alerts.specs.declared.labels.Label.{Label}
+
+-- alerts, with room for so many more
+pub record KnownAlerts : Type 0 where
+  pub items : List AlertData
+  pub room : ℕ
+
+-- the labels that an alert stands under
+abbrev pub labels_of : AlertData → List Label
+labels_of a = a.labels

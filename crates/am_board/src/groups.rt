@@ -1,0 +1,70 @@
+//! All groups, found by their names.
+ghost use Rattle.std.specs.Prelude.{◌≡◌, ◌^◌, ◌<◌, ◌≤◌, [], length, slice_index_or, OnOk};
+
+mod change;
+
+use crate::group::{Group, GroupName};
+use indexmap::IndexMap;
+use std::alloc::{AllocError, Global};
+use std::marker::Model;
+
+/// Groups of different names, in the order in which they were made, with room for more.
+#[derive(Debug, Drop)]
+pub(crate) struct Groups {
+    groups: IndexMap<GroupName, Group>,
+}
+
+impl Model for Groups {
+    ghost use Rattle.std.specs.Map.{values_of};
+    ghost use Rattle.indexmap.specs.IndexMap.{spare};
+    ghost use Rattle.am_board.specs.GroupList.{GroupList, name_of};
+    ghost use Rattle.am_board.specs.Keyed.{AreKeyed};
+
+    ghost Value = { GroupList };
+
+    ghost view = { λ g. record { items = values_of g.groups.entries; room = spare g.groups } };
+
+    ghost invariant = { λ g. AreKeyed name_of g.groups.entries };
+}
+
+impl Groups {
+    /// No groups.
+    pub(crate) fn new(alloc: Global) -> Groups
+        ensures { result.items ≡ [] }
+    {
+        Groups {
+            groups: IndexMap::new(alloc),
+        }
+    }
+
+    /// How many groups there are.
+    pub(crate) fn len(&self) -> usize
+        ensures len { result ≡ length self.now.items }
+        ensures small { result < 2 ^ 63 }
+    {
+        self.groups.len()
+    }
+
+    /// The groups, in the order in which they were made.
+    pub(crate) fn as_slice(&self) -> &[Group]
+        ensures value { result.now ≡ self.now.items }
+    {
+        self.groups.values().as_slice()
+    }
+
+    /// The group at a place.
+    pub(crate) fn at(&self, i: usize) -> &Group
+        requires { i < length self.now.items }
+        ensures { result.now ≡ slice_index_or self.now.items i result.now }
+    {
+        &self.as_slice()[i]
+    }
+
+    /// Makes room for so many more groups.
+    pub(crate) fn reserve(&mut self, more: usize) -> Result<(), AllocError>
+        ensures items { self.new.items ≡ self.old.items }
+        ensures room { OnOk result (more ≤ self.new.room) }
+    {
+        self.groups.reserve(more)
+    }
+}

@@ -1,0 +1,125 @@
+//! Groups are found by their names, made, changed in their places and removed.
+ghost use Rattle.std.specs.Prelude.{◌≡◌, ℕ, ◌+◌, ◌<◌, ◌≤◌, ◌∷◌, [], ◌++◌, None, count_by, length, map, not, position, slice_index_or, true, IfSome, OnOk};
+ghost use Rattle.std.specs.List.{IsDistinct};
+ghost use Rattle.am_alerts.specs.RoutingTree.{RoutingTree};
+ghost use Rattle.am_board.specs.Begin.{count_resolved, without_resolved};
+ghost use Rattle.am_board.specs.Finish.{is_leaving};
+ghost use Rattle.am_board.specs.Group.{names_of, AreRouted, HasRoom, Fits, IsReserved};
+ghost use Rattle.am_board.specs.Groups.{Changes, Gets};
+ghost use Rattle.am_board.specs.Kept.{member_state, stamped, group_state};
+ghost use Rattle.am_board.specs.Lists.{without};
+ghost use Rattle.am_board.specs.State.{same_name};
+ghost use Rattle.am_board.specs.Upkeep.{is_deserted};
+
+use super::Groups;
+use crate::finish::take_leaving;
+use crate::flush::Leaving;
+use crate::group::{Group, GroupName, Member, mark_begun, reserve_members, take_resolved};
+use std::alloc::AllocError;
+
+impl Groups {
+    /// The place of the group of this name.
+    pub(crate) fn find(&self, name: &GroupName) -> Option<usize>
+        ensures place { result ≡ position (λ g. same_name name.now g.name) self.now.items }
+        ensures within { IfSome result (λ i. i < length self.now.items) }
+        ensures distinct { IsDistinct same_name (names_of self.now.items) }
+    {
+        self.groups.get_index_of(name)
+    }
+
+    /// Adds a group, for which there is room, under its name, which no other has.
+    pub(crate) fn add(&mut self, name: GroupName, group: Group)
+        requires name { name ≡ group.name }
+        requires missing { position (λ g. same_name name g.name) self.old.items ≡ None }
+        requires room { 0 < self.old.room }
+        ensures items { self.new.items ≡ self.old.items ++ group ∷ [] }
+        ensures room { self.old.room ≤ self.new.room + 1 }
+    {
+        self.groups.insert(name, group).unwrap();
+    }
+
+    /// Makes room for so many more alerts in the group at a place.
+    pub(crate) fn reserve_at(&mut self, i: usize, more: usize) -> Result<(), AllocError>
+        requires place { i < length self.old.items }
+        ensures kept { Changes IsReserved i self.old self.new }
+        ensures room { OnOk result ((d : Group) → Fits more (slice_index_or self.new.items i d)) }
+    {
+        reserve_members(&mut self.groups[i], more)
+    }
+
+    /// Makes room for so many more alerts in the group of this name, if there is one.
+    pub(crate) fn reserve_named(&mut self, name: &GroupName, more: usize) -> Result<(), AllocError>
+        ensures names { names_of self.new.items ≡ names_of self.old.items }
+        ensures states { map group_state self.new.items ≡ map group_state self.old.items }
+        ensures spare { self.new.room ≡ self.old.room }
+        ensures room { OnOk result (HasRoom more name.now self.new.items) }
+        ensures others { (n : ℕ) (other : GroupName) → HasRoom n other self.old.items → HasRoom n other self.new.items }
+    {
+        match self.find(name) {
+            Some(i) => self.reserve_at(i, more),
+            None => Ok(()),
+        }
+    }
+
+    /// Puts a member into the group at a place, where there is room for it.
+    pub(crate) fn insert(&mut self, i: usize, member: Member, wait: u64, t: u64)
+        requires place { i < length self.old.items }
+        requires room { (d : Group) → Fits 1 (slice_index_or self.old.items i d) }
+        ensures { Changes (Gets (member_state member) wait t) i self.old self.new }
+    {
+        let group = &mut self.groups[i];
+        group.insert(member, wait, t);
+    }
+
+    /// The group at a place was taken, and is due at this moment again.
+    pub(crate) fn begin(&mut self, i: usize, due: u64)
+        requires { i < length self.old.items }
+        ensures { Changes (λ from to. to ≡ record from { due = due; flushed = true }) i self.old self.new }
+    {
+        mark_begun(&mut self.groups[i], due);
+    }
+
+    /// The group at a place was taken, and nobody is asked: it is due at this moment again, and the
+    /// alerts that are resolved at `t` leave it. Answers how many.
+    pub(crate) fn begin_quiet(&mut self, i: usize, due: u64, t: u64) -> usize
+        requires { i < length self.old.items }
+        ensures group { Changes (λ from to. group_state to ≡ without_resolved t (record (group_state from) { due = due; flushed = true })) i self.old self.new }
+        ensures count { (d : Group) → result ≡ count_resolved t (group_state (slice_index_or self.old.items i d)) }
+    {
+        let group = &mut self.groups[i];
+        mark_begun(group, due);
+        take_resolved(group, t)
+    }
+
+    /// Takes the alerts out of the group at a place that stand there as they did when they were found
+    /// resolved, and answers how many.
+    pub(crate) fn take_leaving(&mut self, i: usize, leaving: &[Leaving]) -> usize
+        requires { i < length self.old.items }
+        ensures group { Changes (λ from to. group_state to ≡ record (group_state from) { members = without (is_leaving (map stamped leaving.now)) (map member_state from.members.items) }) i self.old self.new }
+        ensures count { (d : Group) → result ≡ count_by (is_leaving (map stamped leaving.now)) (map member_state (slice_index_or self.old.items i d).members.items) }
+    {
+        take_leaving(&mut self.groups[i], leaving)
+    }
+
+    /// Removes the groups without alerts, and answers how many.
+    pub(crate) fn drop_deserted(&mut self) -> usize
+        ensures groups { map group_state self.new.items ≡ without is_deserted (map group_state self.old.items) }
+        ensures count { result ≡ count_by is_deserted (map group_state self.old.items) }
+        ensures routed { (tree : RoutingTree) → AreRouted tree (names_of self.old.items) → AreRouted tree (names_of self.new.items) }
+    {
+        let before = self.groups.len();
+        self.groups.retain(
+            |_name: &GroupName, group: &mut Group| -> bool
+                ensures { (result ≡ not (is_deserted (group_state group.old))) × (group.new ≡ group.old) }
+            { !is_without_alerts(group) },
+        );
+        before - self.groups.len()
+    }
+}
+
+/// Whether a group has no alerts.
+fn is_without_alerts(group: &Group) -> bool
+    ensures { result ≡ is_deserted (group_state group.now) }
+{
+    group.members.is_empty()
+}

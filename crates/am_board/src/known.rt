@@ -1,0 +1,87 @@
+//! Known alerts, found by their labels.
+ghost use Rattle.std.specs.Prelude.{◌≡◌, ◌<◌, ◌≤◌, [], length, position, IfSome, OnOk};
+ghost use Rattle.am_alerts.specs.Labels.{same_label_set};
+ghost use Rattle.am_board.specs.Insert.{same_alert};
+ghost use Rattle.am_board.specs.Lists.{put_in};
+
+use am_alerts::alert::Alert;
+use am_alerts::labels::Labels;
+use indexmap::IndexMap;
+use std::alloc::{AllocError, Global};
+use std::marker::Model;
+
+/// Alerts of different labels, in the order in which these first came, with room for more.
+#[derive(Debug, Drop)]
+pub(crate) struct Known {
+    alerts: IndexMap<Labels, Alert>,
+}
+
+impl Model for Known {
+    ghost use Rattle.std.specs.Map.{values_of};
+    ghost use Rattle.indexmap.specs.IndexMap.{spare};
+    ghost use Rattle.am_board.specs.Keyed.{AreKeyed};
+    ghost use Rattle.am_board.specs.Known.{KnownAlerts, labels_of};
+
+    ghost Value = { KnownAlerts };
+
+    ghost view = { λ k. record { items = values_of k.alerts.entries; room = spare k.alerts } };
+
+    ghost invariant = { λ k. AreKeyed labels_of k.alerts.entries };
+}
+
+impl Known {
+    /// No alerts.
+    pub(crate) fn new(alloc: Global) -> Known
+        ensures { result.items ≡ [] }
+    {
+        Known {
+            alerts: IndexMap::new(alloc),
+        }
+    }
+
+    /// How many alerts are known.
+    pub(crate) fn len(&self) -> usize
+        ensures { result ≡ length self.now.items }
+    {
+        self.as_slice().len()
+    }
+
+    /// The alerts, in the order in which their labels first came.
+    pub(crate) fn as_slice(&self) -> &[Alert]
+        ensures value { result.now ≡ self.now.items }
+    {
+        self.alerts.values().as_slice()
+    }
+
+    /// The place of the alert with these labels.
+    pub(crate) fn find(&self, labels: &Labels) -> Option<usize>
+        ensures place { result ≡ position (λ a. same_label_set labels.now a.labels) self.now.items }
+        ensures within { IfSome result (λ i. i < length self.now.items) }
+    {
+        self.alerts.get_index_of(labels)
+    }
+
+    /// Makes room for so many more alerts.
+    pub(crate) fn reserve(&mut self, more: usize) -> Result<(), AllocError>
+        ensures items { self.new.items ≡ self.old.items }
+        ensures room { OnOk result (more ≤ self.new.room) }
+    {
+        self.alerts.reserve(more)
+    }
+
+    /// Puts an alert in place of the one that is known at a place, or adds it under its labels.
+    pub(crate) fn put(&mut self, place: Option<usize>, labels: Labels, alert: Alert)
+        requires labels { labels ≡ alert.labels }
+        requires place { place ≡ position (same_alert alert) self.old.items }
+        requires within { IfSome place (λ i. i < length self.old.items) }
+        requires room { 0 < self.old.room }
+        ensures { self.new.items ≡ put_in same_alert alert self.old.items }
+    {
+        match place {
+            Some(i) => self.alerts[i] = alert,
+            None => {
+                self.alerts.insert(labels, alert).unwrap();
+            }
+        }
+    }
+}

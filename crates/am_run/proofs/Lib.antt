@@ -1,1 +1,3 @@
 pub mod TallyWalks
+pub mod FirstRun
+pub mod Receivers

@@ -1,1 +1,4 @@
 pub mod Faults
+pub mod Bytes
+pub mod Report
+pub mod FirstRun

@@ -1,6 +1,7 @@
 //! Where a scenario comes from, and where its report goes.
-ghost use Rattle.std.specs.Prelude.{◌≡◌, ◌≤◌, ◌+◌, ◌==◌, ℕ, length, IfOk, is_ok, if◌then◌else◌};
+ghost use Rattle.std.specs.Prelude.{◌≡◌, ◌≤◌, ◌+◌, ◌++◌, ◌==◌, List, ℕ, length, IfOk, is_ok, if◌then◌else◌};
 ghost use Rattle.std.specs.Result.{result_unwrap_or};
+ghost use Rattle.am_run.specs.Bytes.{moved, is_end};
 
 use crate::tally::Usage;
 use std::io::{Read, Stdin, Stdout, Write};
@@ -11,13 +12,16 @@ pub struct DeviceFault;
 
 /// Where bytes are read from.
 ///
-/// Contracts see how often it was asked, how often it failed and how many bytes it gave.
+/// Contracts see how often it was asked, how often it failed, how often it told its end, and the
+/// list of the bytes that it gave.
 pub trait Source {
     ghost asked: { Self → ℕ };
 
     ghost failed: { Self → ℕ };
 
-    ghost given: { Self → ℕ };
+    ghost ended: { Self → ℕ };
+
+    ghost given: { Self → List ℕ };
 
     /// Reads into the front of the buffer, and answers how many bytes. None is the end of the
     /// input, where the buffer isn't empty.
@@ -25,18 +29,19 @@ pub trait Source {
         ensures within { IfOk result (λ count. count ≤ length buffer.new) }
         ensures asks { asked self.new ≡ asked self.old + 1 }
         ensures fails { failed self.new ≡ failed self.old + (if is_ok result then 0 else 1) }
-        ensures gives { given self.new ≡ given self.old + result_unwrap_or result 0 };
+        ensures ends { ended self.new ≡ ended self.old + (if is_end result buffer.new then 1 else 0) }
+        ensures gives { given self.new ≡ given self.old ++ moved result buffer.new };
 }
 
 /// Where bytes are written to.
 ///
-/// Contracts see how often it was asked, how often it failed and how many bytes it took.
+/// Contracts see how often it was asked, how often it failed and the list of the bytes that it took.
 pub trait Sink {
     ghost asked: { Self → ℕ };
 
     ghost failed: { Self → ℕ };
 
-    ghost taken: { Self → ℕ };
+    ghost taken: { Self → List ℕ };
 
     /// Writes from the front of the bytes, and answers how many it took. To take none is to fail.
     fn write(&mut self, bytes: &[u8]) -> Result<usize, DeviceFault>
@@ -44,7 +49,7 @@ pub trait Sink {
         ensures asks { asked self.new ≡ asked self.old + 1 }
         ensures fails { failed self.new ≡ failed self.old
             + (if result_unwrap_or result 0 == 0 then 1 else 0) }
-        ensures takes { taken self.new ≡ taken self.old + result_unwrap_or result 0 };
+        ensures takes { taken self.new ≡ taken self.old ++ moved result bytes.now };
 }
 
 /// The standard input.
@@ -84,12 +89,18 @@ impl Source for StandardInput {
 
     ghost failed = { λ i. i.usage.failed.count };
 
-    ghost given = { λ i. i.usage.moved.count };
+    ghost ended = { λ i. i.usage.ended.count };
+
+    ghost given = { λ i. i.usage.moved.bytes };
 
     fn read(&mut self, buffer: &mut [u8]) -> Result<usize, DeviceFault> {
         match self.stdin.read(buffer) {
+            Ok(0) if !buffer.is_empty() => {
+                self.usage.add_end();
+                Ok(0)
+            }
             Ok(count) => {
-                self.usage.add_success(count);
+                self.usage.add_success(&buffer[..count]);
                 Ok(count)
             }
             Err(_) => {
@@ -105,12 +116,12 @@ impl Sink for StandardOutput {
 
     ghost failed = { λ o. o.usage.failed.count };
 
-    ghost taken = { λ o. o.usage.moved.count };
+    ghost taken = { λ o. o.usage.moved.bytes };
 
     fn write(&mut self, bytes: &[u8]) -> Result<usize, DeviceFault> {
         match self.stdout.write(bytes) {
             Ok(count) if count > 0 => {
-                self.usage.add_success(count);
+                self.usage.add_success(&bytes[..count]);
                 Ok(count)
             }
             _ => {

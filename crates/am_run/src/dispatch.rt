@@ -1,7 +1,9 @@
 //! The board of a run, and the tickets of its flushes.
-ghost use Rattle.std.specs.Prelude.{◌≡◌};
+ghost use Rattle.std.specs.Prelude.{◌≡◌, IfOk, string_bytes};
+ghost use Rattle.am_run.specs.Report.{IsReportOf};
 ghost use Rattle.am_run.specs.declared.dispatch.TheConstants.{BOARD_ID};
 
+use crate::report::report_text;
 use am_alerts::alert::Alert;
 use am_board::begin::Begun;
 use am_board::board::Board;
@@ -12,7 +14,7 @@ use am_board::record::{Finished, Inserted, Maintained, Noted, Silenced};
 use am_board::ticket::Ticket;
 use am_mute::silence::Silence;
 use am_retry::Outcome;
-use std::alloc::Global;
+use std::alloc::{AllocError, Global};
 
 /// The id of the board of a run.
 pub const BOARD_ID: u64 = 1;
@@ -54,8 +56,17 @@ impl Dispatcher {
         Ok(Dispatcher { board })
     }
 
-    pub fn board(&self) -> &Board {
+    pub fn board(&self) -> &Board
+        ensures { result.now ≡ self.now.board }
+    {
         &self.board
+    }
+
+    /// The report on what the board did. The reports tell how many attempts each notice took.
+    pub fn report(&self, alloc: Global, reports: &[Report]) -> Result<String, AllocError>
+        ensures { IfOk result (λ text. IsReportOf BOARD_ID (string_bytes text)) }
+    {
+        report_text(alloc, &self.board, reports)
     }
 
     pub fn insert(

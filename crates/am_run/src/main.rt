@@ -8,6 +8,7 @@ mod courier;
 mod device;
 mod dispatch;
 mod fault;
+mod law;
 mod phase;
 mod place;
 mod reader;

@@ -4,13 +4,12 @@ ghost use Rattle.am_alerts.specs.declared.limits.TheConstants.{MAX_MOMENT};
 
 use crate::dispatch::{Dispatcher, MAIN_PASS, OwnTicket, Step};
 use crate::fault::ScenarioFault;
-use crate::report::{Upshot, push_notice};
 use crate::scenario::{Call, Lane, Phase};
 use crate::sending::{last_end, report_on, send_notices};
 use crate::trouble::{Refused, Troubles};
 use am_board::config::MAX_HISTORY;
 use am_board::fault::{Fault, NoteFault};
-use am_board::notice::{Notice, Report};
+use am_board::notice::Report;
 use am_pool::Courier;
 use am_retry::Outcome;
 use std::alloc::Global;
@@ -21,8 +20,8 @@ pub struct Run {
     alloc: Global,
     dispatcher: Dispatcher,
     troubles: Troubles,
-    /// The lines of the report on the notices so far.
-    lines: String,
+    /// The reports on the notices so far.
+    reports: Vec<Report>,
 }
 
 impl Run {
@@ -32,19 +31,19 @@ impl Run {
             alloc,
             dispatcher,
             troubles: Troubles::none(),
-            lines: String::new(alloc),
+            reports: Vec::new(alloc),
         }
     }
 
-    /// The board, and the lines of the report on the notices.
-    pub fn into_parts(self) -> (Dispatcher, String) {
+    /// The board, and the reports on the notices.
+    pub fn into_parts(self) -> (Dispatcher, Vec<Report>) {
         let Run {
             alloc: _,
             dispatcher,
             troubles: _,
-            lines,
+            reports,
         } = self;
-        (dispatcher, lines)
+        (dispatcher, reports)
     }
 
     /// Runs the phase of this index, with a courier for its notices. All flushes that it begins are
@@ -67,6 +66,7 @@ impl Run {
             self.settle_all(at, &mut tickets, reports.as_slice());
         }
         self.finish_all(at, tickets, reports.as_slice());
+        self.keep(reports.as_slice());
         self.troubles.verdict(self.alloc, index)
     }
 
@@ -171,7 +171,14 @@ impl Run {
         }
     }
 
-    /// Records the reports, adds the lines on the notices, and notes each success.
+    /// Keeps the reports of a phase.
+    fn keep(&mut self, reports: &[Report]) {
+        if self.reports.extend_from_slice(reports).is_err() {
+            self.troubles.add_no_memory();
+        }
+    }
+
+    /// Records the reports, and notes each success.
     fn settle_all(&mut self, at: u64, tickets: &mut Vec<OwnTicket>, reports: &[Report]) {
         for own in tickets.iter_mut() {
             if !own.record_all(reports) {
@@ -183,24 +190,14 @@ impl Run {
 
     fn settle(&mut self, at: u64, own: &OwnTicket, reports: &[Report]) {
         for (place, notice) in own.notices().iter().enumerate() {
-            let outcome = own.outcome(place);
-            let report = report_on(reports, own.number(), notice.integration);
-            let (attempts, end) = match report {
-                None => (0, at),
-                Some(report) => (report.attempts, report.ended.max(at)),
-            };
-            self.tell(notice, Upshot { outcome, attempts });
-            if notice.nothing() || outcome == Some(Outcome::Delivered) {
+            if notice.nothing() || own.outcome(place) == Some(Outcome::Delivered) {
+                let report = report_on(reports, own.number(), notice.integration);
+                let end = match report {
+                    None => at,
+                    Some(report) => report.ended.max(at),
+                };
                 self.note(end, own, place);
             }
-        }
-    }
-
-    /// Adds the line on a notice.
-    fn tell(&mut self, notice: &Notice, upshot: Upshot) {
-        let config = self.dispatcher.board().config();
-        if push_notice(self.alloc, config, notice, upshot, &mut self.lines).is_err() {
-            self.troubles.add_no_memory();
         }
     }
 

@@ -1,161 +1,324 @@
-//! The texts of the report.
-ghost use Rattle.std.specs.Prelude.{◌≤◌, ◌↔◌, length, IsTrue};
+//! The text of the report.
+ghost use Rattle.std.specs.Prelude.{◌≡◌, ◌++◌, ◌≤◌, ◌↔◌, codes, decimal, length, IfOk, IsTrue, OnOk, string_bytes};
+ghost use Rattle.std.specs.List.{flat_map, join_by};
+ghost use Rattle.std.specs.Option.{option_copied};
+ghost use Rattle.am_alerts.specs.LabelText.{label_set_text};
+ghost use Rattle.am_board.specs.Config.{kind_at};
+ghost use Rattle.am_board.specs.Configured.{route_of, integrations_named};
+ghost use Rattle.am_board.specs.Replay.{IsLegal};
+ghost use Rattle.am_board.specs.Ticket.{outcome_of};
+ghost use Rattle.am_run.specs.Report.{labels_of, as_it_is, list_text, lists_text, group_text, integration_text, target_text, outcome_text, notice_line, row_line, flushed_text, group_line, calls_line, finished_with, outcomes_in, outcome_in, attempts_on, notices_in, line_on, notice_lines, report_text};
 
 use am_alerts::alert::Alert;
 use am_alerts::labels::Labels;
+use am_alerts::route::Route;
 use am_board::board::Board;
-use am_board::config::{Config, Receiver};
+use am_board::config::{Config, Integration};
 use am_board::group::GroupName;
-use am_board::notice::Notice;
+use am_board::notice::{Notice, Report};
+use am_board::record::{Call, Record, Reply};
 use am_board::views::{GroupView, RowView};
 use am_retry::Outcome;
 use std::alloc::{AllocError, Global};
 
-/// What a notice came to.
-#[derive(Clone, Copy)]
-pub struct Upshot {
-    /// None where there was nothing to send.
-    pub outcome: Option<Outcome>,
-    pub attempts: u64,
-}
-
 /// What has a label set.
 trait Labelled {
-    fn label_set(&self) -> &Labels;
+    ghost use Rattle.std.specs.Prelude.{List};
+    ghost use Rattle.am_alerts.specs.declared.labels.Label.{Label};
+
+    ghost labels: { Self → List Label };
+
+    fn label_set(&self) -> &Labels
+        ensures { result.now ≡ labels self.now };
 }
 
 impl Labelled for Alert {
+    ghost labels = { labels_of };
+
     fn label_set(&self) -> &Labels {
         self.labels()
     }
 }
 
 impl Labelled for Labels {
+    ghost labels = { as_it_is };
+
     fn label_set(&self) -> &Labels {
         self
     }
 }
 
-/// Adds the line on a notice.
-pub fn push_notice(
-    alloc: Global,
+/// The report on the history of a board. The reports tell how many attempts each notice took.
+pub fn report_text(alloc: Global, board: &Board, reports: &[Report]) -> Result<String, AllocError>
+    ensures text { IfOk result (λ text.
+        string_bytes text ≡ report_text board.now.config reports.now board.now.history) }
+    ensures legal { IsLegal board.now.config board.now.id board.now.history }
+{
+    let mut out = String::new(alloc);
+    let config = board.config();
+    let history = board.history();
+    push_notices(config, reports, history, &mut out)?;
+    let rows = board.rows(alloc)?;
+    push_rows(config, rows.as_slice(), &mut out)?;
+    let groups = board.groups(alloc)?;
+    push_groups(config, groups.as_slice(), &mut out)?;
+    push_calls(history.len(), &mut out)?;
+    Ok(out)
+}
+
+/// Adds the lines on the notices of a history.
+fn push_notices(
+    config: &Config,
+    reports: &[Report],
+    history: &[Record],
+    out: &mut String,
+) -> Result<(), AllocError>
+    ensures { OnOk result (string_bytes out.new
+        ≡ string_bytes out.old ++ notice_lines config.now reports.now history.now) }
+{
+    let mut rest = history;
+    loop {
+        match rest {
+            [] => return Ok(()),
+            [record, later @ ..] => {
+                push_begun(config, reports, notices_in(&record.reply), later, out)?;
+                rest = later;
+            }
+        }
+    }
+}
+
+/// The notices of a flush that was begun.
+fn notices_in(reply: &Reply) -> &[Notice]
+    ensures { result.now ≡ notices_in reply.now }
+{
+    match reply {
+        Reply::Flush { notices, .. } => notices.as_slice(),
+        _ => &[],
+    }
+}
+
+/// Adds the lines on notices that these records follow.
+fn push_begun(
+    config: &Config,
+    reports: &[Report],
+    notices: &[Notice],
+    later: &[Record],
+    out: &mut String,
+) -> Result<(), AllocError>
+    ensures { OnOk result (string_bytes out.new
+        ≡ string_bytes out.old ++ flat_map (line_on config.now reports.now later.now) notices.now) }
+{
+    for notice in notices {
+        let outcome = outcome_in(notice, later);
+        let attempts = attempts_on(notice.ticket, notice.integration, reports);
+        push_notice(config, notice, outcome, attempts, out)?;
+    }
+    Ok(())
+}
+
+/// What the sending of a notice came to, as the finish of its flush in these records says.
+fn outcome_in(notice: &Notice, later: &[Record]) -> Option<Outcome>
+    ensures { result ≡ outcome_in notice.now later.now }
+{
+    for record in later {
+        if let Some(outcomes) = finished_with(notice.ticket, &record.call) {
+            return outcome_of(outcomes, notice.integration);
+        }
+    }
+    None
+}
+
+/// The outcomes that a call finishes the flush of this number with, if it does.
+fn finished_with(number: u64, call: &Call) -> Option<&[(u32, Outcome)]>
+    ensures { option_copied result ≡ finished_with number call.now }
+{
+    match call {
+        Call::Finish {
+            now: _,
+            number: finished,
+            outcomes,
+        } if *finished == number => Some(outcomes.as_slice()),
+        _ => None,
+    }
+}
+
+/// The outcome of an integration: that of the first pair that names it.
+fn outcome_of(outcomes: &[(u32, Outcome)], integration: u32) -> Option<Outcome>
+    ensures { result ≡ outcome_of outcomes.now integration }
+{
+    for pair in outcomes {
+        if pair.0 == integration {
+            return Some(pair.1);
+        }
+    }
+    None
+}
+
+/// How many attempts the first of these reports on a notice tells.
+fn attempts_on(ticket: u64, integration: u32, reports: &[Report]) -> u64
+    ensures { result ≡ attempts_on ticket integration reports.now }
+{
+    for report in reports {
+        if report.ticket == ticket && report.integration == integration {
+            return report.attempts;
+        }
+    }
+    0
+}
+
+fn push_notice(
     config: &Config,
     notice: &Notice,
-    upshot: Upshot,
+    outcome: Option<Outcome>,
+    attempts: u64,
     out: &mut String,
-) -> Result<(), AllocError> {
-    let ticket = notice.ticket;
-    write!(out, "notice {ticket} ")?;
-    push_target(alloc, config, &notice.group, notice.integration, out)?;
-    let outcome = outcome_text(upshot.outcome);
-    let attempts = upshot.attempts;
-    write!(out, " {outcome} attempts={attempts}")?;
+) -> Result<(), AllocError>
+    ensures { OnOk result (string_bytes out.new
+        ≡ string_bytes out.old ++ notice_line config.now notice.now outcome attempts) }
+{
+    out.push_str("notice ")?;
+    push_number(notice.ticket, out)?;
+    out.push_str(" ")?;
+    push_target(config, &notice.group, notice.integration, out)?;
+    out.push_str(" ")?;
+    out.push_str(outcome_text(outcome))?;
+    out.push_str(" attempts=")?;
+    push_number(attempts, out)?;
     push_lists(notice.firing.as_slice(), notice.resolved.as_slice(), out)?;
     out.push_str("\n")
 }
 
-/// Adds the lines on the log rows and on the groups, and the line on the calls.
-pub fn push_state(alloc: Global, board: &Board, out: &mut String) -> Result<(), AllocError> {
-    push_rows(alloc, board, out)?;
-    push_groups(alloc, board, out)?;
-    let calls = board.history().len();
-    write!(out, "calls {calls}\n")
-}
-
-fn push_rows(alloc: Global, board: &Board, out: &mut String) -> Result<(), AllocError> {
-    for row in board.rows(alloc)? {
-        push_row(alloc, board.config(), &row, out)?;
+fn push_rows(config: &Config, rows: &[RowView], out: &mut String) -> Result<(), AllocError>
+    ensures { OnOk result (string_bytes out.new
+        ≡ string_bytes out.old ++ flat_map (row_line config.now) rows.now) }
+{
+    for row in rows {
+        push_row(config, row, out)?;
     }
     Ok(())
 }
 
-fn push_row(
-    alloc: Global,
-    config: &Config,
-    row: &RowView,
-    out: &mut String,
-) -> Result<(), AllocError> {
+fn push_row(config: &Config, row: &RowView, out: &mut String) -> Result<(), AllocError>
+    ensures { OnOk result (string_bytes out.new ≡ string_bytes out.old ++ row_line config.now row.now) }
+{
     out.push_str("row ")?;
-    push_target(alloc, config, &row.group, row.integration, out)?;
-    let at = row.moment;
-    let expiry = row.expiry;
-    write!(out, " at={at} expiry={expiry}")?;
+    push_target(config, &row.group, row.integration, out)?;
+    out.push_str(" at=")?;
+    push_number(row.moment, out)?;
+    out.push_str(" expiry=")?;
+    push_number(row.expiry, out)?;
     push_lists(row.firing.as_slice(), row.resolved.as_slice(), out)?;
     out.push_str("\n")
 }
 
-fn push_groups(alloc: Global, board: &Board, out: &mut String) -> Result<(), AllocError> {
-    for group in board.groups(alloc)? {
-        push_group(alloc, board.config(), &group, out)?;
+fn push_groups(config: &Config, groups: &[GroupView], out: &mut String) -> Result<(), AllocError>
+    ensures { OnOk result (string_bytes out.new
+        ≡ string_bytes out.old ++ flat_map (group_line config.now) groups.now) }
+{
+    for group in groups {
+        push_group(config, group, out)?;
     }
     Ok(())
 }
 
-fn push_group(
-    alloc: Global,
-    config: &Config,
-    group: &GroupView,
-    out: &mut String,
-) -> Result<(), AllocError> {
+fn push_group(config: &Config, group: &GroupView, out: &mut String) -> Result<(), AllocError>
+    ensures { OnOk result (string_bytes out.new ≡ string_bytes out.old ++ group_line config.now group.now) }
+{
     out.push_str("group ")?;
-    push_key(alloc, config, &group.group, out)?;
-    let due = group.due;
-    let flushed = if group.flushed { "yes" } else { "no" };
-    write!(out, " due={due} flushed={flushed} alerts=")?;
+    push_key(config, &group.group, out)?;
+    out.push_str(" due=")?;
+    push_number(group.due, out)?;
+    out.push_str(" flushed=")?;
+    out.push_str(flushed_text(group.flushed))?;
+    out.push_str(" alerts=")?;
     push_list(group.alerts.as_slice(), out)?;
+    out.push_str("\n")
+}
+
+fn push_calls(calls: usize, out: &mut String) -> Result<(), AllocError>
+    ensures { OnOk result (string_bytes out.new ≡ string_bytes out.old ++ calls_line calls) }
+{
+    out.push_str("calls ")?;
+    push_number(calls as u64, out)?;
     out.push_str("\n")
 }
 
 /// Adds the key of a group and the text of an integration of its receiver.
 fn push_target(
-    alloc: Global,
     config: &Config,
     group: &GroupName,
     integration: u32,
     out: &mut String,
-) -> Result<(), AllocError> {
-    push_key(alloc, config, group, out)?;
+) -> Result<(), AllocError>
+    ensures { OnOk result (string_bytes out.new
+        ≡ string_bytes out.old ++ target_text config.now group.now integration) }
+{
+    push_key(config, group, out)?;
     out.push_str(" ")?;
-    match receiver_of(config, group) {
-        None => Ok(()),
-        Some(receiver) => out.push_str(receiver.integration_text(alloc, integration)?.as_str()),
-    }
+    push_integration(config, group, integration, out)
 }
 
-/// Adds the key of a group, or nothing if no route is at the group's position.
-fn push_key(
-    alloc: Global,
+/// Adds the key of a group.
+fn push_key(config: &Config, group: &GroupName, out: &mut String) -> Result<(), AllocError>
+    ensures { OnOk result (string_bytes out.new ≡ string_bytes out.old ++ group_text config.now group.now) }
+{
+    out.push_str(route_of(config, group).name.as_str())?;
+    out.push_str(":")?;
+    group.labels.push_text(out)
+}
+
+/// Adds the text of an integration of a group's receiver.
+fn push_integration(
     config: &Config,
     group: &GroupName,
+    integration: u32,
     out: &mut String,
-) -> Result<(), AllocError> {
-    if !has_route(config, group) {
-        return Ok(());
-    }
-    let key = config.routes.key_text(alloc, group.route, &group.labels)?;
-    out.push_str(key.as_str())
-}
-
-/// The receiver of a group's route. A group of a board has one.
-fn receiver_of<'a>(config: &'a Config, group: &GroupName) -> Option<&'a Receiver> {
-    if !has_route(config, group) {
-        return None;
-    }
-    config.receiver(config.routes.route(group.route).receiver.as_str())
-}
-
-/// Whether there is a route at a group's position. A group of a board has one.
-fn has_route(config: &Config, group: &GroupName) -> bool
-    ensures { IsTrue result ↔ (group.now.route ≤ length config.now.routes.children) }
+) -> Result<(), AllocError>
+    ensures { OnOk result (string_bytes out.new
+        ≡ string_bytes out.old ++ integration_text config.now group.now integration) }
 {
-    group.route as usize <= config.routes.children().len()
+    let integrations = integrations_of(config, group);
+    out.push_str(kind_at(integrations, integration))?;
+    out.push_str("/")?;
+    push_number(u64::from(integration), out)
 }
 
-fn push_lists<T: Labelled>(
-    firing: &[T],
-    resolved: &[T],
-    out: &mut String,
-) -> Result<(), AllocError> {
+/// The route of a group; the root, if no route is at the group's position. A group of a board has one.
+fn route_of<'a>(config: &'a Config, group: &GroupName) -> &'a Route
+    ensures { result.now ≡ route_of config.now group.now }
+{
+    if group.route as usize <= config.routes.children().len() {
+        config.routes.route(group.route)
+    } else {
+        config.routes.root()
+    }
+}
+
+/// The integrations of a group's receiver. A group of a board has one.
+fn integrations_of<'a>(config: &'a Config, group: &GroupName) -> &'a [Integration]
+    ensures { result.now ≡ integrations_named (route_of config.now group.now).receiver config.now.receivers }
+{
+    match config.receiver(route_of(config, group).receiver.as_str()) {
+        None => &[],
+        Some(receiver) => receiver.integrations.as_slice(),
+    }
+}
+
+/// The kind of the integration at a position; nothing at a position that isn't there.
+fn kind_at(integrations: &[Integration], position: u32) -> &str
+    ensures { result.now ≡ kind_at integrations.now position }
+{
+    match integrations.get(position as usize) {
+        None => "",
+        Some(integration) => integration.kind.as_str(),
+    }
+}
+
+fn push_lists<T: Labelled>(firing: &[T], resolved: &[T], out: &mut String) -> Result<(), AllocError>
+    ensures { OnOk result (string_bytes out.new
+        ≡ string_bytes out.old ++ lists_text T.labels firing.now resolved.now) }
+{
     out.push_str(" firing=")?;
     push_list(firing, out)?;
     out.push_str(" resolved=")?;
@@ -163,20 +326,53 @@ fn push_lists<T: Labelled>(
 }
 
 /// Adds a list of label sets: `[`, the sets joined by `,`, and `]`.
-fn push_list<T: Labelled>(items: &[T], out: &mut String) -> Result<(), AllocError> {
+fn push_list<T: Labelled>(items: &[T], out: &mut String) -> Result<(), AllocError>
+    ensures { OnOk result (string_bytes out.new ≡ string_bytes out.old ++ list_text T.labels items.now) }
+{
     out.push_str("[")?;
-    let mut first = true;
-    for item in items {
-        if !first {
-            out.push_str(",")?;
-        }
-        first = false;
-        item.label_set().push_text(out)?;
-    }
+    push_sets(items, out)?;
     out.push_str("]")
 }
 
-fn outcome_text(outcome: Option<Outcome>) -> &'static str {
+fn push_sets<T: Labelled>(items: &[T], out: &mut String) -> Result<(), AllocError>
+    ensures { OnOk result (string_bytes out.new ≡ string_bytes out.old
+        ++ join_by (λ i. label_set_text (T.labels i)) (codes ",") items.now) }
+{
+    match items {
+        [] => Ok(()),
+        [first, rest @ ..] => {
+            first.label_set().push_text(out)?;
+            push_more_sets(rest, out)
+        }
+    }
+}
+
+fn push_more_sets<T: Labelled>(items: &[T], out: &mut String) -> Result<(), AllocError>
+    ensures { OnOk result (string_bytes out.new ≡ string_bytes out.old
+        ++ flat_map (λ i. codes "," ++ label_set_text (T.labels i)) items.now) }
+{
+    for item in items {
+        out.push_str(",")?;
+        item.label_set().push_text(out)?;
+    }
+    Ok(())
+}
+
+fn push_number(number: u64, out: &mut String) -> Result<(), AllocError>
+    ensures { OnOk result (string_bytes out.new ≡ string_bytes out.old ++ decimal number) }
+{
+    write!(out, "{number}")
+}
+
+fn flushed_text(flushed: bool) -> &'static str
+    ensures { result.now ≡ flushed_text flushed }
+{
+    if flushed { "yes" } else { "no" }
+}
+
+fn outcome_text(outcome: Option<Outcome>) -> &'static str
+    ensures { result.now ≡ outcome_text outcome }
+{
     match outcome {
         None => "nothing",
         Some(Outcome::Delivered) => "delivered",

@@ -1,5 +1,7 @@
 //! The run of a scenario, from its bytes to its report.
-ghost use Rattle.std.specs.Prelude.{◌≡◌, ◌≢◌, ◌≤◌, ◌<◌, ◌+◌, ◌⊎◌, ◌↔◌, IfErr};
+ghost use Rattle.std.specs.Prelude.{◌≡◌, ◌≢◌, ◌≤◌, ◌<◌, ◌+◌, ◌++◌, ◌⊎◌, ◌↔◌, List, ℕ, length, IfErr, IfOk, OnOk, string_bytes};
+ghost use Rattle.am_run.specs.Report.{IsReportOf};
+ghost use Rattle.am_run.specs.declared.dispatch.TheConstants.{BOARD_ID};
 
 use crate::courier::ScriptedCourier;
 use crate::device::{Sink, Source};
@@ -7,7 +9,6 @@ use crate::dispatch::Dispatcher;
 use crate::fault::{RunFault, ScenarioFault, Word};
 use crate::phase::Run;
 use crate::place::Place;
-use crate::report::push_state;
 use crate::scenario::{Scenario, read_scenario};
 use crate::transfer::{MAX_INPUT, read_all, write_all};
 use am_board::config::Config;
@@ -17,8 +18,8 @@ use std::alloc::Global;
 
 /// Reads a scenario from the source, runs it and writes its report to the sink.
 ///
-/// The report is made whole before its first byte is written: on every fault but `Unwritable` the
-/// sink wasn't asked.
+/// The report is the text of a history that is legal. It is made whole before its first byte is
+/// written: on every fault but `Unwritable` the sink wasn't asked.
 pub fn run_scenario<R: AllocGlobal, S: Source, K: Sink>(
     rt: &R,
     source: &mut S,
@@ -27,11 +28,14 @@ pub fn run_scenario<R: AllocGlobal, S: Source, K: Sink>(
     ensures asked { S.asked source.new ≤ S.asked source.old + (MAX_INPUT + 1) }
     ensures unreadable { (result ≡ Err RunFault.Unreadable)
         ↔ ((S.failed source.old < S.failed source.new)
-        ⊎ (S.given source.old + MAX_INPUT < S.given source.new)) }
+        ⊎ (length (S.given source.old) + MAX_INPUT < length (S.given source.new))) }
     ensures unwritable { (result ≡ Err RunFault.Unwritable)
         ↔ (K.failed sink.old < K.failed sink.new) }
     ensures unwritten { IfErr result (λ fault.
         fault ≢ RunFault.Unwritable → sink.new ≡ sink.old) }
+    ensures ended { OnOk result (S.ended source.new ≡ S.ended source.old + 1) }
+    ensures written { OnOk result ((report : List ℕ) × IsReportOf BOARD_ID report
+        × (K.taken sink.new ≡ K.taken sink.old ++ report)) }
 {
     let alloc = rt.alloc();
     let input = read_all(alloc, source)?;
@@ -40,7 +44,9 @@ pub fn run_scenario<R: AllocGlobal, S: Source, K: Sink>(
 }
 
 /// The report on the scenario that these bytes are.
-fn report_of(alloc: Global, input: &[u8]) -> Result<String, ScenarioFault> {
+fn report_of(alloc: Global, input: &[u8]) -> Result<String, ScenarioFault>
+    ensures { IfOk result (λ text. IsReportOf BOARD_ID (string_bytes text)) }
+{
     let value = parse(alloc, input)?;
     let scenario = read_scenario(alloc, &value)?;
     play(alloc, scenario)
@@ -55,7 +61,9 @@ fn parse(alloc: Global, input: &[u8]) -> Result<Value, ScenarioFault> {
 }
 
 /// Runs the phases of a scenario, and makes its report.
-fn play(alloc: Global, scenario: Scenario) -> Result<String, ScenarioFault> {
+fn play(alloc: Global, scenario: Scenario) -> Result<String, ScenarioFault>
+    ensures { IfOk result (λ text. IsReportOf BOARD_ID (string_bytes text)) }
+{
     let Scenario {
         config,
         scripts,
@@ -66,9 +74,8 @@ fn play(alloc: Global, scenario: Scenario) -> Result<String, ScenarioFault> {
     for (index, phase) in phases.into_iter().enumerate() {
         run.run_phase(&mut courier, index, phase)?;
     }
-    let (dispatcher, mut report) = run.into_parts();
-    push_state(alloc, dispatcher.board(), &mut report)?;
-    Ok(report)
+    let (dispatcher, reports) = run.into_parts();
+    Ok(dispatcher.report(alloc, reports.as_slice())?)
 }
 
 /// The board of the run.

@@ -47,7 +47,9 @@ impl Source for Pieces<'_> {
 
     ghost failed = { λ p. p.usage.failed.count };
 
-    ghost given = { λ p. p.usage.moved.count };
+    ghost ended = { λ p. p.usage.ended.count };
+
+    ghost given = { λ p. p.usage.moved.bytes };
 
     fn read(&mut self, buffer: &mut [u8]) -> Result<usize, DeviceFault> {
         if self.good_reads == 0 {
@@ -58,7 +60,11 @@ impl Source for Pieces<'_> {
         let count = self.at_once.min(self.left.len()).min(buffer.len());
         buffer[..count].copy_from_slice(&self.left[..count]);
         self.left = &self.left[count..];
-        self.usage.add_success(count);
+        if count == 0 && !buffer.is_empty() {
+            self.usage.add_end();
+        } else {
+            self.usage.add_success(&buffer[..count]);
+        }
         Ok(count)
     }
 }
@@ -68,7 +74,7 @@ impl Sink for Paper {
 
     ghost failed = { λ p. p.usage.failed.count };
 
-    ghost taken = { λ p. p.usage.moved.count };
+    ghost taken = { λ p. p.usage.moved.bytes };
 
     fn write(&mut self, bytes: &[u8]) -> Result<usize, DeviceFault> {
         let count = self.at_once.min(bytes.len());
@@ -80,7 +86,7 @@ impl Sink for Paper {
             return Err(DeviceFault);
         }
         self.good_writes -= 1;
-        self.usage.add_success(count);
+        self.usage.add_success(&bytes[..count]);
         Ok(count)
     }
 }

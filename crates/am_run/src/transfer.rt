@@ -1,5 +1,5 @@
 //! Reading the whole input and writing the whole report.
-ghost use Rattle.std.specs.Prelude.{◌≡◌, ◌≢◌, ◌≤◌, ◌<◌, ◌+◌, ◌⊎◌, ◌↔◌, length, vec_len, IfOk, IfErr, OnOk};
+ghost use Rattle.std.specs.Prelude.{◌≡◌, ◌≢◌, ◌≤◌, ◌<◌, ◌+◌, ◌++◌, ◌⊎◌, ◌↔◌, length, IfOk, IfErr, OnOk};
 
 use crate::device::{Sink, Source};
 use crate::fault::RunFault;
@@ -15,11 +15,12 @@ const CHUNK: usize = 8_192;
 /// beyond the greatest input is asked for.
 pub fn read_all<S: Source>(alloc: Global, source: &mut S) -> Result<Vec<u8>, RunFault>
     ensures whole { IfOk result (λ input.
-        S.given source.new ≡ S.given source.old + vec_len input) }
+        S.given source.new ≡ S.given source.old ++ input.items) }
+    ensures ended { OnOk result (S.ended source.new ≡ S.ended source.old + 1) }
     ensures asked { S.asked source.new ≤ S.asked source.old + (MAX_INPUT + 1) }
     ensures unreadable { (result ≡ Err RunFault.Unreadable)
         ↔ ((S.failed source.old < S.failed source.new)
-        ⊎ (S.given source.old + MAX_INPUT < S.given source.new)) }
+        ⊎ (length (S.given source.old) + MAX_INPUT < length (S.given source.new))) }
     ensures else_memory { IfErr result (λ fault.
         fault ≢ RunFault.Unreadable → fault ≡ RunFault.NoMemory) }
 {
@@ -45,7 +46,7 @@ pub fn read_all<S: Source>(alloc: Global, source: &mut S) -> Result<Vec<u8>, Run
 
 /// Writes all of these bytes. A write that takes none has failed.
 pub fn write_all<K: Sink>(sink: &mut K, bytes: &[u8]) -> Result<(), RunFault>
-    ensures whole { OnOk result (K.taken sink.new ≡ K.taken sink.old + length bytes.now) }
+    ensures whole { OnOk result (K.taken sink.new ≡ K.taken sink.old ++ bytes.now) }
     ensures unwritable { (result ≡ Err RunFault.Unwritable)
         ↔ (K.failed sink.old < K.failed sink.new) }
     ensures only_unwritable { IfErr result (λ fault. fault ≡ RunFault.Unwritable) }

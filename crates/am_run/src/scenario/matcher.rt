@@ -16,7 +16,7 @@ impl<'v> FromJson<'v> for Matcher {
             op,
             value: Text::new(reader.alloc(), value)?,
         };
-        match Matcher::new(parts) {
+        match Matcher::new(reader.alloc(), parts) {
             Ok(matcher) => Ok(matcher),
             Err(MatcherFault::NoMemory) => Err(ScenarioFault::NoMemory),
             Err(_) => Err(reader.refuse(Word::Value)),
@@ -24,11 +24,13 @@ impl<'v> FromJson<'v> for Matcher {
     }
 }
 
-/// The operator that is written so. The two of patterns aren't supported yet.
+/// The operator that is written so.
 fn operator_of(text: &str) -> Option<Operator> {
     match text {
         "=" => Some(Operator::Equal),
         "!=" => Some(Operator::NotEqual),
+        "=~" => Some(Operator::Like),
+        "!~" => Some(Operator::NotLike),
         _ => None,
     }
 }

@@ -233,7 +233,7 @@ const ANSWER_EDITS: [Edit; 14] = [
 ];
 
 /// Edits of the phases.
-const PHASE_EDITS: [Edit; 30] = [
+const PHASE_EDITS: [Edit; 31] = [
     (r#""at":0"#, r#""x":0"#, "/phases/0/at: missing"),
     (r#""at":0"#, r#""at":-1"#, "/phases/0/at: kind"),
     (r#""at":0"#, r#""at":1.0"#, "/phases/0/at: kind"),
@@ -341,12 +341,17 @@ const PHASE_EDITS: [Edit; 30] = [
     ),
     (
         r#""lanes":[[{"#,
-        r#""lanes":[[{"silence":{"id":1,"matchers":[["a","=~","b"]],"start":0,"end":1}},{"#,
+        r#""lanes":[[{"silence":{"id":1,"matchers":[["a","=~","a("]],"start":0,"end":1}},{"#,
         "/phases/0/lanes/0/0/silence/matchers/0: value",
     ),
     (
         r#""lanes":[[{"#,
-        r#""lanes":[[{"silence":{"id":1,"matchers":[["a","!~","b"]],"start":0,"end":1}},{"#,
+        r#""lanes":[[{"silence":{"id":1,"matchers":[["a","=",""],["a","!~","a("]],"start":0,"end":1}},{"#,
+        "/phases/0/lanes/0/0/silence/matchers/1: value",
+    ),
+    (
+        r#""lanes":[[{"#,
+        r#""lanes":[[{"silence":{"id":1,"matchers":[["a","~","b"]],"start":0,"end":1}},{"#,
         "/phases/0/lanes/0/0/silence/matchers/0: value",
     ),
     (

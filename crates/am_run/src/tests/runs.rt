@@ -147,7 +147,10 @@ fn nothing_to_send(rt: HostRuntime) -> Result<(), Fail> {
 fn silence_and_maintenance(rt: HostRuntime) -> Result<(), Fail> {
     let insert = r#"{"insert":{"labels":[["alertname","A"]],"starts":0}}"#;
     let scenario = with(&rt, FIRST, insert, SILENCE_AND_MAINTENANCE)?;
-    check_report(&rt, scenario.as_str(), SILENCE_AND_MAINTENANCE_REPORT)
+    check_report(&rt, scenario.as_str(), SILENCE_AND_MAINTENANCE_REPORT)?;
+    let equal = r#"["alertname","=","A"]"#;
+    let like = with(&rt, scenario.as_str(), equal, r#"["alertname","=~","A|B"]"#)?;
+    check_report(&rt, like.as_str(), SILENCE_AND_MAINTENANCE_REPORT)
 }
 
 #[test]

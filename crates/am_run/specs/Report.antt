@@ -1,0 +1,153 @@
+-- The report: the text of a history.
+use Rattle.std.specs.Prelude.{◌≡◌, ℕ, Bool, ◌&&◌, ◌==◌, List, [], ◌∷◌, ◌++◌, length, codes, decimal, Option, Some, None, unwrap_or, if◌then◌else◌}
+use Rattle.std.specs.List.{flat_map, join_by}
+use Rattle.am_alerts.specs.AlertData.{AlertData}
+use Rattle.am_alerts.specs.LabelText.{label_set_text}
+use Rattle.am_alerts.specs.Route.{key_text_of}
+use Rattle.am_alerts.specs.declared.labels.Label.{Label}
+use Rattle.am_retry.specs.declared.outcome.Outcome.{Outcome}
+use Rattle.am_retry.specs.declared.outcome.Outcome.TheVariants.{Delivered, Refused, Expired, Starved}
+use Rattle.am_board.specs.declared.config.Config.{Config}
+use Rattle.am_board.specs.declared.group.GroupName.{GroupName}
+use Rattle.am_board.specs.declared.notice.Report.{Report}
+use Rattle.am_board.specs.declared.record.Call.{Call}
+use Rattle.am_board.specs.declared.record.Call.TheVariants as call
+use Rattle.am_board.specs.declared.record.Record.{Record}
+use Rattle.am_board.specs.declared.record.Reply.{Reply}
+use Rattle.am_board.specs.declared.record.Reply.TheVariants as reply
+use Rattle.am_board.specs.declared.views.GroupView.{GroupView}
+use Rattle.am_board.specs.declared.views.RowView.{RowView}
+use Rattle.am_board.specs.Config.{kind_at}
+use Rattle.am_board.specs.Configured.{route_of, integrations_named}
+use Rattle.am_board.specs.Data.{NoticeData}
+use Rattle.am_board.specs.Replay.{replay, IsLegal}
+use Rattle.am_board.specs.Ticket.{outcome_of}
+use Rattle.am_board.specs.Views.{row_views, group_views}
+
+-- the label set of an alert
+abbrev pub labels_of : AlertData → List Label
+labels_of a = a.labels
+
+-- a label set is its own
+abbrev pub as_it_is : List Label → List Label
+as_it_is labels = labels
+
+-- a list of what has label sets: `[`, the sets with `,` between them, and `]`
+abbrev pub list_text : {T : Type 0} → (T → List Label) → List T → List ℕ
+list_text labels items = codes "[" ++ join_by (λ i. label_set_text (labels i)) (codes ",") items ++ codes "]"
+
+-- what fires and what is resolved
+abbrev pub lists_text : {T : Type 0} → (T → List Label) → List T → List T → List ℕ
+lists_text labels firing resolved =
+    codes " firing=" ++ list_text labels firing ++ codes " resolved=" ++ list_text labels resolved
+
+-- a group: the name of its route, `:` and its group labels
+abbrev pub group_text : Config → GroupName → List ℕ
+group_text config name = key_text_of (route_of config name) name.labels
+
+-- an integration of a group's receiver: its kind, `/` and its position
+abbrev pub integration_text : Config → GroupName → ℕ → List ℕ
+integration_text config name position =
+    kind_at (integrations_named (route_of config name).receiver config.receivers) position ++ codes "/" ++ decimal position
+
+-- whom something is for: a group and an integration of its receiver
+abbrev pub target_text : Config → GroupName → ℕ → List ℕ
+target_text config name position = group_text config name ++ codes " " ++ integration_text config name position
+
+-- what the sending of a notice came to; where nothing was reported there was nothing to send
+abbrev pub outcome_text : Option Outcome → List ℕ
+outcome_text None = codes "nothing"
+outcome_text (Some Delivered) = codes "delivered"
+outcome_text (Some Refused) = codes "refused"
+outcome_text (Some Expired) = codes "expired"
+outcome_text (Some Starved) = codes "starved"
+
+-- the line on a notice that had this outcome after so many attempts
+abbrev pub notice_line : Config → NoticeData → Option Outcome → ℕ → List ℕ
+notice_line config n outcome attempts =
+    codes "notice " ++ decimal n.ticket ++ codes " " ++ target_text config n.group n.integration
+    ++ codes " " ++ outcome_text outcome ++ codes " attempts=" ++ decimal attempts
+    ++ lists_text labels_of n.firing n.resolved ++ codes "\n"
+
+-- the line on a row of the log
+abbrev pub row_line : Config → RowView → List ℕ
+row_line config row =
+    codes "row " ++ target_text config row.group row.integration
+    ++ codes " at=" ++ decimal row.moment ++ codes " expiry=" ++ decimal row.expiry
+    ++ lists_text as_it_is row.firing row.resolved ++ codes "\n"
+
+-- whether a group was flushed
+abbrev pub flushed_text : Bool → List ℕ
+flushed_text flushed = if flushed then codes "yes" else codes "no"
+
+-- the line on a group
+abbrev pub group_line : Config → GroupView → List ℕ
+group_line config g =
+    codes "group " ++ group_text config g.group ++ codes " due=" ++ decimal g.due
+    ++ codes " flushed=" ++ flushed_text g.flushed ++ codes " alerts=" ++ list_text labels_of g.alerts ++ codes "\n"
+
+-- the line on how many calls there were
+abbrev pub calls_line : ℕ → List ℕ
+calls_line calls = codes "calls " ++ decimal calls ++ codes "\n"
+
+-- the outcomes that a call finishes the flush of this number with, if it does
+abbrev pub finished_with : ℕ → Call → Option (List (ℕ × Outcome))
+finished_with number (call.Insert now alert) = None
+finished_with number (call.Silence now id matchers start end) = None
+finished_with number (call.Begin now) = None
+finished_with number (call.Finish now finished outcomes) = if finished == number then Some outcomes else None
+finished_with number (call.Maintain now) = None
+finished_with number (call.Note now noted integration outcome) = None
+
+-- the outcomes that the flush of this number is finished with in these records; none where it isn't
+abbrev pub outcomes_in : ℕ → List Record → List (ℕ × Outcome)
+outcomes_in number [] = []
+outcomes_in number (r ∷ rs) = unwrap_or (finished_with number r.call) (outcomes_in number rs)
+
+-- what the sending of a notice came to, as the finish of its flush in these records says
+abbrev pub outcome_in : NoticeData → List Record → Option Outcome
+outcome_in n later = outcome_of (outcomes_in n.ticket later) n.integration
+
+-- how many attempts the first of these reports on a notice tells; none where there is no report
+abbrev pub attempts_on : ℕ → ℕ → List Report → ℕ
+attempts_on ticket integration [] = 0
+attempts_on ticket integration (r ∷ rs) =
+    if (r.ticket == ticket) && (r.integration == integration) then r.attempts else attempts_on ticket integration rs
+
+-- the notices of a flush that was begun
+abbrev pub notices_in : Reply → List NoticeData
+notices_in (reply.Inserted inserted) = []
+notices_in (reply.Silenced silenced) = []
+notices_in reply.NothingDue = []
+notices_in (reply.Quiet group removed) = []
+notices_in (reply.Flush number group deadline notices) = notices
+notices_in (reply.Finished finished) = []
+notices_in (reply.Maintained maintained) = []
+notices_in reply.Noted = []
+
+-- the line on a notice that these records follow
+abbrev pub line_on : Config → List Report → List Record → NoticeData → List ℕ
+line_on config reports later n =
+    notice_line config n (outcome_in n later) (attempts_on n.ticket n.integration reports)
+
+-- the lines on the notices of a history, in the order of the begins
+abbrev pub notice_lines : Config → List Report → List Record → List ℕ
+notice_lines config reports [] = []
+notice_lines config reports (r ∷ later) =
+    flat_map (line_on config reports later) (notices_in r.reply) ++ notice_lines config reports later
+
+-- the report on a history: its notices, then the log's rows and the groups that it leaves, then how many calls it has
+abbrev pub report_text : Config → List Report → List Record → List ℕ
+report_text config reports history =
+    notice_lines config reports history
+    ++ flat_map (row_line config) (row_views (replay config history))
+    ++ flat_map (group_line config) (group_views (replay config history))
+    ++ calls_line (length history)
+
+-- the text is the report on a legal history of the board of this id
+pub record IsReportOf (id : ℕ) (text : List ℕ) : Type 0 where
+  pub config : Config
+  pub history : List Record
+  pub reports : List Report
+  pub legal : IsLegal config id history
+  pub is : text ≡ report_text config reports history

@@ -2,7 +2,7 @@
 use crate::words::{Trouble, Words};
 use am_alerts::alert::Alert;
 use am_alerts::labels::{LabelFault, Labels};
-use am_alerts::matcher::{Matcher, MatcherParts, Operator};
+use am_alerts::matcher::{Matcher, MatcherFault, MatcherParts, Operator};
 use am_alerts::text::Text;
 use am_mute::silence::Silence;
 use am_retry::Outcome;
@@ -46,17 +46,22 @@ pub fn read_alert(alloc: Global, words: &mut Words<'_>) -> Result<Alert, Trouble
     }
 }
 
-/// The matcher of one label and its value, in a list.
+/// The matcher of one label and its value, in a list; a value that begins with `~` is a pattern.
 pub fn read_matchers(alloc: Global, word: &str) -> Result<Vec<Matcher>, Trouble> {
     let (name, value) = read_pair(word);
+    let (op, value) = match value.strip_prefix('~') {
+        None => (Operator::Equal, value),
+        Some(pattern) => (Operator::Like, pattern),
+    };
     let parts = MatcherParts {
         name: Text::new(alloc, name)?,
-        op: Operator::Equal,
+        op,
         value: Text::new(alloc, value)?,
     };
     let mut matchers = Vec::new(alloc);
-    match Matcher::new(parts) {
+    match Matcher::new(alloc, parts) {
         Ok(matcher) => matchers.push(matcher)?,
+        Err(MatcherFault::NoMemory) => return Err(Trouble::NoMemory),
         Err(_) => return Err(Trouble::BadLine),
     }
     Ok(matchers)

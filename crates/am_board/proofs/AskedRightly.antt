@@ -1,10 +1,9 @@
 -- A begin asks exactly the integrations that looking back says.
-use Rattle.std.proofs.Common.{◌≡◌, ℕ, Bool, true, false, ◌&&◌, ◌||◌, Option, Some, None, List, [], ◌∷◌, map, reverse, refl, sym, ap, ◌∙◌, subst, if◌then◌else◌}
+use Rattle.std.proofs.Common.{◌≡◌, ℕ, Bool, true, false, ◌&&◌, ◌||◌, Option, Some, None, List, [], ◌∷◌, map, refl, sym, ap, ◌∙◌, subst, if◌then◌else◌}
 use Rattle.std.specs.Prelude.{filter}
 use Rattle.std.specs.List.{IsDistinct}
 use Rattle.std.specs.Option.{option_map}
 use Rattle.std.proofs.lemmas.Bool.{false≢true}
-use Rattle.std.proofs.lemmas.List.{reverse-reverse}
 use Rattle.am_alerts.specs.Labels.{same_label_set}
 use Rattle.am_alerts.specs.declared.labels.Label.{Label}
 use Rattle.am_mute.specs.Silence.{silence_of}
@@ -24,10 +23,10 @@ use Rattle.am_board.specs.Entry.{firing_in, resolved_in, entry_in}
 use Rattle.am_board.specs.Finish.{finished}
 use Rattle.am_board.specs.History.{entry}
 use Rattle.am_board.specs.Insert.{inserted, same_member}
-use Rattle.am_board.specs.LookBack.{member_with, asked_by_past, IsAskedRightly, BeginsAskRightly}
+use Rattle.am_board.specs.LookBack.{member_with, EveryLegalHistory, asked_by_past, IsAskedRightly, BeginsAskRightly}
 use Rattle.am_board.specs.Note.{may_note, noted}
 use Rattle.am_board.specs.Past.{AtEach, past_of, moment_at, takes}
-use Rattle.am_board.specs.Replay.{reply, IsLegal}
+use Rattle.am_board.specs.Replay.{reply}
 use Rattle.am_board.specs.State.{GroupState, FlushState, State, moment, same_name, flush_numbered}
 use Rattle.am_board.specs.Upkeep.{silenced, maintained}
 use Rattle.am_board.proofs.ConsistentBegin.{IsTaken, taken-is}
@@ -37,7 +36,7 @@ use Rattle.am_board.proofs.FoundRows.{tells_past}
 use Rattle.am_board.proofs.FoundSteps.{clock-step}
 use Rattle.am_board.proofs.LogRows.{same_name-is}
 use Rattle.am_board.proofs.Opened.{Finds, members-tidy}
-use Rattle.am_board.proofs.Pasts.{state_after, IsLegalPast, legal_of_past}
+use Rattle.am_board.proofs.Pasts.{state_after, IsLegalPast, legal_past}
 use Rattle.am_board.proofs.RowSteps.{Tells}
 use Rattle.am_board.proofs.ToldSets.{firing-found, resolved-found}
 
@@ -113,8 +112,5 @@ each_past config id [] legal = tt
 each_past config id (r ∷ past) legal =
     (one_call config id (state_after config past) past r.pass (steady_past config past) (finds_past config id past legal.1) (tells_past config id past legal.1) r.call r.reply legal.0, each_past config id past legal.1)
 
-pub begins_ask_rightly : BeginsAskRightly
-begins_ask_rightly config id history legal =
-    let past = past_of history in
-    let back : reverse past ≡ history = reverse-reverse history in
-    each_past config id past (legal_of_past config id past (subst (IsLegal config id) (sym back) legal))
+pub begins_ask_rightly : EveryLegalHistory BeginsAskRightly
+begins_ask_rightly config id history legal = each_past config id (past_of history) (legal_past config id history legal)

@@ -99,6 +99,7 @@ quiet config s t g within at h =
       tidy =
           tidy-changed s.inserts (is_named g.name) change
           (λ k tidy. tidy-fewer s.inserts (λ m. not (is_resolved m.alert t)) k tidy (change k) refl) s.groups h.tidy;
+      silences = h.silences;
       rows = h.rows;
       flushes = h.flushes;
       numbers = h.numbers;
@@ -132,6 +133,7 @@ opens config s t g i is within asked at h =
       known = h.known;
       groups = distinct-changed (is_named g.name) change (λ k. refl) s.groups h.groups;
       tidy = tidy-changed s.inserts (is_named g.name) change (λ k tidy. record { members = tidy.members; stamps = tidy.stamps }) s.groups h.tidy;
+      silences = h.silences;
       rows = h.rows;
       flushes = distinct-last same_flushed same_flushed_equiv.symm f s.flushes at.free h.flushes;
       numbers =

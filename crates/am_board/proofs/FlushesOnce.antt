@@ -1,12 +1,11 @@
 -- Each flush has one begin and at most one finish, and its group isn't taken before.
-use Rattle.std.proofs.Common.{◌≡◌, ℕ, ◌≤◌, Bool, true, false, cond, not, ◌&&◌, ◌||◌, Option, Some, None, List, [], ◌∷◌, reverse, refl, sym, ap, ◌∙◌, subst, arith, if◌then◌else◌}
+use Rattle.std.proofs.Common.{◌≡◌, ℕ, ◌≤◌, Bool, true, false, cond, not, ◌&&◌, ◌||◌, Option, Some, None, List, [], ◌∷◌, refl, sym, ap, ◌∙◌, subst, arith, if◌then◌else◌}
 use Rattle.std.specs.Prelude.{find, filter, ◌==◌, nat_le}
 use Rattle.std.specs.List.{AllByRecursion, list_any}
 use Rattle.std.specs.Option.{option_map}
 use Rattle.std.proofs.Math.Bool.{or-false}
 use Rattle.std.proofs.lemmas.Bool.{false≢true, eqb-true, ne_eqb, leb-true}
 use Rattle.std.proofs.lemmas.Cmp.{nat_eq_equiv}
-use Rattle.std.proofs.lemmas.List.{reverse-reverse}
 use Rattle.std.proofs.lemmas.List.Folds.{list_any-append}
 use Rattle.am_alerts.specs.LabelOrder.{same_label_set_equiv}
 use Rattle.am_alerts.specs.AlertData.{AlertData}
@@ -33,10 +32,10 @@ use Rattle.am_board.specs.Finish.{finished, after_finish_of}
 use Rattle.am_board.specs.History.{entry}
 use Rattle.am_board.specs.Insert.{inserted}
 use Rattle.am_board.specs.Laws.{last_begin_after, IsBegunAt}
-use Rattle.am_board.specs.LookBack.{member_with, number_in, has_open, begun_at, IsLater, IsOneOfEach, FlushesEndOnce}
+use Rattle.am_board.specs.LookBack.{member_with, EveryLegalHistory, number_in, has_open, begun_at, IsLater, IsOneOfEach, FlushesEndOnce}
 use Rattle.am_board.specs.Note.{with_note, may_note, after_note, after_note_of, noted}
 use Rattle.am_board.specs.Past.{AtEach, past_of, moment_at, is_flush, is_flush_of, is_finish, takes, has_begun, has_finished}
-use Rattle.am_board.specs.Replay.{reply, after_call, IsLegal}
+use Rattle.am_board.specs.Replay.{reply, after_call}
 use Rattle.am_board.specs.State.{MemberState, GroupState, FlushState, State, at_moment, moment, same_name, is_flushing, members_in, flush_numbered}
 use Rattle.am_board.specs.Upkeep.{silenced, maintained}
 use Rattle.am_board.proofs.Begins.{Keeps, keeps-call, opening_keeps}
@@ -48,7 +47,7 @@ use Rattle.am_board.proofs.FoundAlerts.{inside, steady_past, finds_past}
 use Rattle.am_board.proofs.FoundSteps.{clock-step}
 use Rattle.am_board.proofs.LogRows.{same_name-is}
 use Rattle.am_board.proofs.Opened.{Finds}
-use Rattle.am_board.proofs.Pasts.{state_after, IsLegalPast, legal_of_past}
+use Rattle.am_board.proofs.Pasts.{state_after, IsLegalPast, legal_past}
 use Rattle.am_board.proofs.PastWords.{has_labels}
 use Rattle.am_board.proofs.SetWords.{any-filter, any-alike, any-and, any-map, passes}
 use Rattle.am_board.proofs.ToldSets.{present-passes}
@@ -394,8 +393,5 @@ each_past config id (r ∷ past) legal = (
   each_past config id past legal.1,
 )
 
-pub flushes_end_once : FlushesEndOnce
-flushes_end_once config id history legal =
-    let past = past_of history in
-    let back : reverse past ≡ history = reverse-reverse history in
-    each_past config id past (legal_of_past config id past (subst (IsLegal config id) (sym back) legal))
+pub flushes_end_once : EveryLegalHistory FlushesEndOnce
+flushes_end_once config id history legal = each_past config id (past_of history) (legal_past config id history legal)

@@ -1,12 +1,13 @@
 -- Which alerts are in which group after a legal history is what looking back finds.
-use Rattle.std.proofs.Common.{◌≡◌, ℕ, Bool, true, false, Option, Some, None, List, [], ◌∷◌, reverse, refl, sym, ap, ◌∙◌, subst, if◌then◌else◌}
+use Rattle.std.proofs.Common.{◌≡◌, ℕ, Bool, true, false, Option, Some, None, List, [], ◌∷◌, reverse, refl, ap, ◌∙◌, subst, if◌then◌else◌}
 use Rattle.std.specs.Prelude.{unwrap_or}
 use Rattle.std.specs.Option.{option_map}
-use Rattle.std.proofs.lemmas.List.{reverse-reverse}
+use Rattle.am_alerts.specs.declared.labels.Label.{Label}
 use Rattle.am_mute.specs.Silence.{silence_of}
 use Rattle.am_retry.specs.declared.outcome.Outcome.{Outcome}
 use Rattle.am_board.specs.declared.config.Config.{Config}
 use Rattle.am_board.specs.declared.config.Integration.{Integration}
+use Rattle.am_board.specs.declared.group.GroupName.{GroupName}
 use Rattle.am_board.specs.declared.record.Call.{Call}
 use Rattle.am_board.specs.declared.record.Call.TheVariants.{Insert, Silence, Begin, Finish, Maintain, Note}
 use Rattle.am_board.specs.declared.record.Record.{Record}
@@ -16,11 +17,11 @@ use Rattle.am_board.specs.Begin.{taken, asked_of, after_asking, after_taking, re
 use Rattle.am_board.specs.Finish.{finished, after_finish_of}
 use Rattle.am_board.specs.History.{entry}
 use Rattle.am_board.specs.Insert.{inserted}
-use Rattle.am_board.specs.LookBack.{member_with, AlertsAreFound}
+use Rattle.am_board.specs.LookBack.{member_with, EveryLegalHistory, AlertsAreFound}
 use Rattle.am_board.specs.Note.{may_note, after_note, after_note_of, noted}
 use Rattle.am_board.specs.Past.{past_of}
-use Rattle.am_board.specs.Presence.{goes_to}
-use Rattle.am_board.specs.Replay.{reply, after_call, replay, IsLegal}
+use Rattle.am_board.specs.Presence.{goes_to, presence}
+use Rattle.am_board.specs.Replay.{reply, after_call, replay}
 use Rattle.am_board.specs.State.{MemberState, GroupState, FlushState, State, opening_state, at_moment, moment, members_in, flush_numbered}
 use Rattle.am_board.specs.Upkeep.{silenced, maintained}
 use Rattle.am_board.proofs.Consistent.{consistent_replay}
@@ -29,7 +30,7 @@ use Rattle.am_board.proofs.ConsistentGroups.{members_of-in}
 use Rattle.am_board.proofs.ConsistentState.{IsSteady, consistent_to}
 use Rattle.am_board.proofs.FoundSteps.{finds-insert, finds-still, finds-maintain, finds-quiet, finds-flush, finds-finish, finds-note}
 use Rattle.am_board.proofs.Opened.{Finds}
-use Rattle.am_board.proofs.Pasts.{state_after, IsLegalPast, replay_of_past, legal_of_past}
+use Rattle.am_board.proofs.Pasts.{state_after, IsLegalPast, replay_of_past, legal_past, replay_is_past}
 
 pub inside : {X : Type 0} (x y : X) → Some x ≡ Some y → x ≡ y
 inside x y e = ap (λ o. unwrap_or o x) e
@@ -101,12 +102,13 @@ finds_past config id (r ∷ past) legal =
 
 -- ---- each legal history
 
-pub alerts_are_found : AlertsAreFound
+-- in a state of which looking back finds the alerts
+pub members-found : (config : Config) (id : ℕ) (past : List Record) → IsLegalPast config id past → (name : GroupName) (labels : List Label)
+    → member_with labels (members_in (state_after config past).groups name) ≡ presence config name labels past
+members-found config id past legal name labels =
+    ap (member_with labels) (members_of-in (state_after config past).groups name) ∙ (finds_past config id past legal).found name labels
+
+pub alerts_are_found : EveryLegalHistory AlertsAreFound
 alerts_are_found config id history legal name labels =
-    let past = past_of history in
-    let back : reverse past ≡ history = reverse-reverse history in
-    let k = finds_past config id past (legal_of_past config id past (subst (IsLegal config id) (sym back) legal)) in
-    ap (λ h. member_with labels (members_in (replay config h).groups name)) (sym back)
-    ∙ ap (λ s. member_with labels (members_in s.groups name)) (replay_of_past config past)
-    ∙ ap (member_with labels) (members_of-in (state_after config past).groups name)
-    ∙ k.found name labels
+    ap (λ s. member_with labels (members_in s.groups name)) (replay_is_past config history)
+    ∙ members-found config id (past_of history) (legal_past config id history legal) name labels

@@ -1,8 +1,7 @@
 -- Which rows the log has after a legal history is what looking back finds.
-use Rattle.std.proofs.Common.{◌≡◌, ℕ, true, false, Option, Some, None, List, [], ◌∷◌, reverse, refl, sym, ap, ◌∙◌, subst, if◌then◌else◌}
+use Rattle.std.proofs.Common.{◌≡◌, ℕ, true, false, Option, Some, None, List, [], ◌∷◌, refl, ap, ◌∙◌, subst, if◌then◌else◌}
 use Rattle.std.specs.Prelude.{find}
 use Rattle.std.specs.Option.{option_map}
-use Rattle.std.proofs.lemmas.List.{reverse-reverse}
 use Rattle.am_mute.specs.Silence.{silence_of}
 use Rattle.am_retry.specs.declared.outcome.Outcome.{Outcome}
 use Rattle.am_board.specs.declared.config.Config.{Config}
@@ -16,18 +15,17 @@ use Rattle.am_board.specs.Begin.{is_entry_of, count_resolved, taken, asked_of, a
 use Rattle.am_board.specs.Finish.{finished, after_finish_of}
 use Rattle.am_board.specs.History.{entry}
 use Rattle.am_board.specs.Insert.{inserted}
-use Rattle.am_board.specs.LookBack.{RowsAreFound}
+use Rattle.am_board.specs.LookBack.{EveryLegalHistory, RowsAreFound}
 use Rattle.am_board.specs.Note.{may_note, after_note, after_note_of, noted}
 use Rattle.am_board.specs.Past.{past_of}
-use Rattle.am_board.specs.Replay.{reply, after_call, replay, IsLegal}
+use Rattle.am_board.specs.Replay.{reply, after_call}
 use Rattle.am_board.specs.State.{GroupState, FlushState, State, at_moment, moment, flush_numbered}
-use Rattle.am_board.specs.Upkeep.{same_silence, silenced, maintained}
+use Rattle.am_board.specs.Upkeep.{silenced, maintained}
 use Rattle.am_board.proofs.ConsistentBegin.{IsTaken, taken-is}
-use Rattle.am_board.proofs.ConsistentLists.{IsDistinct-nil}
 use Rattle.am_board.proofs.ConsistentState.{IsSteady}
 use Rattle.am_board.proofs.FoundAlerts.{inside, steady_past, finds_past}
 use Rattle.am_board.proofs.Opened.{Finds}
-use Rattle.am_board.proofs.Pasts.{state_after, IsLegalPast, replay_of_past, legal_of_past}
+use Rattle.am_board.proofs.Pasts.{state_after, IsLegalPast, legal_past, replay_is_past}
 use Rattle.am_board.proofs.RowSteps.{Tells, tells-insert, tells-silence, tells-begin, tells-flush, tells-finish, tells-maintain, tells-note}
 
 module _ (config : Config) (id : ℕ) (s : State) (past : List Record) (pass : ℕ) (steady : IsSteady s) (k : Finds config s past) (l : Tells config s past) where
@@ -62,7 +60,7 @@ module _ (config : Config) (id : ℕ) (s : State) (past : List Record) (pass : �
       subst (After (Insert now alert) (after_call config s (Insert now alert))) (inside (reply_is.Inserted (inserted config s alert)) p e) (tells-insert config s past k l pass now alert steady)
   one_call (Silence now number matchers start end) p e =
       subst (After (Silence now number matchers start end) (after_call config s (Silence now number matchers start end))) (inside (reply_is.Silenced (silenced s (silence_of number matchers start end))) p e)
-      (tells-silence config s past k l pass now number matchers start end)
+      (tells-silence config s past k l pass now number matchers start end steady)
   one_call (Begin now) p e =
       subst (After (Begin now) (after_call config s (Begin now))) (inside (begun config id s (moment s now)) p e) (taking now (taken s (moment s now)) refl)
   one_call (Finish now number outcomes) p e = finish now number outcomes (flush_numbered s.flushes number) p refl e
@@ -74,17 +72,13 @@ module _ (config : Config) (id : ℕ) (s : State) (past : List Record) (pass : �
 
 pub tells_past : (config : Config) (id : ℕ) (past : List Record) → IsLegalPast config id past → Tells config (state_after config past) past
 tells_past config id [] legal =
-    record { rows = λ name i. refl; known = λ test. refl; silences = λ test. refl; distinct = IsDistinct-nil same_silence; told = tt }
+    record { rows = λ name i. refl; known = λ test. refl; silences = λ test. refl; told = tt }
 tells_past config id (r ∷ past) legal =
     one_call config id (state_after config past) past r.pass (steady_past config past) (finds_past config id past legal.1) (tells_past config id past legal.1) r.call r.reply legal.0
 
 -- ---- each legal history
 
-pub rows_are_found : RowsAreFound
+pub rows_are_found : EveryLegalHistory RowsAreFound
 rows_are_found config id history legal name integration =
-    let past = past_of history in
-    let back : reverse past ≡ history = reverse-reverse history in
-    let l = tells_past config id past (legal_of_past config id past (subst (IsLegal config id) (sym back) legal)) in
-    ap (λ h. find (is_entry_of name integration) (replay config h).rows) (sym back)
-    ∙ ap (λ s. find (is_entry_of name integration) s.rows) (replay_of_past config past)
-    ∙ l.rows name integration
+    ap (λ s. find (is_entry_of name integration) s.rows) (replay_is_past config history)
+    ∙ (tells_past config id (past_of history) (legal_past config id history legal)).rows name integration

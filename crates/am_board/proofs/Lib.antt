@@ -16,6 +16,7 @@ pub mod ConsistentGroups
 pub mod ConsistentInsert
 pub mod ConsistentLists
 pub mod ConsistentState
+pub mod EachCall
 pub mod Exchanges
 pub mod Faultless
 pub mod FewGroups

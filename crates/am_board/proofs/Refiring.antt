@@ -1,8 +1,7 @@
 -- An alert that fires again while a flush of its group is open is in the group after the finish.
-use Rattle.std.proofs.Common.{◌≡◌, ℕ, Bool, true, false, cond, not, ◌&&◌, ◌||◌, Some, None, List, [], ◌∷◌, ◌++◌, refl, sym, ap, ◌∙◌, subst}
+use Rattle.std.proofs.Common.{◌≡◌, ℕ, Bool, true, false, cond, not, ◌&&◌, ◌||◌, Some, None, List, [], ◌∷◌, refl, sym, ap, ◌∙◌, subst}
 use Rattle.std.specs.List.{list_any}
 use Rattle.std.proofs.lemmas.Bool.{false≢true, eqb-true}
-use Rattle.std.proofs.lemmas.List.{reverse-append}
 use Rattle.am_alerts.specs.AlertData.{is_resolved}
 use Rattle.am_alerts.specs.LabelOrder.{same_label_set-decides}
 use Rattle.am_alerts.specs.declared.labels.Label.{Label}
@@ -14,13 +13,13 @@ use Rattle.am_board.specs.declared.record.Record.{Record}
 use Rattle.am_board.specs.declared.record.Reply.{Reply}
 use Rattle.am_board.specs.declared.record.Reply.TheVariants.{Inserted, Silenced, NothingDue, Quiet, Flush, Finished, Maintained, Noted}
 use Rattle.am_board.specs.Entry.{begins_group}
-use Rattle.am_board.specs.LookBack.{number_in, insert_during, IsOneOfEach, RefiringAlertsStay}
+use Rattle.am_board.specs.LookBack.{member_with, EveryLegalHistory, number_in, insert_during, KeepsRefiring, IsOneOfEach, RefiringAlertsStay}
 use Rattle.am_board.specs.Past.{AtEach, past_of, moment_at, is_flush, is_flush_of, is_quiet, is_finish, takes, begin_of, has_finished}
 use Rattle.am_board.specs.Presence.{goes_to, inserts, inserted_by, stamp_told, last_insert, begin_since, resolved_at_begin, asked_with_success, finish_removes, removes, has_left, unless_left, presence}
-use Rattle.am_board.specs.State.{MemberState}
+use Rattle.am_board.specs.State.{MemberState, members_in}
 use Rattle.am_board.proofs.FlushesOnce.{flushes_end_once}
-use Rattle.am_board.proofs.FoundAlerts.{alerts_are_found}
-use Rattle.am_board.proofs.Pasts.{last_insert-labels}
+use Rattle.am_board.proofs.FoundAlerts.{members-found}
+use Rattle.am_board.proofs.Pasts.{IsLegalPast, replay_of_past, legal_past, last_insert-labels}
 
 neither : (a b : Bool) → (a || b) ≡ false → (a ≡ false) × (b ≡ false)
 neither true b h = absurd (false≢true (sym h))
@@ -145,7 +144,7 @@ finish-keeps labels number (Finish now n outcomes) e = refl
 finish-keeps labels number (Maintain now) e = refl
 finish-keeps labels number (Note now n integration outcome) e = refl
 
-pub present-after : (config : Config) (r : Record) (past : List Record) → IsOneOfEach config r past → AtEach (IsOneOfEach config) past → (number : ℕ) → is_finish number r.call ≡ true
+present-after : (config : Config) (r : Record) (past : List Record) → IsOneOfEach config r past → AtEach (IsOneOfEach config) past → (number : ℕ) → is_finish number r.call ≡ true
     → (name : GroupName) → begins_group name (begin_of number past) ≡ true → (labels : List Label) → goes_to config name labels ≡ true
     → (m : MemberState) → insert_during number labels past ≡ Some m → presence config name labels (r ∷ past) ≡ Some m
 present-after config r past one each number is name begun labels goes m during =
@@ -159,11 +158,16 @@ present-after config r past one each number is name begun labels goes m during =
     ∙ ap (λ b. cond (b || has_left name m.alert past) None (Some m)) (stays-one config name number labels m own r past one each begun unfinished during)
     ∙ ap (λ b. cond b None (Some m)) (stays config name number labels m own past each begun unfinished during)
 
-pub refiring_alerts_stay : RefiringAlertsStay
-refiring_alerts_stay config id history finish legal number is name begun labels goes m during =
-    let past = past_of history in
-    let back : past_of (history ++ finish ∷ []) ≡ finish ∷ past = reverse-append history (finish ∷ []) in
-    let each = subst (AtEach (IsOneOfEach config)) back (flushes_end_once config id (history ++ finish ∷ []) legal) in
-    alerts_are_found config id (history ++ finish ∷ []) legal name labels
-    ∙ ap (presence config name labels) back
-    ∙ present-after config finish past each.0 each.1 number is name begun labels goes m during
+each_past : (config : Config) (id : ℕ) (past : List Record) → IsLegalPast config id past → AtEach (IsOneOfEach config) past → AtEach (KeepsRefiring config) past
+each_past config id [] legal each = tt
+each_past config id (r ∷ past) legal each = (
+  λ number is name begun labels goes m during.
+      ap (λ s. member_with labels (members_in s.groups name)) (replay_of_past config (r ∷ past))
+      ∙ members-found config id (r ∷ past) legal name labels
+      ∙ present-after config r past each.0 each.1 number is name begun labels goes m during,
+  each_past config id past legal.1 each.1,
+)
+
+pub refiring_alerts_stay : EveryLegalHistory RefiringAlertsStay
+refiring_alerts_stay config id history legal =
+    each_past config id (past_of history) (legal_past config id history legal) (flushes_end_once config id history legal)

@@ -1,39 +1,40 @@
--- Each row of the log stands for a notice that was told delivered, or had nothing to send, at its moment.
-use Rattle.std.proofs.Common.{◌≡◌, ℕ, Bool, true, false, cond, not, ◌&&◌, ◌||◌, Option, Some, None, List, [], ◌∷◌, reverse, refl, sym, ap, ◌∙◌, subst, if◌then◌else◌}
-use Rattle.std.specs.Prelude.{All, IsTrue, find, fold, ◌==◌}
-use Rattle.std.specs.List.{AllByRecursion, list_any}
+-- What is logged was told delivered, or had nothing to send, and each row of the log stands for such a notice.
+use Rattle.std.proofs.Common.{◌≡◌, ℕ, Bool, true, false, cond, not, ◌&&◌, ◌||◌, Option, Some, None, List, [], ◌∷◌, refl, sym, ap, ◌∙◌, subst}
+use Rattle.std.specs.Prelude.{All, IsTrue, find, ◌==◌}
+use Rattle.std.specs.Cmp.{IsEquivalence}
+use Rattle.std.specs.List.{AllByRecursion, IsDistinct, list_any}
+use Rattle.std.specs.Option.{option_or}
 use Rattle.std.proofs.lemmas.Bool.{false≢true, eqb-true}
 use Rattle.std.proofs.lemmas.Cmp.{nat_eq_equiv}
-use Rattle.std.proofs.lemmas.List.{reverse-reverse}
+use Rattle.std.proofs.lemmas.Map.Keys.{IsDistinct-head, IsDistinct-tail}
 use Rattle.am_retry.specs.declared.outcome.Outcome.{Outcome}
 use Rattle.am_board.specs.declared.config.Config.{Config}
-use Rattle.am_board.specs.declared.config.Integration.{Integration}
+use Rattle.am_board.specs.declared.group.GroupName.{GroupName}
 use Rattle.am_board.specs.declared.record.Call.{Call}
 use Rattle.am_board.specs.declared.record.Call.TheVariants.{Insert, Silence, Begin, Finish, Maintain, Note}
 use Rattle.am_board.specs.declared.record.Record.{Record}
 use Rattle.am_board.specs.declared.record.Reply.{Reply}
+use Rattle.am_board.specs.declared.record.Reply.TheVariants as reply_is
 use Rattle.am_board.specs.declared.views.RowView.{RowView}
-use Rattle.am_board.specs.Begin.{taken, asked_of, after_asking, after_taking}
-use Rattle.am_board.specs.Finish.{same_key, is_delivered, has_succeeded, row_at, log_with, logged_by, after_finish_of}
+use Rattle.am_board.specs.Data.{NoticeData}
+use Rattle.am_board.specs.Entry.{begins_group, asked_to_success, logs, begin_named, row_told, row_of_begin, unless_collected, entry_in}
+use Rattle.am_board.specs.Finish.{same_key, is_delivered}
 use Rattle.am_board.specs.History.{entry}
-use Rattle.am_board.specs.Entry.{begins_group}
-use Rattle.am_board.specs.LookBack.{is_told, is_told_in, tells, was_told, RowsWereTold}
-use Rattle.am_board.specs.Note.{is_ready, asked_by, may_be_noted, may_note, after_note, after_note_of}
-use Rattle.am_board.specs.Past.{past_of, moment_at, notices_in, begin_of}
-use Rattle.am_board.specs.Replay.{after_call, replay, IsLegal}
-use Rattle.am_board.specs.State.{AskedState, GroupState, FlushState, State, at_moment, moment, flush_numbered}
+use Rattle.am_board.specs.LookBack.{EveryLegalHistory, is_told, is_told_in, tells, IsLoggedAsTold, LogsAsTold, was_told, RowsWereTold}
+use Rattle.am_board.specs.Note.{is_ready, asked_by, may_be_noted, may_note}
+use Rattle.am_board.specs.Past.{AtEach, past_of, moment_at, is_flush_of, notices_in, begin_of, was_noted, succeeded}
+use Rattle.am_board.specs.State.{AskedState, FlushState, State, flush_numbered}
 use Rattle.am_board.specs.Ticket.{outcome_of, is_nothing}
 use Rattle.am_board.specs.Upkeep.{has_expired}
-use Rattle.am_board.proofs.ConsistentGroups.{same_name_equiv}
-use Rattle.am_board.proofs.ConsistentLists.{all_from, all-find, all-filter, all-passes, all-weaker, all-both, find-passes}
-use Rattle.am_board.proofs.FoundAlerts.{finds_past}
+use Rattle.am_board.proofs.ConsistentGroups.{same_key_equiv}
+use Rattle.am_board.proofs.ConsistentLists.{all_from, all-find, all-weaker, find-passes}
+use Rattle.am_board.proofs.EachCall.{each_call}
+use Rattle.am_board.proofs.FoundAlerts.{steady_past, finds_past}
 use Rattle.am_board.proofs.FoundRows.{tells_past}
-use Rattle.am_board.proofs.FoundSteps.{clock-step}
-use Rattle.am_board.proofs.ListWords.{all-put_in}
 use Rattle.am_board.proofs.Opened.{notices_at, asked_as, IsOpened, Finds}
-use Rattle.am_board.proofs.Pasts.{state_after, IsLegalPast, replay_of_past, legal_of_past}
-use Rattle.am_board.proofs.RowSteps.{IsToldBy, Tells}
-use Rattle.am_board.proofs.SetWords.{any-map}
+use Rattle.am_board.proofs.Pasts.{state_after, IsLegalPast, legal_past, replay_is_past}
+use Rattle.am_board.proofs.RowSteps.{Tells}
+use Rattle.am_board.proofs.SetWords.{any-alike, any-map}
 
 or_right : (a b : Bool) → b ≡ true → (a || b) ≡ true
 or_right true b h = refl
@@ -43,137 +44,181 @@ two : (a b : Bool) → (a && b) ≡ true → (a ≡ true) × (b ≡ true)
 two true b h = (refl, h)
 two false b h = absurd (false≢true h)
 
+no : (b : Bool) → not b ≡ true → b ≡ false
+no true e = absurd (false≢true e)
+no false e = refl
+
 -- ---- words on lists
 
-module _ {X : Type 0} where
-  -- each that passes a test of its own is one that passes it
-  any-self : (test : X → X → Bool) (xs : List X) → AllByRecursion (λ x. test x x ≡ true → list_any (test x) xs ≡ true) xs
-  any-self test [] = tt
-  any-self test (x ∷ xs) = (
-    (λ e. ap (λ b. b || list_any (test x) xs) e),
-    all-weaker (λ y. test y y ≡ true → list_any (test y) xs ≡ true) (λ y. test y y ≡ true → list_any (test y) (x ∷ xs) ≡ true) (λ y h e. or_right (test y x) (list_any (test y) xs) (h e)) xs (any-self test xs),
-  )
+-- the one that is found
+any-of_found : {X : Type 0} (test also : X → Bool) (x : X) (xs : List X) → find test xs ≡ Some x → also x ≡ true → list_any (λ y. test y && also y) xs ≡ true
+any-of_found test also x [] e h = absurd (cc)
+any-of_found test also x (y ∷ ys) found h =
+    elim (test y) as (λ b. cond b (Some y) (find test ys) ≡ Some x → ((b && also y) || list_any (λ z. test z && also z) ys) ≡ true) [
+      | true ↦ λ e. let same : y ≡ x = cc in ap (λ z. also z || list_any (λ w. test w && also w) ys) same ∙ ap (λ b. b || list_any (λ w. test w && also w) ys) h
+      | false ↦ λ e. or_right false (list_any (λ z. test z && also z) ys) (any-of_found test also x ys e h)
+    ] found
 
-  -- the one that is found
-  any-of_found : (test also : X → Bool) (x : X) (xs : List X) → find test xs ≡ Some x → also x ≡ true → list_any (λ y. test y && also y) xs ≡ true
-  any-of_found test also x [] e h = absurd (cc)
-  any-of_found test also x (y ∷ ys) found h =
-      elim (test y) as (λ b. cond b (Some y) (find test ys) ≡ Some x → ((b && also y) || list_any (λ z. test z && also z) ys) ≡ true) [
-        | true ↦ λ e. let same : y ≡ x = cc in ap (λ z. also z || list_any (λ w. test w && also w) ys) same ∙ ap (λ b. b || list_any (λ w. test w && also w) ys) h
-        | false ↦ λ e. or_right false (list_any (λ z. test z && also z) ys) (any-of_found test also x ys e h)
-      ] found
+-- where no two are alike, each is found by what it is like
+each-found : {X : Type 0} (like : X → X → Bool) → IsEquivalence like → (xs : List X) → IsDistinct like xs → AllByRecursion (λ x. find (like x) xs ≡ Some x) xs
+each-found like laws [] h = tt
+each-found {X} like laws (x ∷ xs) h = (
+  ap (λ b. cond b (Some x) (find (like x) xs)) (laws.refl x),
+  others xs (IsDistinct-head like x xs h) (each-found like laws xs (IsDistinct-tail like x xs h)),
+)
+  where
+    others : (ys : List X) → AllByRecursion (λ y. like x y ≡ false) ys → AllByRecursion (λ y. find (like y) xs ≡ Some y) ys → AllByRecursion (λ y. cond (like y x) (Some x) (find (like y) xs) ≡ Some y) ys
+    others [] apart all = tt
+    others (y ∷ ys) apart all = (ap (λ b. cond b (Some x) (find (like y) xs)) (laws.symm y x ∙ apart.0) ∙ all.0, others ys apart.1 all.1)
 
--- ---- one record more
+-- ---- a record that logs
 
--- what was told stays told
-told-before : (r : Record) (past : List Record) (rows : List RowView) → AllByRecursion (λ row. was_told row past ≡ true) rows → AllByRecursion (λ row. was_told row (r ∷ past) ≡ true) rows
-told-before r past rows all =
-    all-weaker (λ row. was_told row past ≡ true) (λ row. was_told row (r ∷ past) ≡ true)
-    (λ row h. or_right ((moment_at (r ∷ past) == row.moment) && tells row.group row.integration past r.call) (was_told row past) h) rows all
+-- the flush at the head is of the group, and one of its notices passes
+told_in : (name : GroupName) (i : ℕ) (outcome : Option Outcome) (begin : List Record) → begins_group name begin ≡ true
+    → list_any (λ n. (n.integration == i) && (is_nothing n || is_delivered outcome)) (notices_at begin) ≡ true → is_told_in name i outcome begin ≡ true
+told_in name i outcome [] e h = absurd (false≢true e)
+told_in name i outcome (q ∷ before) e h = ap (λ b. b && is_told i outcome (notices_in q.reply)) e ∙ h
 
--- the rows that are logged one by one
-told-rows : (config : Config) (t : ℕ) (f : FlushState) (P : RowView → Type 0) (asked : List AskedState) (rows : List RowView) → AllByRecursion P rows → AllByRecursion (λ a. P (row_at config t f a.integration)) asked
-    → AllByRecursion P (fold (λ log a. log_with (row_at config t f a.integration) log) rows asked)
-told-rows config t f P [] rows all new = all
-told-rows config t f P (a ∷ asked) rows all new =
-    told-rows config t f P asked (log_with (row_at config t f a.integration) rows) (all-put_in same_key (row_at config t f a.integration) P rows new.0 all) new.1
+-- a finish logs those that succeeded and weren't noted
+finish_tells : (name : GroupName) (i now number : ℕ) (outcomes : List (ℕ × Outcome)) (past : List Record) → logs name i past (Finish now number outcomes) ≡ true → tells name i past (Finish now number outcomes) ≡ true
+finish_tells name i now number outcomes past h =
+    let begin = begin_of number past in
+    let both = two (begins_group name begin) (asked_to_success number outcomes past i begin && not (was_noted number i past)) h in
+    let rest = two (asked_to_success number outcomes past i begin) (not (was_noted number i past)) both.1 in
+    told_in name i (outcome_of outcomes i) begin both.0 (asked begin (no (was_noted number i past) rest.1) rest.0)
+  where
+    one : (n : NoticeData) (b : Bool) → (n.integration == i) ≡ b → was_noted number i past ≡ false → (b && succeeded number outcomes past n) ≡ (b && (is_nothing n || is_delivered (outcome_of outcomes i)))
+    one n true e unnoted =
+        ap (λ m. (was_noted number m past || is_nothing n) || is_delivered (outcome_of outcomes m)) (eqb-true n.integration i e)
+        ∙ ap (λ b. (b || is_nothing n) || is_delivered (outcome_of outcomes i)) unnoted
+    one n false e unnoted = refl
 
-module _ (config : Config) (id : ℕ) (s : State) (past : List Record) (pass : ℕ) (k : Finds config s past) (l : Tells config s past) (all : AllByRecursion (λ row. was_told row past ≡ true) s.rows) where
-  -- a row that its flush asked for, and whose success is told
-  told-now : (r : Record) (f : FlushState) (number i : ℕ) (outcome : Option Outcome) → f.number ≡ number → IsOpened config s.inserts past f → IsToldBy config past f
-      → (t : ℕ) → t ≡ moment_at (r ∷ past)
-      → list_any (λ (a : AskedState). (a.integration == i) && (a.nothing || is_delivered outcome)) f.asked ≡ true
-      → ((b : Bool) → is_told_in f.group i outcome (begin_of number past) ≡ b → tells f.group i past r.call ≡ b)
-      → was_told (row_at config t f i) (r ∷ past) ≡ true
-  told-now r f number i outcome same o told t at any says =
-      ap (λ b. (b && tells f.group i past r.call) || was_told (row_at config t f i) past) (ap (λ u. u == t) (sym at) ∙ nat_eq_equiv.refl t)
-      ∙ ap (λ b. b || was_told (row_at config t f i) past) (says true (ap (λ n. is_told_in f.group i outcome (begin_of n past)) (sym same) ∙ by (begin_of f.number past) (told.group f.group ∙ same_name_equiv.refl f.group) asked))
-    where
-      asked : list_any (λ n. (n.integration == i) && (is_nothing n || is_delivered outcome)) (notices_at (begin_of f.number past)) ≡ true
-      asked =
-          sym (any-map (λ (a : AskedState). (a.integration == i) && (a.nothing || is_delivered outcome)) (asked_as f.number past) (notices_at (begin_of f.number past)))
-          ∙ ap (λ as_asked. list_any (λ (a : AskedState). (a.integration == i) && (a.nothing || is_delivered outcome)) as_asked) (sym o.asked) ∙ any
+    asked : (begin : List Record) → was_noted number i past ≡ false → asked_to_success number outcomes past i begin ≡ true → list_any (λ n. (n.integration == i) && (is_nothing n || is_delivered (outcome_of outcomes i))) (notices_at begin) ≡ true
+    asked [] unnoted h = absurd (false≢true h)
+    asked (q ∷ before) unnoted h =
+        sym (any-alike (λ n. (n.integration == i) && succeeded number outcomes past n) (λ n. (n.integration == i) && (is_nothing n || is_delivered (outcome_of outcomes i))) (λ n. one n (n.integration == i) refl unnoted) (notices_in q.reply)) ∙ h
 
-      by : (begin : List Record) → begins_group f.group begin ≡ true → list_any (λ n. (n.integration == i) && (is_nothing n || is_delivered outcome)) (notices_at begin) ≡ true → is_told_in f.group i outcome begin ≡ true
-      by [] e h = absurd (false≢true e)
-      by (q ∷ before) e h = ap (λ b. b && is_told i outcome (notices_in q.reply)) e ∙ h
+-- a note is allowed only where it had nothing to send, or is told delivered
+note_tells : (config : Config) (s : State) (past : List Record) → Finds config s past → Tells config s past
+    → (now number i : ℕ) (outcome : Option Outcome) (f : FlushState) → flush_numbered s.flushes number ≡ Some f → may_note i outcome f ≡ true
+    → (name : GroupName) (j : ℕ) → logs name j past (Note now number i outcome) ≡ true → tells name j past (Note now number i outcome) ≡ true
+note_tells config s past k l now number i outcome f is may name j h =
+    let same : f.number ≡ number = eqb-true f.number number (find-passes (λ (h : FlushState). h.number == number) f s.flushes is) in
+    let o = all-find (IsOpened config s.inserts past) (λ h. h.number == number) f s.flushes k.opened is in
+    let both = two (begins_group name (begin_of number past)) (i == j) h in
+    let test : AskedState → Bool = λ a. (a.integration == i) && (a.nothing || is_delivered outcome) in
+    let asked : list_any (λ n. (n.integration == i) && (is_nothing n || is_delivered outcome)) (notices_at (begin_of f.number past)) ≡ true =
+    sym (any-map test (asked_as f.number past) (notices_at (begin_of f.number past))) ∙ ap (list_any test) (sym o.asked) ∙ ready (asked_by f i) refl may in
+    ap (λ b. b && is_told_in name j outcome (begin_of number past)) both.1
+    ∙ ap (λ m. is_told_in name m outcome (begin_of number past)) (sym (eqb-true i j both.1))
+    ∙ told_in name i outcome (begin_of number past) both.0 (ap (λ n. list_any (λ x. (x.integration == i) && (is_nothing x || is_delivered outcome)) (notices_at (begin_of n past))) (sym same) ∙ asked)
+  where
+    ready : (a : Option AskedState) → asked_by f i ≡ a → may_be_noted outcome a ≡ true → list_any (λ (x : AskedState). (x.integration == i) && (x.nothing || is_delivered outcome)) f.asked ≡ true
+    ready None found e = absurd (false≢true e)
+    ready (Some a) found e = any-of_found (λ (x : AskedState). x.integration == i) (λ x. x.nothing || is_delivered outcome) a f.asked found (two (is_ready outcome a) (not a.noted) e).0
 
-  finish : (now number : ℕ) (outcomes : List (ℕ × Outcome)) (p : Reply) (o : Option FlushState) → flush_numbered s.flushes number ≡ o → AllByRecursion (λ row. was_told row (entry pass (Finish now number outcomes) p ∷ past) ≡ true) (after_finish_of config s (moment s now) outcomes o).rows
-  finish now number outcomes p None is = told-before (entry pass (Finish now number outcomes) p) past s.rows all
-  finish now number outcomes p (Some f) is =
-      let r = entry pass (Finish now number outcomes) p in
-      let t = moment s now in
-      let same : f.number ≡ number = eqb-true f.number number (find-passes (λ (h : FlushState). h.number == number) f s.flushes is) in
-      let o = all-find (IsOpened config s.inserts past) (λ h. h.number == number) f s.flushes k.opened is in
-      let told = all-find (IsToldBy config past) (λ h. h.number == number) f s.flushes l.told is in
-      let logged : AskedState → Bool = λ a. has_succeeded outcomes a && not a.noted in
-      let P : RowView → Type 0 = λ row. was_told row (r ∷ past) ≡ true in
-      let self : AskedState → AskedState → Bool = λ a b. (b.integration == a.integration) && (b.nothing || is_delivered (outcome_of outcomes a.integration)) in
-      let Q : AskedState → Type 0 = λ a. self a a ≡ true → list_any (self a) f.asked ≡ true in
-      told-rows config t f P (logged_by outcomes f) s.rows (told-before r past s.rows all)
-      (all-both (λ a. logged a ≡ true) Q (λ a. P (row_at config t f a.integration))
-      (λ a success found. told-now r f number a.integration (outcome_of outcomes a.integration) same o told t (clock-step config s past k now r refl) (found (own outcomes a success)) (λ b e. e))
-      (logged_by outcomes f) (all-passes logged f.asked) (all-filter Q logged f.asked (any-self self f.asked)))
-    where
-      own : (outcomes : List (ℕ × Outcome)) (a : AskedState) → (has_succeeded outcomes a && not a.noted) ≡ true → ((a.integration == a.integration) && (a.nothing || is_delivered (outcome_of outcomes a.integration))) ≡ true
-      own outcomes a e = ap (λ b. b && (a.nothing || is_delivered (outcome_of outcomes a.integration))) (nat_eq_equiv.refl a.integration) ∙ by a.noted a.nothing (is_delivered (outcome_of outcomes a.integration)) e
-        where
-          by : (n m d : Bool) → (((n || m) || d) && not n) ≡ true → (m || d) ≡ true
-          by true m d h = absurd (false≢true h)
-          by false true d h = refl
-          by false false true h = refl
-          by false false false h = h
+logged_as_told : (config : Config) (id : ℕ) (past : List Record) → IsLegalPast config id past → AtEach IsLoggedAsTold past
+logged_as_told config id [] legal = tt
+logged_as_told config id (r ∷ past) legal =
+    let s = state_after config past in (
+      each_call config id s (λ c new p. IsLoggedAsTold (entry r.pass c p) past)
+          (record {
+            insert = λ now a name i e. absurd (false≢true e);
+            silence = λ now number matchers start end name i e. absurd (false≢true e);
+            nothing = λ now name i e. absurd (false≢true e);
+            begin = λ now g taken asked are name i e. absurd (false≢true e);
+            finish = λ now number outcomes f is name i e. finish_tells name i now number outcomes past e;
+            maintain = λ now name i e. absurd (false≢true e);
+            note = λ now number i outcome f is may name j e. note_tells config s past (finds_past config id past legal.1) (tells_past config id past legal.1) now number i outcome f is may name j e;
+          }) r.call r.reply legal.0,
+      logged_as_told config id past legal.1,
+    )
 
-  note : (now number i : ℕ) (outcome : Option Outcome) (p : Reply) (o : Option FlushState) → flush_numbered s.flushes number ≡ o → AllByRecursion (λ row. was_told row (entry pass (Note now number i outcome) p ∷ past) ≡ true) (after_note_of config s (moment s now) i outcome o).rows
-  note now number i outcome p None is = told-before (entry pass (Note now number i outcome) p) past s.rows all
-  note now number i outcome p (Some f) is =
-      let r = entry pass (Note now number i outcome) p in
-      let t = moment s now in
-      let same : f.number ≡ number = eqb-true f.number number (find-passes (λ (h : FlushState). h.number == number) f s.flushes is) in
-      let o = all-find (IsOpened config s.inserts past) (λ h. h.number == number) f s.flushes k.opened is in
-      let told = all-find (IsToldBy config past) (λ h. h.number == number) f s.flushes l.told is in
-      let P : RowView → Type 0 = λ row. was_told row (r ∷ past) ≡ true in
-      let before = told-before r past s.rows all in
-      elim (may_note i outcome f) as (λ b. may_note i outcome f ≡ b → AllByRecursion P (if b then after_note config s t i f else at_moment s t).rows) [
-        | true ↦ λ e.
-            all-put_in same_key (row_at config t f i) P s.rows
-            (told-now r f number i outcome same o told t (clock-step config s past k now r refl) (ready (asked_by f i) refl e) (λ b h. ap (λ c. c && is_told_in f.group i outcome (begin_of number past)) (nat_eq_equiv.refl i) ∙ h))
-            before
-        | false ↦ λ e. before
-      ] refl
-    where
-      ready : (a : Option AskedState) → asked_by f i ≡ a → may_be_noted outcome a ≡ true → list_any (λ (x : AskedState). (x.integration == i) && (x.nothing || is_delivered outcome)) f.asked ≡ true
-      ready None found e = absurd (false≢true e)
-      ready (Some a) found e = any-of_found (λ (x : AskedState). x.integration == i) (λ x. x.nothing || is_delivered outcome) a f.asked found (two (is_ready outcome a) (not a.noted) e).0
+pub logs_as_told : EveryLegalHistory LogsAsTold
+logs_as_told config id history legal = logged_as_told config id (past_of history) (legal_past config id history legal)
 
-  one_call : (c : Call) (p : Reply) → AllByRecursion (λ row. was_told row (entry pass c p ∷ past) ≡ true) (after_call config s c).rows
-  one_call (Insert now alert) p = told-before (entry pass (Insert now alert) p) past s.rows all
-  one_call (Silence now number matchers start end) p = told-before (entry pass (Silence now number matchers start end) p) past s.rows all
-  one_call (Begin now) p = subst (AllByRecursion (λ row. was_told row (entry pass (Begin now) p ∷ past) ≡ true)) (sym (by (taken s (moment s now)))) (told-before (entry pass (Begin now) p) past s.rows all)
-    where
-      asking : (t : ℕ) (g : GroupState) (asked : List (ℕ × Integration)) → (after_asking config s t g asked).rows ≡ s.rows
-      asking t g [] = refl
-      asking t g (i ∷ is) = refl
+-- ---- the row that is found
 
-      by : (o : Option GroupState) → (after_taking config s (moment s now) o).rows ≡ s.rows
-      by None = refl
-      by (Some g) = asking (moment s now) g (asked_of config s (moment s now) g)
-  one_call (Finish now number outcomes) p = finish now number outcomes p (flush_numbered s.flushes number) refl
-  one_call (Maintain now) p =
-      all-filter (λ row. was_told row (entry pass (Maintain now) p ∷ past) ≡ true) (λ row. not (has_expired (moment s now) row)) s.rows (told-before (entry pass (Maintain now) p) past s.rows all)
-  one_call (Note now number i outcome) p = note now number i outcome p (flush_numbered s.flushes number) refl
+-- it is of its moment
+row_moment : (config : Config) (t i : ℕ) (row : RowView) (begin : List Record) → row_of_begin config t i begin ≡ Some row → row.moment ≡ t
+row_moment config t i row [] e = absurd (cc)
+row_moment config t i row (q ∷ before) e = by (moment_at (q ∷ before)) q.reply e
+  where
+    by : (begun : ℕ) (p : Reply) → row_told config t i begun before p ≡ Some row → row.moment ≡ t
+    by begun (reply_is.Inserted inserted) e = absurd (cc)
+    by begun (reply_is.Silenced silenced) e = absurd (cc)
+    by begun reply_is.NothingDue e = absurd (cc)
+    by begun (reply_is.Quiet group removed) e = absurd (cc)
+    by begun (reply_is.Flush number group deadline notices) e = ap (λ (o : Option RowView). moment_or o) (sym e)
+      where
+        moment_or : Option RowView → ℕ
+        moment_or None = t
+        moment_or (Some x) = x.moment
+    by begun (reply_is.Finished finished) e = absurd (cc)
+    by begun (reply_is.Maintained maintained) e = absurd (cc)
+    by begun reply_is.Noted e = absurd (cc)
 
-told_past : (config : Config) (id : ℕ) (past : List Record) → IsLegalPast config id past → AllByRecursion (λ row. was_told row past ≡ true) (state_after config past).rows
-told_past config id [] legal = tt
-told_past config id (r ∷ past) legal =
-    one_call config id (state_after config past) past r.pass (finds_past config id past legal.1) (tells_past config id past legal.1) (told_past config id past legal.1) r.call r.reply
+-- a flush of a group gives one
+row_there : (config : Config) (t i : ℕ) (name : GroupName) (begin : List Record) → begins_group name begin ≡ true → row_of_begin config t i begin ≡ None → ⊥
+row_there config t i name [] e none = false≢true e
+row_there config t i name (q ∷ before) e none = by (moment_at (q ∷ before)) q.reply e none
+  where
+    by : (begun : ℕ) (p : Reply) → is_flush_of name p ≡ true → row_told config t i begun before p ≡ None → ⊥
+    by begun (reply_is.Inserted inserted) e none = false≢true e
+    by begun (reply_is.Silenced silenced) e none = false≢true e
+    by begun reply_is.NothingDue e none = false≢true e
+    by begun (reply_is.Quiet group removed) e none = false≢true e
+    by begun (reply_is.Flush number group deadline notices) e none = absurd (cc)
+    by begun (reply_is.Finished finished) e none = false≢true e
+    by begun (reply_is.Maintained maintained) e none = false≢true e
+    by begun reply_is.Noted e none = false≢true e
 
-pub rows_were_told : RowsWereTold
+logs_begin : (name : GroupName) (i : ℕ) (past : List Record) (c : Call) → logs name i past c ≡ true → begins_group name (begin_named past c) ≡ true
+logs_begin name i past (Insert now alert) e = absurd (false≢true e)
+logs_begin name i past (Silence now id matchers start end) e = absurd (false≢true e)
+logs_begin name i past (Begin now) e = absurd (false≢true e)
+logs_begin name i past (Finish now number outcomes) e =
+    (two (begins_group name (begin_of number past)) (asked_to_success number outcomes past i (begin_of number past) && not (was_noted number i past)) e).0
+logs_begin name i past (Maintain now) e = absurd (false≢true e)
+logs_begin name i past (Note now number j outcome) e = (two (begins_group name (begin_of number past)) (j == i) e).0
+
+-- what a maintenance leaves was there
+left_there : (t : ℕ) (c : Call) (row : RowView) (o : Option RowView) → unless_collected t c o ≡ Some row → o ≡ Some row
+left_there t (Insert now alert) row o e = e
+left_there t (Silence now id matchers start end) row o e = e
+left_there t (Begin now) row o e = e
+left_there t (Finish now number outcomes) row o e = e
+left_there t (Maintain now) row None e = e
+left_there t (Maintain now) row (Some x) e = elim (has_expired t x) as (λ b. cond b None (Some x) ≡ Some row → Some x ≡ Some row) [ true ↦ λ e. absurd (cc) | false ↦ λ e. e ] e
+left_there t (Note now number integration outcome) row o e = e
+
+-- the record that logged it told its success, at its moment
+found_told : (config : Config) (row : RowView) (past : List Record) → AtEach IsLoggedAsTold past → entry_in config row.group row.integration past ≡ Some row → was_told row past ≡ true
+found_told config row [] each e = absurd (cc)
+found_told config row (r ∷ past) each e = by (logs row.group row.integration past r.call) refl (λ there. found_told config row past each.1 there) e
+  where
+    by : (b : Bool) → logs row.group row.integration past r.call ≡ b → (entry_in config row.group row.integration past ≡ Some row → was_told row past ≡ true) → option_or (cond b (row_of_begin config (moment_at (r ∷ past)) row.integration (begin_named past r.call)) None) (unless_collected (moment_at (r ∷ past)) r.call (entry_in config row.group row.integration past)) ≡ Some row
+        → cond b ((moment_at (r ∷ past) == row.moment) && tells row.group row.integration past r.call) (was_told row past) ≡ true
+    by true logged before e = now (row_of_begin config (moment_at (r ∷ past)) row.integration (begin_named past r.call)) refl e
+      where
+        now : (o : Option RowView) → row_of_begin config (moment_at (r ∷ past)) row.integration (begin_named past r.call) ≡ o → option_or o (unless_collected (moment_at (r ∷ past)) r.call (entry_in config row.group row.integration past)) ≡ Some row
+            → ((moment_at (r ∷ past) == row.moment) && tells row.group row.integration past r.call) ≡ true
+        now None none e = absurd (row_there config (moment_at (r ∷ past)) row.integration row.group (begin_named past r.call) (logs_begin row.group row.integration past r.call logged) none)
+        now (Some x) is e =
+            ap (λ m. (moment_at (r ∷ past) == m) && tells row.group row.integration past r.call) (row_moment config (moment_at (r ∷ past)) row.integration row (begin_named past r.call) (is ∙ e))
+            ∙ ap (λ b. b && tells row.group row.integration past r.call) (nat_eq_equiv.refl (moment_at (r ∷ past)))
+            ∙ each.0 row.group row.integration logged
+    by false logged before e = before (left_there (moment_at (r ∷ past)) r.call row (entry_in config row.group row.integration past) e)
+
+pub rows_were_told : EveryLegalHistory RowsWereTold
 rows_were_told config id history legal =
     let past = past_of history in
-    let back : reverse past ≡ history = reverse-reverse history in
+    let s = state_after config past in
+    let legal_back = legal_past config id history legal in
+    let l = tells_past config id past legal_back in
+    let each = logged_as_told config id past legal_back in
     let P : RowView → Type 0 = λ row. IsTrue (was_told row past) in
-    let told = told_past config id past (legal_of_past config id past (subst (IsLegal config id) (sym back) legal)) in
-    subst (λ h. All P (replay config h).rows) back
-    (subst (λ s. All P s.rows) (sym (replay_of_past config past))
-    (all_from P (state_after config past).rows (all-weaker (λ row. was_told row past ≡ true) P (λ row h. h) (state_after config past).rows told)))
+    subst (λ (s : State). All P s.rows) (sym (replay_is_past config history))
+    (all_from P s.rows
+    (all-weaker (λ row. find (same_key row) s.rows ≡ Some row) P (λ row e. found_told config row past each (sym (l.rows row.group row.integration) ∙ e)) s.rows
+    (each-found same_key same_key_equiv s.rows (steady_past config past).rows)))

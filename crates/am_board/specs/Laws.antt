@@ -14,6 +14,7 @@ use Rattle.am_board.specs.Configured.{route_of}
 use Rattle.am_board.specs.Finish.{same_key}
 use Rattle.am_board.specs.Insert.{same_alert, same_member, same_group}
 use Rattle.am_board.specs.Replay.{reply, after, replay, IsLegal}
+use Rattle.am_board.specs.Upkeep.{same_silence}
 use Rattle.am_board.specs.State.{GroupState, AskedState, FlushState, State, opening_state, same_name, has_group, members_in}
 
 -- one record more is one step more
@@ -107,6 +108,7 @@ pub record IsConsistent (s : State) : Type 0 where
   pub groups : IsDistinct same_group s.groups
   pub members : All (λ g. IsDistinct same_member g.members) s.groups
   pub stamps : All (λ g. All (λ m. m.stamp ≤ s.inserts) g.members) s.groups
+  pub silences : IsDistinct same_silence s.silences
   pub rows : IsDistinct same_key s.rows
   pub flushes : IsDistinct same_flushed s.flushes
   pub numbers : IsDistinct same_number s.flushes

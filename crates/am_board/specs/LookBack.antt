@@ -1,5 +1,5 @@
 -- Look-back: what was done and why, told from a history alone, with any number of flushes open.
-use Rattle.std.specs.Prelude.{◌≡◌, ℕ, ◌+◌, ◌≤◌, Bool, true, false, IsTrue, not, ◌&&◌, ◌||◌, ◌==◌, All, List, [], ◌∷◌, ◌++◌, map, filter, find, Option, Some, None, if◌then◌else◌}
+use Rattle.std.specs.Prelude.{◌≡◌, ℕ, ◌+◌, ◌≤◌, Bool, true, false, IsTrue, not, ◌&&◌, ◌||◌, ◌==◌, All, List, [], ◌∷◌, map, filter, find, Option, Some, None, if◌then◌else◌}
 use Rattle.std.specs.List.{list_any}
 use Rattle.std.specs.Option.{option_map}
 use Rattle.am_alerts.specs.Labels.{same_label_set}
@@ -19,13 +19,18 @@ use Rattle.am_board.specs.declared.views.RowView.{RowView}
 use Rattle.am_board.specs.Begin.{is_entry_of, log_row}
 use Rattle.am_board.specs.Configured.{route_of, integrations_of}
 use Rattle.am_board.specs.Data.{NoticeData}
-use Rattle.am_board.specs.Entry.{begins_group, present_in, firing_in, resolved_in, entry_in}
+use Rattle.am_board.specs.Entry.{begins_group, logs, present_in, firing_in, resolved_in, entry_in}
 use Rattle.am_board.specs.Finish.{is_delivered}
-use Rattle.am_board.specs.Past.{AtEach, past_of, moment_at, is_flush, is_flush_of, is_finish, is_maintenance, takes, notices_in, begin_of, has_begun, has_finished}
+use Rattle.am_board.specs.Laws.{IsConsistent}
+use Rattle.am_board.specs.Past.{AtEach, past_of, replay_past, moment_at, is_flush, is_flush_of, is_finish, is_maintenance, takes, notices_in, begin_of, has_begun, has_finished}
 use Rattle.am_board.specs.Presence.{goes_to, inserts, inserted_by, stamp_told, presence}
 use Rattle.am_board.specs.Replay.{replay, IsLegal}
 use Rattle.am_board.specs.State.{MemberState, members_in}
 use Rattle.am_board.specs.Ticket.{outcome_of, is_nothing}
+
+-- what every legal history has
+abbrev pub EveryLegalHistory : (Config → List Record → Type 0) → Type 0
+EveryLegalHistory P = (config : Config) (id : ℕ) (history : List Record) → IsLegal config id history → P config history
 
 -- ---- presence and entries
 
@@ -34,17 +39,15 @@ abbrev pub member_with : List Label → List MemberState → Option MemberState
 member_with labels members = find (λ m. same_label_set labels m.alert.labels) members
 
 -- an alert is in a group after a history exactly if looking back finds it there, with the value and the stamp of its last insert
-abbrev pub AlertsAreFound : Type 0
-AlertsAreFound =
-    (config : Config) (id : ℕ) (history : List Record) → IsLegal config id history
-    → (name : GroupName) (labels : List Label)
+abbrev pub AlertsAreFound : Config → List Record → Type 0
+AlertsAreFound config history =
+    (name : GroupName) (labels : List Label)
     → member_with labels (members_in (replay config history).groups name) ≡ presence config name labels (past_of history)
 
 -- the log has a row for a group and an integration after a history exactly if looking back finds it, and it is that one
-abbrev pub RowsAreFound : Type 0
-RowsAreFound =
-    (config : Config) (id : ℕ) (history : List Record) → IsLegal config id history
-    → (name : GroupName) (integration : ℕ)
+abbrev pub RowsAreFound : Config → List Record → Type 0
+RowsAreFound config history =
+    (name : GroupName) (integration : ℕ)
     → find (is_entry_of name integration) (replay config history).rows ≡ entry_in config name integration (past_of history)
 
 -- ---- logged only after delivery
@@ -69,17 +72,26 @@ tells name integration past (Finish now number outcomes) =
 tells name integration past (Maintain now) = false
 tells name integration past (Note now number i outcome) = (i == integration) && is_told_in name integration outcome (begin_of number past)
 
--- whether a finish or a note at a row's moment told that its notice was delivered, or had nothing to send
+-- a record that logs an integration's success for a group tells that the notice of that flush was delivered, or had nothing to send
+abbrev pub IsLoggedAsTold : Record → List Record → Type 0
+IsLoggedAsTold r past =
+    (name : GroupName) (integration : ℕ) → logs name integration past r.call ≡ true → tells name integration past r.call ≡ true
+
+-- whether the last record that logged a row's integration for its group did so at the row's moment, and told that its notice was delivered, or had nothing to send
 abbrev pub was_told : RowView → List Record → Bool
 was_told row [] = false
 was_told row (r ∷ past) =
-    ((moment_at (r ∷ past) == row.moment) && tells row.group row.integration past r.call) || was_told row past
+    if logs row.group row.integration past r.call
+    then (moment_at (r ∷ past) == row.moment) && tells row.group row.integration past r.call
+    else was_told row past
+
+-- whatever a history logs was told delivered, or had nothing to send
+abbrev pub LogsAsTold : Config → List Record → Type 0
+LogsAsTold config history = AtEach IsLoggedAsTold (past_of history)
 
 -- each row of the log stands for a notice that was told delivered, or had nothing to send, at its moment
-abbrev pub RowsWereTold : Type 0
-RowsWereTold =
-    (config : Config) (id : ℕ) (history : List Record) → IsLegal config id history
-    → All (λ row. IsTrue (was_told row (past_of history))) (replay config history).rows
+abbrev pub RowsWereTold : Config → List Record → Type 0
+RowsWereTold config history = All (λ row. IsTrue (was_told row (past_of history))) (replay config history).rows
 
 -- ---- a refiring alert stays
 
@@ -91,15 +103,18 @@ insert_during number labels (r ∷ past) =
     else if inserts labels r.call then inserted_by (stamp_told r.reply) r.call
     else insert_during number labels past
 
--- an alert that was inserted into a group between a begin of it and the finish is in the group after the finish, as it was inserted last
-abbrev pub RefiringAlertsStay : Type 0
-RefiringAlertsStay =
-    (config : Config) (id : ℕ) (history : List Record) (finish : Record) → IsLegal config id (history ++ finish ∷ [])
-    → (number : ℕ) → is_finish number finish.call ≡ true
-    → (name : GroupName) → begins_group name (begin_of number (past_of history)) ≡ true
+-- after a record that finishes a flush, each alert that was inserted into the group since the begin is in the group, as it was inserted last
+abbrev pub KeepsRefiring : Config → Record → List Record → Type 0
+KeepsRefiring config r past =
+    (number : ℕ) → is_finish number r.call ≡ true
+    → (name : GroupName) → begins_group name (begin_of number past) ≡ true
     → (labels : List Label) → goes_to config name labels ≡ true
-    → (m : MemberState) → insert_during number labels (past_of history) ≡ Some m
-    → member_with labels (members_in (replay config (history ++ finish ∷ [])).groups name) ≡ Some m
+    → (m : MemberState) → insert_during number labels past ≡ Some m
+    → member_with labels (members_in (replay_past config (r ∷ past)).groups name) ≡ Some m
+
+-- at each finish, an alert that was inserted into the group since the begin stays
+abbrev pub RefiringAlertsStay : Config → List Record → Type 0
+RefiringAlertsStay config history = AtEach (KeepsRefiring config) (past_of history)
 
 -- ---- one finish per flush
 
@@ -140,9 +155,8 @@ pub record IsOneOfEach (config : Config) (r : Record) (past : List Record) : Typ
   pub later : (name : GroupName) → takes name r.reply ≡ true → IsLater (route_of config name).group_interval (moment_at (r ∷ past)) (begun_at config name past)
 
 -- each number has one begin and at most one finish; a group is taken only while none of its flushes is open, and an interval after its last begin
-abbrev pub FlushesEndOnce : Type 0
-FlushesEndOnce =
-    (config : Config) (id : ℕ) (history : List Record) → IsLegal config id history → AtEach (IsOneOfEach config) (past_of history)
+abbrev pub FlushesEndOnce : Config → List Record → Type 0
+FlushesEndOnce config history = AtEach (IsOneOfEach config) (past_of history)
 
 -- ---- a begin asks exactly whom it should
 
@@ -169,30 +183,19 @@ IsAskedRightly config r past =
     (name : GroupName) → takes name r.reply ≡ true
     → map (λ n. n.integration) (notices_in r.reply) ≡ asked_by_past config name (moment_at (r ∷ past)) past
 
-abbrev pub BeginsAskRightly : Type 0
-BeginsAskRightly =
-    (config : Config) (id : ℕ) (history : List Record) → IsLegal config id history → AtEach (IsAskedRightly config) (past_of history)
+-- each begin that takes a group asks those that it is to ask
+abbrev pub BeginsAskRightly : Config → List Record → Type 0
+BeginsAskRightly config history = AtEach (IsAskedRightly config) (past_of history)
 
 -- ---- all of it, of one history
 
--- a record that finishes a flush leaves each alert in its group that was inserted into it since the begin, as it was inserted last
-abbrev pub KeepsRefiring : Config → Record → List Record → Type 0
-KeepsRefiring config r past =
-    (number : ℕ) → is_finish number r.call ≡ true
-    → (name : GroupName) → begins_group name (begin_of number past) ≡ true
-    → (labels : List Label) → goes_to config name labels ≡ true
-    → (m : MemberState) → insert_during number labels past ≡ Some m
-    → presence config name labels (r ∷ past) ≡ Some m
-
--- what looking back says of a history: its alerts and its rows are found, each row was told, and at each record a refiring alert stays, flushes end once, and a begin asks those that it is to ask
+-- what looking back says of a history: its alerts and its rows are found, and no two are of one key; what was logged was told; and at each record a refiring alert stays, flushes end once, and a begin asks those that it is to ask
 pub record LooksBack (config : Config) (history : List Record) : Type 0 where
-  pub alerts : (name : GroupName) (labels : List Label) → member_with labels (members_in (replay config history).groups name) ≡ presence config name labels (past_of history)
-  pub rows : (name : GroupName) (integration : ℕ) → find (is_entry_of name integration) (replay config history).rows ≡ entry_in config name integration (past_of history)
-  pub told : All (λ row. IsTrue (was_told row (past_of history))) (replay config history).rows
-  pub refiring : AtEach (KeepsRefiring config) (past_of history)
-  pub once : AtEach (IsOneOfEach config) (past_of history)
-  pub asked : AtEach (IsAskedRightly config) (past_of history)
-
--- every legal history looks back so
-abbrev pub HistoriesLookBack : Type 0
-HistoriesLookBack = (config : Config) (id : ℕ) (history : List Record) → IsLegal config id history → LooksBack config history
+  pub consistent : IsConsistent (replay config history)
+  pub alerts : AlertsAreFound config history
+  pub rows : RowsAreFound config history
+  pub logged : LogsAsTold config history
+  pub told : RowsWereTold config history
+  pub refiring : RefiringAlertsStay config history
+  pub once : FlushesEndOnce config history
+  pub asked : BeginsAskRightly config history

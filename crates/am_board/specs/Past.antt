@@ -3,6 +3,7 @@ use Rattle.std.specs.Prelude.{ℕ, Bool, true, false, ◌&&◌, ◌||◌, ◌==�
 use Rattle.std.specs.List.{list_any}
 use Rattle.am_alerts.specs.declared.limits.TheConstants.{MAX_MOMENT}
 use Rattle.am_retry.specs.declared.outcome.Outcome.{Outcome}
+use Rattle.am_board.specs.declared.config.Config.{Config}
 use Rattle.am_board.specs.declared.group.GroupName.{GroupName}
 use Rattle.am_board.specs.declared.record.Call.{Call}
 use Rattle.am_board.specs.declared.record.Call.TheVariants.{Insert, Silence, Begin, Finish, Maintain, Note}
@@ -12,12 +13,17 @@ use Rattle.am_board.specs.declared.record.Reply.TheVariants.{Inserted, Silenced,
 use Rattle.am_board.specs.Data.{NoticeData}
 use Rattle.am_board.specs.Finish.{is_delivered}
 use Rattle.am_board.specs.Laws.{now_of}
-use Rattle.am_board.specs.State.{same_name}
+use Rattle.am_board.specs.Replay.{replay}
+use Rattle.am_board.specs.State.{State, same_name}
 use Rattle.am_board.specs.Ticket.{outcome_of, is_nothing}
 
 -- a history with its latest record first
 abbrev pub past_of : List Record → List Record
 past_of history = reverse history
+
+-- the state after a past: the replay of its history
+abbrev pub replay_past : Config → List Record → State
+replay_past config past = replay config (reverse past)
 
 -- what holds of each record and the records before it
 abbrev pub AtEach : (Record → List Record → Type 0) → List Record → Type 0

@@ -1,6 +1,6 @@
 //! Laws of histories.
 ghost use Rattle.am_board.specs.Laws.{ReplayAppends, LegalAppends, ClockIsMoment, LegalKeeps};
-ghost use Rattle.am_board.specs.LookBack.{AlertsAreFound, RowsAreFound, RowsWereTold, RefiringAlertsStay, FlushesEndOnce, BeginsAskRightly, HistoriesLookBack};
+ghost use Rattle.am_board.specs.LookBack.{EveryLegalHistory, AlertsAreFound, RowsAreFound, LogsAsTold, RowsWereTold, RefiringAlertsStay, FlushesEndOnce, BeginsAskRightly, LooksBack};
 
 /// What the definitions of the sequential dispatcher say of a history with one record more: its
 /// state is the one after that record, it is legal where the history before is and the record's
@@ -21,31 +21,38 @@ pub fn legal_histories_are_consistent()
 
 /// Which alerts are in which group after a legal history, read off the history from its end.
 pub fn looking_back_finds_alerts()
-    ensures { AlertsAreFound }
+    ensures { EveryLegalHistory AlertsAreFound }
 {}
 
-/// Which rows the log has after a legal history, read off the history from its end, and for what each stands.
+/// Which rows the log has after a legal history, read off the history from its end.
 pub fn looking_back_finds_rows()
-    ensures found { RowsAreFound }
-    ensures told { RowsWereTold }
+    ensures { EveryLegalHistory RowsAreFound }
 {}
 
-/// An alert that fires again while a flush of its group is open stays in the group.
+/// Each finish and each note of a legal history that logs an integration's success tells that this
+/// flush's notice was delivered, or it had nothing to send; and each row of the log stands for such
+/// a record, the last that logged under its key.
+pub fn logged_only_after_delivery()
+    ensures each_record { EveryLegalHistory LogsAsTold }
+    ensures rows { EveryLegalHistory RowsWereTold }
+{}
+
+/// An alert that fires again while a flush of its group is open is in the group after the finish.
 pub fn refiring_alerts_stay()
-    ensures { RefiringAlertsStay }
+    ensures { EveryLegalHistory RefiringAlertsStay }
 {}
 
 /// Each flush has one begin and at most one finish, and its group isn't taken before.
 pub fn flushes_end_once()
-    ensures { FlushesEndOnce }
+    ensures { EveryLegalHistory FlushesEndOnce }
 {}
 
 /// A begin asks exactly the integrations that the history before it says.
 pub fn begins_ask_rightly()
-    ensures { BeginsAskRightly }
+    ensures { EveryLegalHistory BeginsAskRightly }
 {}
 
 /// What looking back says of every legal history, all of it.
 pub fn legal_histories_look_back()
-    ensures { HistoriesLookBack }
+    ensures { EveryLegalHistory LooksBack }
 {}

@@ -54,7 +54,7 @@ later_places {X = X} n (x ∷ xs) =
     let P : ℕ × X → Type 0 = λ p. n + 1 ≤ p.0 in
     (omega arith, all-weaker P (λ p. n ≤ p.0) (λ p h. omega (arith, h)) (enumerate_from (n + 1) xs) rest)
 
-distinct_places : {X : Type 0} (n : ℕ) (xs : List X) → IsDistinct (λ (p q : ℕ × X). p.0 == q.0) (enumerate_from n xs)
+pub distinct_places : {X : Type 0} (n : ℕ) (xs : List X) → IsDistinct (λ (p q : ℕ × X). p.0 == q.0) (enumerate_from n xs)
 distinct_places {X = X} n [] = IsDistinct-nil (λ (p q : ℕ × X). p.0 == q.0)
 distinct_places {X = X} n (x ∷ xs) =
     let like : ℕ × X → ℕ × X → Bool = λ p q. p.0 == q.0 in

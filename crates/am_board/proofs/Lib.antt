@@ -1,4 +1,5 @@
 pub mod Agreeing
+pub mod AlertsShown
 pub mod Alone
 pub mod AskedRightly
 pub mod Askings
@@ -65,6 +66,7 @@ pub mod RowsRefused
 pub mod RowsResolved
 pub mod RowsRouted
 pub mod RowsTold
+pub mod SameAlerts
 pub mod Searches
 pub mod SetWords
 pub mod Shown

@@ -1,6 +1,7 @@
 -- What looking back says of every legal history, in one.
 use Rattle.am_board.specs.LookBack.{EveryLegalHistory, LooksBack}
-use Rattle.am_board.proofs.AskedRightly.{begins_ask_rightly}
+use Rattle.am_board.proofs.AlertsShown.{shown_alerts_are_found}
+use Rattle.am_board.proofs.AskedRightly.{begins_ask_rightly, begins_tell_what_is_there}
 use Rattle.am_board.proofs.Consistent.{consistent}
 use Rattle.am_board.proofs.FlushesOnce.{flushes_end_once}
 use Rattle.am_board.proofs.FoundAlerts.{alerts_are_found}
@@ -13,10 +14,12 @@ histories_look_back config id history legal =
     record {
       consistent = consistent config id history legal;
       alerts = alerts_are_found config id history legal;
+      shown = shown_alerts_are_found config id history legal;
       rows = rows_are_found config id history legal;
       logged = logs_as_told config id history legal;
       told = rows_were_told config id history legal;
       refiring = refiring_alerts_stay config id history legal;
       once = flushes_end_once config id history legal;
       asked = begins_ask_rightly config id history legal;
+      tells = begins_tell_what_is_there config id history legal;
     }

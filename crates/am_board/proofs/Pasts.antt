@@ -15,7 +15,7 @@ use Rattle.am_board.specs.declared.record.Inserted.{Inserted}
 use Rattle.am_board.specs.declared.record.Record.{Record}
 use Rattle.am_board.specs.declared.record.Reply.TheVariants as reply_is
 use Rattle.am_board.specs.History.{entry}
-use Rattle.am_board.specs.Past.{past_of}
+use Rattle.am_board.specs.Past.{AtEach, past_of}
 use Rattle.am_board.specs.Presence.{goes_to, inserts, inserted_by, stamp_told, last_insert, removes, has_left, unless_left, presence}
 use Rattle.am_board.specs.Replay.{reply, after, replay, IsLegal}
 use Rattle.am_board.specs.State.{MemberState, State, opening_state}
@@ -44,6 +44,12 @@ legal_of_past config id [] h = tt
 legal_of_past config id (r ∷ past) h =
     let parts = (legal_appends config id (reverse past) r).0 (subst (IsLegal config id) (reverse_onto past r []) h) in
     (subst (λ s. reply config id s r.call ≡ Some r.reply) (replay_of_past config past) parts.1, legal_of_past config id past parts.0)
+
+-- what holds of a record after a legal past, where it was told its reply, holds at each record
+pub at_each : (config : Config) (id : ℕ) (P : Record → List Record → Type 0) → ((r : Record) (past : List Record) → IsLegalPast config id past → reply config id (state_after config past) r.call ≡ Some r.reply → P r past)
+    → (past : List Record) → IsLegalPast config id past → AtEach P past
+at_each config id P one [] legal = tt
+at_each config id P one (r ∷ past) legal = (one r past legal.1 legal.0, at_each config id P one past legal.1)
 
 -- a legal history is legal from its end
 pub legal_past : (config : Config) (id : ℕ) (history : List Record) → IsLegal config id history → IsLegalPast config id (past_of history)

@@ -1,12 +1,10 @@
 -- What is logged was told delivered, or had nothing to send, and each row of the log stands for such a notice.
 use Rattle.std.proofs.Common.{◌≡◌, ℕ, Bool, true, false, cond, not, ◌&&◌, ◌||◌, Option, Some, None, List, [], ◌∷◌, refl, sym, ap, ◌∙◌, subst}
 use Rattle.std.specs.Prelude.{All, IsTrue, find, ◌==◌}
-use Rattle.std.specs.Cmp.{IsEquivalence}
-use Rattle.std.specs.List.{AllByRecursion, IsDistinct, list_any}
+use Rattle.std.specs.List.{list_any}
 use Rattle.std.specs.Option.{option_or}
 use Rattle.std.proofs.lemmas.Bool.{false≢true, eqb-true}
 use Rattle.std.proofs.lemmas.Cmp.{nat_eq_equiv}
-use Rattle.std.proofs.lemmas.Map.Keys.{IsDistinct-head, IsDistinct-tail}
 use Rattle.am_retry.specs.declared.outcome.Outcome.{Outcome}
 use Rattle.am_board.specs.declared.config.Config.{Config}
 use Rattle.am_board.specs.declared.group.GroupName.{GroupName}
@@ -32,9 +30,9 @@ use Rattle.am_board.proofs.EachCall.{each_call}
 use Rattle.am_board.proofs.FoundAlerts.{steady_past, finds_past}
 use Rattle.am_board.proofs.FoundRows.{tells_past}
 use Rattle.am_board.proofs.Opened.{notices_at, asked_as, IsOpened, Finds}
-use Rattle.am_board.proofs.Pasts.{state_after, IsLegalPast, legal_past, replay_is_past}
+use Rattle.am_board.proofs.Pasts.{state_after, IsLegalPast, at_each, legal_past, replay_is_past}
 use Rattle.am_board.proofs.RowSteps.{Tells}
-use Rattle.am_board.proofs.SetWords.{any-alike, any-map}
+use Rattle.am_board.proofs.SetWords.{any-alike, any-map, each-found}
 
 or_right : (a b : Bool) → b ≡ true → (a || b) ≡ true
 or_right true b h = refl
@@ -58,18 +56,6 @@ any-of_found test also x (y ∷ ys) found h =
       | true ↦ λ e. let same : y ≡ x = cc in ap (λ z. also z || list_any (λ w. test w && also w) ys) same ∙ ap (λ b. b || list_any (λ w. test w && also w) ys) h
       | false ↦ λ e. or_right false (list_any (λ z. test z && also z) ys) (any-of_found test also x ys e h)
     ] found
-
--- where no two are alike, each is found by what it is like
-each-found : {X : Type 0} (like : X → X → Bool) → IsEquivalence like → (xs : List X) → IsDistinct like xs → AllByRecursion (λ x. find (like x) xs ≡ Some x) xs
-each-found like laws [] h = tt
-each-found {X} like laws (x ∷ xs) h = (
-  ap (λ b. cond b (Some x) (find (like x) xs)) (laws.refl x),
-  others xs (IsDistinct-head like x xs h) (each-found like laws xs (IsDistinct-tail like x xs h)),
-)
-  where
-    others : (ys : List X) → AllByRecursion (λ y. like x y ≡ false) ys → AllByRecursion (λ y. find (like y) xs ≡ Some y) ys → AllByRecursion (λ y. cond (like y x) (Some x) (find (like y) xs) ≡ Some y) ys
-    others [] apart all = tt
-    others (y ∷ ys) apart all = (ap (λ b. cond b (Some x) (find (like y) xs)) (laws.symm y x ∙ apart.0) ∙ all.0, others ys apart.1 all.1)
 
 -- ---- a record that logs
 
@@ -118,21 +104,20 @@ note_tells config s past k l now number i outcome f is may name j h =
     ready (Some a) found e = any-of_found (λ (x : AskedState). x.integration == i) (λ x. x.nothing || is_delivered outcome) a f.asked found (two (is_ready outcome a) (not a.noted) e).0
 
 logged_as_told : (config : Config) (id : ℕ) (past : List Record) → IsLegalPast config id past → AtEach IsLoggedAsTold past
-logged_as_told config id [] legal = tt
-logged_as_told config id (r ∷ past) legal =
-    let s = state_after config past in (
-      each_call config id s (λ c new p. IsLoggedAsTold (entry r.pass c p) past)
-          (record {
-            insert = λ now a name i e. absurd (false≢true e);
-            silence = λ now number matchers start end name i e. absurd (false≢true e);
-            nothing = λ now name i e. absurd (false≢true e);
-            begin = λ now g taken asked are name i e. absurd (false≢true e);
-            finish = λ now number outcomes f is name i e. finish_tells name i now number outcomes past e;
-            maintain = λ now name i e. absurd (false≢true e);
-            note = λ now number i outcome f is may name j e. note_tells config s past (finds_past config id past legal.1) (tells_past config id past legal.1) now number i outcome f is may name j e;
-          }) r.call r.reply legal.0,
-      logged_as_told config id past legal.1,
-    )
+logged_as_told config id =
+    at_each config id IsLoggedAsTold
+    (λ r past before told.
+    let s = state_after config past in
+    each_call config id s (λ c new p. IsLoggedAsTold (entry r.pass c p) past)
+    (record {
+      insert = λ now a name i e. absurd (false≢true e);
+      silence = λ now number matchers start end name i e. absurd (false≢true e);
+      nothing = λ now name i e. absurd (false≢true e);
+      begin = λ now g taken asked are name i e. absurd (false≢true e);
+      finish = λ now number outcomes f is name i e. finish_tells name i now number outcomes past e;
+      maintain = λ now name i e. absurd (false≢true e);
+      note = λ now number i outcome f is may name j e. note_tells config s past (finds_past config id past before) (tells_past config id past before) now number i outcome f is may name j e;
+    }) r.call r.reply told)
 
 pub logs_as_told : EveryLegalHistory LogsAsTold
 logs_as_told config id history legal = logged_as_told config id (past_of history) (legal_past config id history legal)

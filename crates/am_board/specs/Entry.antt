@@ -2,8 +2,7 @@
 use Rattle.std.specs.Prelude.{ℕ, Bool, false, not, ◌&&◌, ◌==◌, List, [], ◌∷◌, map, filter, Option, Some, None, if◌then◌else◌}
 use Rattle.std.specs.List.{list_any, filter_map}
 use Rattle.std.specs.Option.{option_or}
-use Rattle.am_alerts.specs.AlertData.{AlertData, is_resolved}
-use Rattle.am_alerts.specs.Labels.{label_set_cmp}
+use Rattle.am_alerts.specs.AlertData.{AlertData, alert_of, is_resolved}
 use Rattle.am_alerts.specs.declared.labels.Label.{Label}
 use Rattle.am_mute.specs.Mute.{is_muted}
 use Rattle.am_mute.specs.Silence.{SilenceData, silence_of}
@@ -16,7 +15,7 @@ use Rattle.am_board.specs.declared.record.Record.{Record}
 use Rattle.am_board.specs.declared.record.Reply.{Reply}
 use Rattle.am_board.specs.declared.record.Reply.TheVariants.{Inserted, Silenced, NothingDue, Quiet, Flush, Finished, Maintained, Noted}
 use Rattle.am_board.specs.declared.views.RowView.{RowView}
-use Rattle.am_board.specs.Begin.{label_sets}
+use Rattle.am_board.specs.Begin.{alert_cmp, label_sets}
 use Rattle.am_board.specs.Configured.{rules_of, expiry_at}
 use Rattle.am_board.specs.Insert.{same_alert}
 use Rattle.am_board.specs.Lists.{without, in_order}
@@ -67,15 +66,26 @@ abbrev pub unmuted_in : Config → GroupName → ℕ → List Record → List Al
 unmuted_in config name t past =
     without (λ a. is_muted a.labels t (silences_in past) (rules_of config) (known_in past)) (map (λ m. m.alert) (present_in config name past))
 
--- the label sets that a begin of a group at t tells as firing, in their order
-abbrev pub firing_in : Config → GroupName → ℕ → List Record → List (List Label)
-firing_in config name t past =
-    in_order label_set_cmp (label_sets (without (λ a. is_resolved a t) (unmuted_in config name t past)))
+-- an alert without its end, as a notice lists one that fires
+abbrev pub without_end : AlertData → AlertData
+without_end a = alert_of a.labels a.starts None
 
--- and those that it tells as resolved
+-- the alerts that a begin of a group at t lists as firing, in the order of their label sets: those that are present, neither muted nor resolved, without their ends
+abbrev pub firing_alerts_in : Config → GroupName → ℕ → List Record → List AlertData
+firing_alerts_in config name t past =
+    in_order alert_cmp (map without_end (without (λ a. is_resolved a t) (unmuted_in config name t past)))
+
+-- and those that it lists as resolved, as they are
+abbrev pub resolved_alerts_in : Config → GroupName → ℕ → List Record → List AlertData
+resolved_alerts_in config name t past = in_order alert_cmp (filter (λ a. is_resolved a t) (unmuted_in config name t past))
+
+-- the label sets that a begin of a group at t lists as firing, in their order
+abbrev pub firing_in : Config → GroupName → ℕ → List Record → List (List Label)
+firing_in config name t past = label_sets (firing_alerts_in config name t past)
+
+-- and those that it lists as resolved
 abbrev pub resolved_in : Config → GroupName → ℕ → List Record → List (List Label)
-resolved_in config name t past =
-    in_order label_set_cmp (label_sets (filter (λ a. is_resolved a t) (unmuted_in config name t past)))
+resolved_in config name t past = label_sets (resolved_alerts_in config name t past)
 
 -- the row that a success logs at t for an integration that a flush with this reply and this past asked at its moment
 abbrev pub row_told : Config → ℕ → ℕ → ℕ → List Record → Reply → Option RowView

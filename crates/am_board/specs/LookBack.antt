@@ -1,12 +1,14 @@
 -- Look-back: what was done and why, told from a history alone, with any number of flushes open.
-use Rattle.std.specs.Prelude.{◌≡◌, ℕ, ◌+◌, ◌≤◌, Bool, true, false, IsTrue, not, ◌&&◌, ◌||◌, ◌==◌, All, List, [], ◌∷◌, map, filter, find, Option, Some, None, if◌then◌else◌}
+use Rattle.std.specs.Prelude.{◌≡◌, ℕ, ◌+◌, ◌≤◌, Bool, true, false, IsTrue, not, ◌&&◌, ◌||◌, ◌==◌, max, All, List, [], ◌∷◌, map, filter, find, count_by, Option, Some, None, if◌then◌else◌}
 use Rattle.std.specs.List.{list_any}
 use Rattle.std.specs.Option.{option_map}
+use Rattle.am_alerts.specs.AlertData.{AlertData, is_resolved}
 use Rattle.am_alerts.specs.Labels.{same_label_set}
 use Rattle.am_alerts.specs.declared.labels.Label.{Label}
 use Rattle.am_nflog.specs.Members.{is_empty}
 use Rattle.am_nflog.specs.Needed.{needed}
 use Rattle.am_retry.specs.declared.outcome.Outcome.{Outcome}
+use Rattle.am_board.specs.declared.begin.TheConstants.{LEAST_TIME}
 use Rattle.am_board.specs.declared.config.Config.{Config}
 use Rattle.am_board.specs.declared.config.Integration.{Integration}
 use Rattle.am_board.specs.declared.group.GroupName.{GroupName}
@@ -16,17 +18,19 @@ use Rattle.am_board.specs.declared.record.Record.{Record}
 use Rattle.am_board.specs.declared.record.Reply.{Reply}
 use Rattle.am_board.specs.declared.record.Reply.TheVariants.{Inserted, Silenced, NothingDue, Quiet, Flush, Finished, Maintained, Noted}
 use Rattle.am_board.specs.declared.views.RowView.{RowView}
-use Rattle.am_board.specs.Begin.{is_entry_of, log_row}
+use Rattle.am_board.specs.Begin.{alert_cmp, is_entry_of, log_row}
 use Rattle.am_board.specs.Configured.{route_of, integrations_of}
 use Rattle.am_board.specs.Data.{NoticeData}
-use Rattle.am_board.specs.Entry.{begins_group, logs, present_in, firing_in, resolved_in, entry_in}
+use Rattle.am_board.specs.Entry.{begins_group, logs, present_in, firing_alerts_in, resolved_alerts_in, firing_in, resolved_in, entry_in}
 use Rattle.am_board.specs.Finish.{is_delivered}
 use Rattle.am_board.specs.Laws.{IsConsistent}
+use Rattle.am_board.specs.Lists.{in_order}
 use Rattle.am_board.specs.Past.{AtEach, past_of, replay_past, moment_at, is_flush, is_flush_of, is_finish, is_maintenance, takes, notices_in, begin_of, has_begun, has_finished}
 use Rattle.am_board.specs.Presence.{goes_to, inserts, inserted_by, stamp_told, presence}
 use Rattle.am_board.specs.Replay.{replay, IsLegal}
 use Rattle.am_board.specs.State.{MemberState, members_in}
 use Rattle.am_board.specs.Ticket.{outcome_of, is_nothing}
+use Rattle.am_board.specs.Views.{group_views}
 
 -- what every legal history has
 abbrev pub EveryLegalHistory : (Config → List Record → Type 0) → Type 0
@@ -43,6 +47,15 @@ abbrev pub AlertsAreFound : Config → List Record → Type 0
 AlertsAreFound config history =
     (name : GroupName) (labels : List Label)
     → member_with labels (members_in (replay config history).groups name) ≡ presence config name labels (past_of history)
+
+-- the alerts of a group, in the order of their label sets
+abbrev pub alerts_in : Config → GroupName → List Record → List AlertData
+alerts_in config name past = in_order alert_cmp (map (λ m. m.alert) (present_in config name past))
+
+-- each group that is shown after a history has the alerts that looking back finds
+abbrev pub ShownAlertsAreFound : Config → List Record → Type 0
+ShownAlertsAreFound config history =
+    All (λ v. v.alerts ≡ alerts_in config v.group (past_of history)) (group_views (replay config history))
 
 -- the log has a row for a group and an integration after a history exactly if looking back finds it, and it is that one
 abbrev pub RowsAreFound : Config → List Record → Type 0
@@ -187,15 +200,51 @@ IsAskedRightly config r past =
 abbrev pub BeginsAskRightly : Config → List Record → Type 0
 BeginsAskRightly config history = AtEach (IsAskedRightly config) (past_of history)
 
+-- ---- what a begin tells
+
+-- whether the integration at a position of a group's receiver is sent resolved alerts
+abbrev pub wants_resolved : Config → GroupName → ℕ → Bool
+wants_resolved config name integration = list_any (λ i. (integration == i.0) && i.1.send_resolved) (integrations_of config name)
+
+-- a notice of a group's flush at t lists the alerts that looking back finds: those that fire, and the resolved ones where its integration is sent them
+pub record IsNoticeFound (config : Config) (number : ℕ) (name : GroupName) (until t : ℕ) (past : List Record) (n : NoticeData) : Type 0 where
+  pub ticket : n.ticket ≡ number
+  pub group : n.group ≡ name
+  pub deadline : n.deadline ≡ until
+  pub firing : n.firing ≡ firing_alerts_in config name t past
+  pub resolved : n.resolved ≡ (if wants_resolved config name n.integration then resolved_alerts_in config name t past else [])
+
+-- a group's flush at t has its deadline a group interval later, but ten seconds at least, and its notices list what looking back finds
+pub record IsFlushFound (config : Config) (number : ℕ) (name : GroupName) (until t : ℕ) (past : List Record) (notices : List NoticeData) : Type 0 where
+  pub deadline : until ≡ t + max (route_of config name).group_interval LEAST_TIME
+  pub listed : All (IsNoticeFound config number name until t past) notices
+
+-- the reply to a begin at t tells what looking back finds: a quiet one, how many alerts of the group are resolved, muted ones too
+abbrev pub IsToldRightly : Config → ℕ → List Record → Reply → Type 0
+IsToldRightly config t past (Inserted inserted) = Unit {0}
+IsToldRightly config t past (Silenced silenced) = Unit {0}
+IsToldRightly config t past NothingDue = Unit {0}
+IsToldRightly config t past (Quiet group removed) = removed ≡ count_by (λ m. is_resolved m.alert t) (present_in config group past)
+IsToldRightly config t past (Flush number group deadline notices) = IsFlushFound config number group deadline t past notices
+IsToldRightly config t past (Finished finished) = Unit {0}
+IsToldRightly config t past (Maintained maintained) = Unit {0}
+IsToldRightly config t past Noted = Unit {0}
+
+-- each begin tells what is there
+abbrev pub BeginsTellWhatIsThere : Config → List Record → Type 0
+BeginsTellWhatIsThere config history = AtEach (λ r past. IsToldRightly config (moment_at (r ∷ past)) past r.reply) (past_of history)
+
 -- ---- all of it, of one history
 
--- what looking back says of a history: its alerts and its rows are found, and no two are of one key; what was logged was told; and at each record a refiring alert stays, flushes end once, and a begin asks those that it is to ask
+-- what looking back says of a history: its alerts and its rows are found, and no two are of one key; what was logged was told; and at each record a refiring alert stays, flushes end once, and a begin asks those that it is to ask and tells what is there
 pub record LooksBack (config : Config) (history : List Record) : Type 0 where
   pub consistent : IsConsistent (replay config history)
   pub alerts : AlertsAreFound config history
+  pub shown : ShownAlertsAreFound config history
   pub rows : RowsAreFound config history
   pub logged : LogsAsTold config history
   pub told : RowsWereTold config history
   pub refiring : RefiringAlertsStay config history
   pub once : FlushesEndOnce config history
   pub asked : BeginsAskRightly config history
+  pub tells : BeginsTellWhatIsThere config history

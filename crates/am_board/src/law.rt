@@ -1,6 +1,6 @@
 //! Laws of histories.
 ghost use Rattle.am_board.specs.Laws.{ReplayAppends, LegalAppends, ClockIsMoment, LegalKeeps};
-ghost use Rattle.am_board.specs.LookBack.{EveryLegalHistory, AlertsAreFound, RowsAreFound, LogsAsTold, RowsWereTold, RefiringAlertsStay, FlushesEndOnce, BeginsAskRightly, LooksBack};
+ghost use Rattle.am_board.specs.LookBack.{EveryLegalHistory, AlertsAreFound, ShownAlertsAreFound, RowsAreFound, LogsAsTold, RowsWereTold, RefiringAlertsStay, FlushesEndOnce, BeginsAskRightly, BeginsTellWhatIsThere, LooksBack};
 
 /// What the definitions of the sequential dispatcher say of a history with one record more: its
 /// state is the one after that record, it is legal where the history before is and the record's
@@ -19,9 +19,11 @@ pub fn legal_histories_are_consistent()
     ensures { LegalKeeps }
 {}
 
-/// Which alerts are in which group after a legal history, read off the history from its end.
+/// Which alerts are in which group after a legal history, read off the history from its end; and
+/// each group that is shown has just those, in the order of their label sets.
 pub fn looking_back_finds_alerts()
-    ensures { EveryLegalHistory AlertsAreFound }
+    ensures found { EveryLegalHistory AlertsAreFound }
+    ensures shown { EveryLegalHistory ShownAlertsAreFound }
 {}
 
 /// Which rows the log has after a legal history, read off the history from its end.
@@ -50,6 +52,14 @@ pub fn flushes_end_once()
 /// A begin asks exactly the integrations that the history before it says.
 pub fn begins_ask_rightly()
     ensures { EveryLegalHistory BeginsAskRightly }
+{}
+
+/// What a begin tells is there: each notice of a flush lists the alerts that looking back finds in
+/// the group, not muted, those that fire without an end, and the resolved ones where its integration
+/// is sent them; the deadline is the begin's moment plus the group interval or ten seconds, whichever
+/// is more; and a quiet begin counts the alerts that looking back finds resolved, muted ones too.
+pub fn begins_tell_what_is_there()
+    ensures { EveryLegalHistory BeginsTellWhatIsThere }
 {}
 
 /// What looking back says of every legal history, all of it.

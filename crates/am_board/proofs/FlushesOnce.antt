@@ -43,7 +43,8 @@ use Rattle.am_board.proofs.ConsistentBegin.{taken-is}
 use Rattle.am_board.proofs.ConsistentGroups.{members_of, members_of-in}
 use Rattle.am_board.proofs.ConsistentLists.{all-find, all-filter, all-least, all-passes, all-both, find-passes}
 use Rattle.am_board.proofs.ConsistentState.{IsOpen, IsSteady}
-use Rattle.am_board.proofs.FoundAlerts.{inside, steady_past, finds_past}
+use Rattle.am_board.proofs.EachCall.{inside}
+use Rattle.am_board.proofs.FoundAlerts.{steady_past, finds_past}
 use Rattle.am_board.proofs.FoundSteps.{clock-step}
 use Rattle.am_board.proofs.LogRows.{same_name-is}
 use Rattle.am_board.proofs.Opened.{Finds}

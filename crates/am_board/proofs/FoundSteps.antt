@@ -25,7 +25,7 @@ use Rattle.am_board.specs.Finish.{leaves_by, finished_group, all_succeeded, is_l
 use Rattle.am_board.specs.Data.{NoticeData}
 use Rattle.am_board.specs.History.{entry}
 use Rattle.am_board.specs.Insert.{names_for, next_stamp, new_group, group_or_new, group_with, put_into_group, inserted, after_insert, same_member}
-use Rattle.am_board.specs.Laws.{now_of}
+use Rattle.am_board.specs.Calls.{now_of}
 use Rattle.am_board.specs.Lists.{put_in, without, changed_where}
 use Rattle.am_board.specs.LookBack.{member_with}
 use Rattle.am_board.specs.Past.{moment_at, is_flush, is_note, begin_of, was_noted}

@@ -10,9 +10,9 @@ use Rattle.am_board.specs.declared.record.Call.TheVariants.{Insert, Silence, Beg
 use Rattle.am_board.specs.declared.record.Record.{Record}
 use Rattle.am_board.specs.declared.record.Reply.{Reply}
 use Rattle.am_board.specs.declared.record.Reply.TheVariants.{Inserted, Silenced, NothingDue, Quiet, Flush, Finished, Maintained, Noted}
+use Rattle.am_board.specs.Calls.{now_of}
 use Rattle.am_board.specs.Data.{NoticeData}
 use Rattle.am_board.specs.Finish.{is_delivered}
-use Rattle.am_board.specs.Laws.{now_of}
 use Rattle.am_board.specs.Replay.{replay}
 use Rattle.am_board.specs.State.{State, same_name}
 use Rattle.am_board.specs.Ticket.{outcome_of, is_nothing}

@@ -1,10 +1,11 @@
 -- What is logged was told delivered, or had nothing to send, and each row of the log stands for such a notice.
 use Rattle.std.proofs.Common.{◌≡◌, ℕ, Bool, true, false, cond, not, ◌&&◌, ◌||◌, Option, Some, None, List, [], ◌∷◌, refl, sym, ap, ◌∙◌, subst}
 use Rattle.std.specs.Prelude.{All, IsTrue, find, ◌==◌}
-use Rattle.std.specs.List.{list_any}
+use Rattle.std.specs.List.{AllByRecursion, list_any}
 use Rattle.std.specs.Option.{option_or}
 use Rattle.std.proofs.lemmas.Bool.{false≢true, eqb-true}
 use Rattle.std.proofs.lemmas.Cmp.{nat_eq_equiv}
+use Rattle.std.proofs.lemmas.List.Sorted.{All-permutation}
 use Rattle.am_retry.specs.declared.outcome.Outcome.{Outcome}
 use Rattle.am_board.specs.declared.config.Config.{Config}
 use Rattle.am_board.specs.declared.group.GroupName.{GroupName}
@@ -18,17 +19,20 @@ use Rattle.am_board.specs.Data.{NoticeData}
 use Rattle.am_board.specs.Entry.{begins_group, asked_to_success, logs, begin_named, row_told, row_of_begin, unless_collected, entry_in}
 use Rattle.am_board.specs.Finish.{same_key, is_delivered}
 use Rattle.am_board.specs.History.{entry}
-use Rattle.am_board.specs.LookBack.{EveryLegalHistory, is_told, is_told_in, tells, IsLoggedAsTold, LogsAsTold, was_told, RowsWereTold}
+use Rattle.am_board.specs.LookBack.{EveryLegalHistory, ShownRowsAreFound, is_told, is_told_in, tells, IsLoggedAsTold, LogsAsTold, was_told, RowsWereTold}
+use Rattle.am_board.specs.Lists.{in_order}
 use Rattle.am_board.specs.Note.{is_ready, asked_by, may_be_noted, may_note}
 use Rattle.am_board.specs.Past.{AtEach, past_of, moment_at, is_flush_of, notices_in, begin_of, was_noted, succeeded}
 use Rattle.am_board.specs.State.{AskedState, FlushState, State, flush_numbered}
 use Rattle.am_board.specs.Ticket.{outcome_of, is_nothing}
 use Rattle.am_board.specs.Upkeep.{has_expired}
+use Rattle.am_board.specs.Views.{row_cmp, row_views}
 use Rattle.am_board.proofs.ConsistentGroups.{same_key_equiv}
 use Rattle.am_board.proofs.ConsistentLists.{all_from, all-find, all-weaker, find-passes}
 use Rattle.am_board.proofs.EachCall.{each_call}
 use Rattle.am_board.proofs.FoundAlerts.{steady_past, finds_past}
 use Rattle.am_board.proofs.FoundRows.{tells_past}
+use Rattle.am_board.proofs.ListWords.{in_order-moves}
 use Rattle.am_board.proofs.Opened.{notices_at, asked_as, IsOpened, Finds}
 use Rattle.am_board.proofs.Pasts.{state_after, IsLegalPast, at_each, legal_past, replay_is_past}
 use Rattle.am_board.proofs.RowSteps.{Tells}
@@ -195,15 +199,28 @@ found_told config row (r ∷ past) each e = by (logs row.group row.integration p
             ∙ each.0 row.group row.integration logged
     by false logged before e = before (left_there (moment_at (r ∷ past)) r.call row (entry_in config row.group row.integration past) e)
 
+rows_found : (config : Config) (id : ℕ) (past : List Record) → IsLegalPast config id past → AllByRecursion (λ row. entry_in config row.group row.integration past ≡ Some row) (state_after config past).rows
+rows_found config id past legal =
+    let s = state_after config past in
+    let l = tells_past config id past legal in
+    all-weaker (λ row. find (same_key row) s.rows ≡ Some row) (λ row. entry_in config row.group row.integration past ≡ Some row) (λ row e. sym (l.rows row.group row.integration) ∙ e) s.rows
+    (each-found same_key same_key_equiv s.rows (steady_past config past).rows)
+
+-- each row of the log is found
+pub shown_rows_are_found : EveryLegalHistory ShownRowsAreFound
+shown_rows_are_found config id history legal =
+    let past = past_of history in
+    let rows = (state_after config past).rows in
+    let P : RowView → Type 0 = λ row. entry_in config row.group row.integration past ≡ Some row in
+    subst (λ (s : State). All P (row_views s)) (sym (replay_is_past config history))
+    (All-permutation P rows (in_order row_cmp rows) (in_order-moves row_cmp rows) (all_from P rows (rows_found config id past (legal_past config id history legal))))
+
 pub rows_were_told : EveryLegalHistory RowsWereTold
 rows_were_told config id history legal =
     let past = past_of history in
-    let s = state_after config past in
+    let rows = (state_after config past).rows in
     let legal_back = legal_past config id history legal in
-    let l = tells_past config id past legal_back in
-    let each = logged_as_told config id past legal_back in
     let P : RowView → Type 0 = λ row. IsTrue (was_told row past) in
     subst (λ (s : State). All P s.rows) (sym (replay_is_past config history))
-    (all_from P s.rows
-    (all-weaker (λ row. find (same_key row) s.rows ≡ Some row) P (λ row e. found_told config row past each (sym (l.rows row.group row.integration) ∙ e)) s.rows
-    (each-found same_key same_key_equiv s.rows (steady_past config past).rows)))
+    (all_from P rows
+    (all-weaker (λ row. entry_in config row.group row.integration past ≡ Some row) P (λ row e. found_told config row past (logged_as_told config id past legal_back) e) rows (rows_found config id past legal_back)))

@@ -30,7 +30,7 @@ use Rattle.am_board.specs.Presence.{goes_to, inserts, inserted_by, stamp_told, p
 use Rattle.am_board.specs.Replay.{replay, IsLegal}
 use Rattle.am_board.specs.State.{MemberState, members_in}
 use Rattle.am_board.specs.Ticket.{outcome_of, is_nothing}
-use Rattle.am_board.specs.Views.{group_views}
+use Rattle.am_board.specs.Views.{row_views, group_views}
 
 -- what every legal history has
 abbrev pub EveryLegalHistory : (Config → List Record → Type 0) → Type 0
@@ -62,6 +62,11 @@ abbrev pub RowsAreFound : Config → List Record → Type 0
 RowsAreFound config history =
     (name : GroupName) (integration : ℕ)
     → find (is_entry_of name integration) (replay config history).rows ≡ entry_in config name integration (past_of history)
+
+-- each row that is shown after a history is the one that looking back finds for its group and integration
+abbrev pub ShownRowsAreFound : Config → List Record → Type 0
+ShownRowsAreFound config history =
+    All (λ row. entry_in config row.group row.integration (past_of history) ≡ Some row) (row_views (replay config history))
 
 -- ---- logged only after delivery
 
@@ -240,8 +245,9 @@ BeginsTellWhatIsThere config history = AtEach (λ r past. IsToldRightly config (
 pub record LooksBack (config : Config) (history : List Record) : Type 0 where
   pub consistent : IsConsistent (replay config history)
   pub alerts : AlertsAreFound config history
-  pub shown : ShownAlertsAreFound config history
+  pub shown_alerts : ShownAlertsAreFound config history
   pub rows : RowsAreFound config history
+  pub shown_rows : ShownRowsAreFound config history
   pub logged : LogsAsTold config history
   pub told : RowsWereTold config history
   pub refiring : RefiringAlertsStay config history

@@ -1,6 +1,8 @@
 //! Laws of histories.
 ghost use Rattle.am_board.specs.Laws.{ReplayAppends, LegalAppends, ClockIsMoment, LegalKeeps};
-ghost use Rattle.am_board.specs.LookBack.{EveryLegalHistory, AlertsAreFound, ShownAlertsAreFound, RowsAreFound, LogsAsTold, RowsWereTold, RefiringAlertsStay, FlushesEndOnce, BeginsAskRightly, BeginsTellWhatIsThere, LooksBack};
+ghost use Rattle.am_board.specs.LookBack.{EveryLegalHistory, AlertsAreFound, ShownAlertsAreFound, RowsAreFound, ShownRowsAreFound};
+ghost use Rattle.am_board.specs.LookBack.{LogsAsTold, RowsWereTold, RefiringAlertsStay, FlushesEndOnce};
+ghost use Rattle.am_board.specs.LookBack.{BeginsAskRightly, BeginsTellWhatIsThere, LooksBack};
 
 /// What the definitions of the sequential dispatcher say of a history with one record more: its
 /// state is the one after that record, it is legal where the history before is and the record's
@@ -26,9 +28,11 @@ pub fn looking_back_finds_alerts()
     ensures shown { EveryLegalHistory ShownAlertsAreFound }
 {}
 
-/// Which rows the log has after a legal history, read off the history from its end.
+/// Which rows the log has after a legal history, read off the history from its end; and each row
+/// that is shown is the one that is found for its group and integration.
 pub fn looking_back_finds_rows()
-    ensures { EveryLegalHistory RowsAreFound }
+    ensures found { EveryLegalHistory RowsAreFound }
+    ensures shown { EveryLegalHistory ShownRowsAreFound }
 {}
 
 /// Each finish and each note of a legal history that logs an integration's success tells that this

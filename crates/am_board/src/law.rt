@@ -1,7 +1,7 @@
 //! Laws of histories.
 ghost use Rattle.am_board.specs.Laws.{ReplayAppends, LegalAppends, ClockIsMoment, LegalKeeps};
 ghost use Rattle.am_board.specs.LookBack.{EveryLegalHistory, AlertsAreFound, ShownAlertsAreFound, RowsAreFound, ShownRowsAreFound};
-ghost use Rattle.am_board.specs.LookBack.{LogsAsTold, RowsWereTold, RefiringAlertsStay, FlushesEndOnce};
+ghost use Rattle.am_board.specs.LookBack.{OnlyDeliveredIsLogged, RowsWereDelivered, RefiringAlertsStay, FlushesEndOnce};
 ghost use Rattle.am_board.specs.LookBack.{BeginsAskRightly, BeginsTellWhatIsThere, LooksBack};
 
 /// What the definitions of the sequential dispatcher say of a history with one record more: its
@@ -35,12 +35,12 @@ pub fn looking_back_finds_rows()
     ensures shown { EveryLegalHistory ShownRowsAreFound }
 {}
 
-/// Each finish and each note of a legal history that logs an integration's success tells that this
+/// Each finish and each note of a legal history that logs an integration's success reports that this
 /// flush's notice was delivered, or it had nothing to send; and each row of the log stands for such
 /// a record, the last that logged under its key.
 pub fn logged_only_after_delivery()
-    ensures each_record { EveryLegalHistory LogsAsTold }
-    ensures rows { EveryLegalHistory RowsWereTold }
+    ensures each_record { EveryLegalHistory OnlyDeliveredIsLogged }
+    ensures rows { EveryLegalHistory RowsWereDelivered }
 {}
 
 /// An alert that fires again while a flush of its group is open is in the group after the finish.

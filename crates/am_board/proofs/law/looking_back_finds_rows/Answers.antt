@@ -1,5 +1,5 @@
 use Rattle.am_board.proofs.FoundRows.{rows_are_found}
-use Rattle.am_board.proofs.RowsTold.{shown_rows_are_found}
+use Rattle.am_board.proofs.RowsDelivered.{shown_rows_are_found}
 use Rattle.am_board.proofs.law.looking_back_finds_rows.Goals as goal
 
 pub returns-clause-found : goal.returns-clause-found

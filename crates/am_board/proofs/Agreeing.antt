@@ -125,6 +125,7 @@ consistent-rows s rows apart h =
       groups = h.groups;
       members = h.members;
       stamps = h.stamps;
+      silences = h.silences;
       rows = apart;
       flushes = h.flushes;
       numbers = h.numbers;

@@ -1,120 +1,181 @@
--- A begin asks exactly the integrations that looking back says.
-use Rattle.std.proofs.Common.{◌≡◌, ℕ, Bool, true, false, ◌&&◌, ◌||◌, Option, Some, None, List, [], ◌∷◌, map, reverse, refl, sym, ap, ◌∙◌, subst, if◌then◌else◌}
-use Rattle.std.specs.Prelude.{filter}
-use Rattle.std.specs.List.{IsDistinct}
+-- A begin asks exactly the integrations that looking back says, and tells what looking back finds.
+use Rattle.std.proofs.Common.{◌≡◌, ℕ, Bool, true, false, ◌&&◌, ◌||◌, Some, List, [], ◌∷◌, map, refl, sym, ap, ◌∙◌, subst, if◌then◌else◌}
+use Rattle.std.specs.Prelude.{All, filter, find, ◌==◌}
+use Rattle.std.specs.Cmp.{IsEquivalence}
+use Rattle.std.specs.List.{AllByRecursion, IsDistinct}
 use Rattle.std.specs.Option.{option_map}
 use Rattle.std.proofs.lemmas.Bool.{false≢true}
-use Rattle.std.proofs.lemmas.List.{reverse-reverse}
+use Rattle.std.proofs.lemmas.Cmp.{nat_eq_equiv, on_equiv}
 use Rattle.am_alerts.specs.Labels.{same_label_set}
 use Rattle.am_alerts.specs.declared.labels.Label.{Label}
-use Rattle.am_mute.specs.Silence.{silence_of}
 use Rattle.am_nflog.specs.Members.{is_empty}
 use Rattle.am_nflog.specs.Needed.{needed}
-use Rattle.am_retry.specs.declared.outcome.Outcome.{Outcome}
 use Rattle.am_board.specs.declared.config.Config.{Config}
 use Rattle.am_board.specs.declared.config.Integration.{Integration}
 use Rattle.am_board.specs.declared.record.Call.{Call}
-use Rattle.am_board.specs.declared.record.Call.TheVariants.{Insert, Silence, Begin, Finish, Maintain, Note}
+use Rattle.am_board.specs.declared.record.Call.TheVariants.{Begin}
 use Rattle.am_board.specs.declared.record.Record.{Record}
 use Rattle.am_board.specs.declared.record.Reply.{Reply}
-use Rattle.am_board.specs.declared.record.Reply.TheVariants as reply_is
-use Rattle.am_board.specs.Begin.{log_row, asked_of, notice_for, taken, reply_asking, reply_taking, begun}
-use Rattle.am_board.specs.Configured.{route_of, integrations_of}
-use Rattle.am_board.specs.Entry.{firing_in, resolved_in, entry_in}
-use Rattle.am_board.specs.Finish.{finished}
+use Rattle.am_board.specs.Begin.{label_sets, log_row, needs, firing_of, resolved_of, asked_of, deadline_of, notice_for, taken, after_asking, reply_asking}
+use Rattle.am_board.specs.Configured.{route_of, integrations_named, integrations_of}
+use Rattle.am_board.specs.Entry.{resolved_alerts_in, firing_in, resolved_in, entry_in}
 use Rattle.am_board.specs.History.{entry}
-use Rattle.am_board.specs.Insert.{inserted, same_member}
-use Rattle.am_board.specs.LookBack.{member_with, asked_by_past, IsAskedRightly, BeginsAskRightly}
-use Rattle.am_board.specs.Note.{may_note, noted}
-use Rattle.am_board.specs.Past.{AtEach, past_of, moment_at, takes}
-use Rattle.am_board.specs.Replay.{reply, IsLegal}
-use Rattle.am_board.specs.State.{GroupState, FlushState, State, moment, same_name, flush_numbered}
-use Rattle.am_board.specs.Upkeep.{silenced, maintained}
-use Rattle.am_board.proofs.ConsistentBegin.{IsTaken, taken-is}
+use Rattle.am_board.specs.Insert.{same_member}
+use Rattle.am_board.specs.LookBack.{member_with, EveryLegalHistory, asked_after, IsAskedRightly, BeginsAskRightly, wants_resolved, IsNoticeFound, IsToldRightly, BeginsTellWhatIsThere}
+use Rattle.am_board.specs.Past.{past_of, moment_at, takes}
+use Rattle.am_board.specs.Presence.{presence}
+use Rattle.am_board.specs.State.{GroupState, State, moment, same_name}
+use Rattle.am_board.proofs.ConsistentBegin.{IsTaken, taken-is, distinct_places}
+use Rattle.am_board.proofs.ConsistentLists.{all_from, all-filter, all-map, all-weaker}
 use Rattle.am_board.proofs.ConsistentState.{IsSteady}
-use Rattle.am_board.proofs.FoundAlerts.{inside, steady_past, finds_past}
+use Rattle.am_board.proofs.EachCall.{HoldsOfEach, each_call}
+use Rattle.am_board.proofs.FoundAlerts.{steady_past, finds_past}
 use Rattle.am_board.proofs.FoundRows.{tells_past}
 use Rattle.am_board.proofs.FoundSteps.{clock-step}
 use Rattle.am_board.proofs.LogRows.{same_name-is}
 use Rattle.am_board.proofs.Opened.{Finds, members-tidy}
-use Rattle.am_board.proofs.Pasts.{state_after, IsLegalPast, legal_of_past}
+use Rattle.am_board.proofs.Pasts.{state_after, at_each, legal_past}
 use Rattle.am_board.proofs.RowSteps.{Tells}
-use Rattle.am_board.proofs.ToldSets.{firing-found, resolved-found}
+use Rattle.am_board.proofs.SetWords.{any-found, each-found, passes}
+use Rattle.am_board.proofs.ToldSets.{firing-same, resolved-same, firing-found, resolved-found, count-same}
 
 module _ (config : Config) (id : ℕ) (s : State) (past : List Record) (pass : ℕ) (steady : IsSteady s) (k : Finds config s past) (l : Tells config s past) where
-  abbrev Asks : Call → Reply → Type 0
-  Asks c p = IsAskedRightly config (entry pass c p) past
+  -- what is said of a begin
+  abbrev Asks : Call → State → Reply → Type 0
+  Asks c new p = IsAskedRightly config (entry pass c p) past
 
-  -- those that are asked are those that are to be asked
-  asked-found : (t : ℕ) (g : GroupState) → IsTaken s g → map (λ i. i.0) (asked_of config s t g) ≡ asked_by_past config g.name t past
-  asked-found t g taken =
-      let apart = subst (IsDistinct same_member) taken.own (members-tidy s.inserts g.name s.groups steady.tidy).members in
-      let there = λ (labels : List Label). ap (member_with labels) (sym taken.own) ∙ k.found g.name labels in
-      let firing = firing-found config s past l.known l.silences t g apart there in
-      let resolved = resolved-found config s past l.known l.silences t g apart there in
-      (λ j. map (λ (i : ℕ × Integration). i.0) (if is_empty (firing j) && is_empty (resolved j) then []
-      else filter (λ (i : ℕ × Integration). needed same_label_set (option_map log_row (l.rows g.name i.0 j)) (firing j) (resolved j) i.1.send_resolved (route_of config g.name).repeat_interval t) (integrations_of config g.name)))
-      ∙ by (is_empty (firing_in config g.name t past) && is_empty (resolved_in config g.name t past))
-      (filter (λ (i : ℕ × Integration). needed same_label_set (option_map log_row (entry_in config g.name i.0 past)) (firing_in config g.name t past) (resolved_in config g.name t past) i.1.send_resolved (route_of config g.name).repeat_interval t) (integrations_of config g.name))
-    where
-      by : (b : Bool) (is : List (ℕ × Integration)) → map (λ i. i.0) (if b then [] else is) ≡ (if b then [] else map (λ i. i.0) is)
-      by true is = refl
-      by false is = refl
+  abbrev TellsThere : Call → State → Reply → Type 0
+  TellsThere c new p = IsToldRightly config (moment_at (entry pass c p ∷ past)) past p
 
-  either : (a b : Bool) → (a || b) ≡ true → (a ≡ true → b ≡ true) → b ≡ true
-  either true b h f = f refl
-  either false b h f = h
+  module _ (t : ℕ) (g : GroupState) (is : taken s t ≡ Some g) where
+    own : IsTaken s g
+    own = taken-is s t g steady.groups is
 
-  asking : (now : ℕ) (g : GroupState) → (asked : List (ℕ × Integration)) → map (λ i. i.0) asked ≡ asked_by_past config g.name (moment s now) past → Asks (Begin now) (reply_asking config id s (moment s now) g asked)
-  asking now g [] e name takes =
+    apart : IsDistinct same_member g.members
+    apart = subst (IsDistinct same_member) own.own (members-tidy s.inserts g.name s.groups steady.tidy).members
+
+    there : (labels : List Label) → member_with labels g.members ≡ presence config g.name labels past
+    there labels = ap (member_with labels) (sym own.own) ∙ k.found g.name labels
+
+    -- those that are asked are those that are to be asked
+    asked-found : map (λ i. i.0) (asked_of config s t g) ≡ asked_after config g.name t past
+    asked-found =
+        let firing = firing-found config s past l.known l.silences t g apart there in
+        let resolved = resolved-found config s past l.known l.silences t g apart there in
+        (λ j. map (λ (i : ℕ × Integration). i.0) (if is_empty (firing j) && is_empty (resolved j) then []
+        else filter (λ (i : ℕ × Integration). needed same_label_set (option_map log_row (l.rows g.name i.0 j)) (firing j) (resolved j) i.1.send_resolved (route_of config g.name).repeat_interval t) (integrations_of config g.name)))
+        ∙ by (is_empty (firing_in config g.name t past) && is_empty (resolved_in config g.name t past))
+        (filter (λ (i : ℕ × Integration). needed same_label_set (option_map log_row (entry_in config g.name i.0 past)) (firing_in config g.name t past) (resolved_in config g.name t past) i.1.send_resolved (route_of config g.name).repeat_interval t) (integrations_of config g.name))
+      where
+        by : (b : Bool) (is : List (ℕ × Integration)) → map (λ i. i.0) (if b then [] else is) ≡ (if b then [] else map (λ i. i.0) is)
+        by true is = refl
+        by false is = refl
+
+    -- and their notices list what is found
+    notice-found : (i : ℕ × Integration) → wants_resolved config g.name i.0 ≡ i.1.send_resolved → IsNoticeFound config s.next_number g.name (deadline_of config t g) t past (notice_for config id s t g i)
+    notice-found i wants =
+        record {
+          ticket = refl;
+          group = refl;
+          deadline = refl;
+          firing = firing-same config s past l.known l.silences t g apart there;
+          resolved =
+              ap (λ xs. if i.1.send_resolved then xs else []) (resolved-same config s past l.known l.silences t g apart there)
+              ∙ ap (λ b. if b then resolved_alerts_in config g.name t past else []) (sym wants);
+        }
+
+    notices-found : (asked : List (ℕ × Integration)) → asked_of config s t g ≡ asked → All (IsNoticeFound config s.next_number g.name (deadline_of config t g) t past) (map (notice_for config id s t g) asked)
+    notices-found asked are =
+        let Wants : ℕ × Integration → Type 0 = λ i. wants_resolved config g.name i.0 ≡ i.1.send_resolved in
+        let P = IsNoticeFound config s.next_number g.name (deadline_of config t g) t past in
+        all_from P (map (notice_for config id s t g) asked)
+        (all-map (notice_for config id s t g) P asked
+        (all-weaker Wants (λ i. P (notice_for config id s t g i)) notice-found asked
+        (subst (AllByRecursion Wants) are (among (is_empty (label_sets (firing_of config s t g)) && is_empty (label_sets (resolved_of config s t g)))))))
+      where
+        laws : IsEquivalence (λ (i j : ℕ × Integration). i.0 == j.0)
+        laws = on_equiv (λ (i : ℕ × Integration). i.0) nat_eq_equiv
+
+        all : AllByRecursion (λ i. wants_resolved config g.name i.0 ≡ i.1.send_resolved) (integrations_of config g.name)
+        all =
+            let is = integrations_of config g.name in
+            let same : ℕ × Integration → ℕ × Integration → Bool = λ i j. i.0 == j.0 in
+            let distinct = distinct_places 0 (integrations_named (route_of config g.name).receiver config.receivers) in
+            all-weaker (λ i. find (same i) is ≡ Some i) (λ i. wants_resolved config g.name i.0 ≡ i.1.send_resolved)
+            (λ i e. any-found same (same i) (λ j. j.1.send_resolved) (λ x y f h. sym (laws.congr i x y f) ∙ h) is distinct ∙ ap (passes (λ j. j.1.send_resolved)) e)
+            is (each-found same laws is distinct)
+
+        among : (b : Bool) → AllByRecursion (λ i. wants_resolved config g.name i.0 ≡ i.1.send_resolved) (if b then [] else filter (needs config s t g.name (label_sets (firing_of config s t g)) (label_sets (resolved_of config s t g))) (integrations_of config g.name))
+        among true = tt
+        among false = all-filter (λ i. wants_resolved config g.name i.0 ≡ i.1.send_resolved) (needs config s t g.name (label_sets (firing_of config s t g)) (label_sets (resolved_of config s t g))) (integrations_of config g.name) all
+
+  asking : (now : ℕ) (g : GroupState) (asked : List (ℕ × Integration)) (new : State) → map (λ i. i.0) asked ≡ asked_after config g.name (moment s now) past → Asks (Begin now) new (reply_asking config id s (moment s now) g asked)
+  asking now g [] new e name takes =
       let r = entry pass (Begin now) (reply_asking config id s (moment s now) g []) in
-      e ∙ ap (λ t. asked_by_past config g.name t past) (clock-step config s past k now r refl)
-      ∙ ap (λ n. asked_by_past config n (moment_at (r ∷ past)) past) (sym (same_name-is name g.name (quiet (same_name name g.name) takes)))
+      e ∙ ap (λ t. asked_after config g.name t past) (clock-step config s past k now r refl)
+      ∙ ap (λ n. asked_after config n (moment_at (r ∷ past)) past) (sym (same_name-is name g.name (quiet (same_name name g.name) takes)))
     where
       quiet : (b : Bool) → (b || false) ≡ true → b ≡ true
       quiet true h = refl
       quiet false h = h
-  asking now g (i ∷ is) e name takes =
+  asking now g (i ∷ is) new e name takes =
       let r = entry pass (Begin now) (reply_asking config id s (moment s now) g (i ∷ is)) in
-      each (i ∷ is) ∙ e ∙ ap (λ t. asked_by_past config g.name t past) (clock-step config s past k now r refl)
-      ∙ ap (λ n. asked_by_past config n (moment_at (r ∷ past)) past) (sym (same_name-is name g.name takes))
+      each (i ∷ is) ∙ e ∙ ap (λ t. asked_after config g.name t past) (clock-step config s past k now r refl)
+      ∙ ap (λ n. asked_after config n (moment_at (r ∷ past)) past) (sym (same_name-is name g.name takes))
     where
       each : (is : List (ℕ × Integration)) → map (λ n. n.integration) (map (notice_for config id s (moment s now) g) is) ≡ map (λ i. i.0) is
       each [] = refl
       each (i ∷ is) = ap (λ rest. i.0 ∷ rest) (each is)
 
-  taking : (now : ℕ) (o : Option GroupState) → taken s (moment s now) ≡ o → Asks (Begin now) (reply_taking config id s (moment s now) o)
-  taking now None e = λ name is. absurd (false≢true is)
-  taking now (Some g) e = asking now g (asked_of config s (moment s now) g) (asked-found (moment s now) g (taken-is s (moment s now) g steady.groups e))
+  telling : (now : ℕ) (g : GroupState) → taken s (moment s now) ≡ Some g → (asked : List (ℕ × Integration)) → asked_of config s (moment s now) g ≡ asked → (new : State) → TellsThere (Begin now) new (reply_asking config id s (moment s now) g asked)
+  telling now g is [] are new =
+      let p = reply_asking config id s (moment s now) g [] in
+      subst (λ t. IsToldRightly config t past p) (clock-step config s past k now (entry pass (Begin now) p) refl)
+      (count-same config s past l.known l.silences (moment s now) g (apart (moment s now) g is) (there (moment s now) g is))
+  telling now g is (i ∷ more) are new =
+      let p = reply_asking config id s (moment s now) g (i ∷ more) in
+      subst (λ t. IsToldRightly config t past p) (clock-step config s past k now (entry pass (Begin now) p) refl)
+      (record { deadline = refl; listed = notices-found (moment s now) g is (i ∷ more) are })
 
-  finish : (now number : ℕ) (outcomes : List (ℕ × Outcome)) (o : Option FlushState) (p : Reply) → option_map (λ f. reply_is.Finished (finished s outcomes f)) o ≡ Some p → Asks (Finish now number outcomes) p
-  finish now number outcomes None p e = absurd (cc)
-  finish now number outcomes (Some f) p e = subst (Asks (Finish now number outcomes)) (inside (reply_is.Finished (finished s outcomes f)) p e) (λ name takes. absurd (false≢true takes))
+  asks_each : HoldsOfEach config id s Asks
+  asks_each =
+      record {
+        insert = λ now a name e. absurd (false≢true e);
+        silence = λ now number matchers start end name e. absurd (false≢true e);
+        nothing = λ now none name e. absurd (false≢true e);
+        begin = λ now g is asked are.
+            asking now g asked (after_asking config s (moment s now) g asked) (ap (map (λ i. i.0)) (sym are) ∙ asked-found (moment s now) g is);
+        finish = λ now number outcomes f is name e. absurd (false≢true e);
+        maintain = λ now name e. absurd (false≢true e);
+        note = λ now number i outcome f is may name e. absurd (false≢true e);
+      }
 
-  note : (now number integration : ℕ) (outcome : Option Outcome) (o : Option FlushState) (p : Reply) → noted integration outcome o ≡ Some p → Asks (Note now number integration outcome) p
-  note now number integration outcome None p e = absurd (cc)
-  note now number integration outcome (Some f) p e =
-      elim (may_note integration outcome f) as (λ b. (if b then Some reply_is.Noted else None) ≡ Some p → Asks (Note now number integration outcome) p) [
-        | true ↦ λ told. subst (Asks (Note now number integration outcome)) (inside reply_is.Noted p told) (λ name takes. absurd (false≢true takes))
-        | false ↦ λ told. absurd (cc)
-      ] e
+  tells_each : HoldsOfEach config id s TellsThere
+  tells_each =
+      record {
+        insert = λ now a. tt;
+        silence = λ now number matchers start end. tt;
+        nothing = λ now none. tt;
+        begin = λ now g is asked are. telling now g is asked are (after_asking config s (moment s now) g asked);
+        finish = λ now number outcomes f is. tt;
+        maintain = λ now. tt;
+        note = λ now number i outcome f is may. tt;
+      }
 
-  one_call : (c : Call) (p : Reply) → reply config id s c ≡ Some p → Asks c p
-  one_call (Insert now alert) p e = subst (Asks (Insert now alert)) (inside (reply_is.Inserted (inserted config s alert)) p e) (λ name takes. absurd (false≢true takes))
-  one_call (Silence now number matchers start end) p e =
-      subst (Asks (Silence now number matchers start end)) (inside (reply_is.Silenced (silenced s (silence_of number matchers start end))) p e) (λ name takes. absurd (false≢true takes))
-  one_call (Begin now) p e = subst (Asks (Begin now)) (inside (begun config id s (moment s now)) p e) (taking now (taken s (moment s now)) refl)
-  one_call (Finish now number outcomes) p e = finish now number outcomes (flush_numbered s.flushes number) p e
-  one_call (Maintain now) p e = subst (Asks (Maintain now)) (inside (reply_is.Maintained (maintained s (moment s now))) p e) (λ name takes. absurd (false≢true takes))
-  one_call (Note now number integration outcome) p e = note now number integration outcome (flush_numbered s.flushes number) p e
-
-each_past : (config : Config) (id : ℕ) (past : List Record) → IsLegalPast config id past → AtEach (IsAskedRightly config) past
-each_past config id [] legal = tt
-each_past config id (r ∷ past) legal =
-    (one_call config id (state_after config past) past r.pass (steady_past config past) (finds_past config id past legal.1) (tells_past config id past legal.1) r.call r.reply legal.0, each_past config id past legal.1)
-
-pub begins_ask_rightly : BeginsAskRightly
+pub begins_ask_rightly : EveryLegalHistory BeginsAskRightly
 begins_ask_rightly config id history legal =
-    let past = past_of history in
-    let back : reverse past ≡ history = reverse-reverse history in
-    each_past config id past (legal_of_past config id past (subst (IsLegal config id) (sym back) legal))
+    at_each config id (IsAskedRightly config)
+    (λ r past before told.
+    let s = state_after config past in
+    let asks = asks_each config id s past r.pass (steady_past config past) (finds_past config id past before) (tells_past config id past before) in
+    each_call config id s (λ c new p. IsAskedRightly config (entry r.pass c p) past) asks r.call r.reply told)
+    (past_of history) (legal_past config id history legal)
+
+pub begins_tell_what_is_there : EveryLegalHistory BeginsTellWhatIsThere
+begins_tell_what_is_there config id history legal =
+    at_each config id (λ r past. IsToldRightly config (moment_at (r ∷ past)) past r.reply)
+    (λ r past before told.
+    let s = state_after config past in
+    let tells = tells_each config id s past r.pass (steady_past config past) (finds_past config id past before) (tells_past config id past before) in
+    each_call config id s (λ c new p. IsToldRightly config (moment_at (entry r.pass c p ∷ past)) past p) tells r.call r.reply told)
+    (past_of history) (legal_past config id history legal)

@@ -11,6 +11,7 @@ use Rattle.am_board.specs.Finish.{same_key}
 use Rattle.am_board.specs.Laws.{same_flushed, same_number, IsConsistent}
 use Rattle.am_board.specs.Replay.{after, after_call, replay, replay_from, IsLegal}
 use Rattle.am_board.specs.State.{State, opening_state, moment, flush_numbered}
+use Rattle.am_board.specs.Upkeep.{same_silence}
 use Rattle.am_board.proofs.ConsistentBegin.{steady_begin}
 use Rattle.am_board.proofs.ConsistentFinish.{steady_finish, steady_maintain, steady_note}
 use Rattle.am_board.proofs.ConsistentInsert.{steady_insert, steady_silence}
@@ -38,6 +39,7 @@ steady_opening =
       known = IsDistinct-nil same_alert;
       groups = IsDistinct-nil same_group;
       tidy = tt;
+      silences = IsDistinct-nil same_silence;
       rows = IsDistinct-nil same_key;
       flushes = IsDistinct-nil same_flushed;
       numbers = IsDistinct-nil same_number;

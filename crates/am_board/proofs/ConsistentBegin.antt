@@ -54,7 +54,7 @@ later_places {X = X} n (x ∷ xs) =
     let P : ℕ × X → Type 0 = λ p. n + 1 ≤ p.0 in
     (omega arith, all-weaker P (λ p. n ≤ p.0) (λ p h. omega (arith, h)) (enumerate_from (n + 1) xs) rest)
 
-distinct_places : {X : Type 0} (n : ℕ) (xs : List X) → IsDistinct (λ (p q : ℕ × X). p.0 == q.0) (enumerate_from n xs)
+pub distinct_places : {X : Type 0} (n : ℕ) (xs : List X) → IsDistinct (λ (p q : ℕ × X). p.0 == q.0) (enumerate_from n xs)
 distinct_places {X = X} n [] = IsDistinct-nil (λ (p q : ℕ × X). p.0 == q.0)
 distinct_places {X = X} n (x ∷ xs) =
     let like : ℕ × X → ℕ × X → Bool = λ p q. p.0 == q.0 in
@@ -99,6 +99,7 @@ quiet config s t g within at h =
       tidy =
           tidy-changed s.inserts (is_named g.name) change
           (λ k tidy. tidy-fewer s.inserts (λ m. not (is_resolved m.alert t)) k tidy (change k) refl) s.groups h.tidy;
+      silences = h.silences;
       rows = h.rows;
       flushes = h.flushes;
       numbers = h.numbers;
@@ -132,6 +133,7 @@ opens config s t g i is within asked at h =
       known = h.known;
       groups = distinct-changed (is_named g.name) change (λ k. refl) s.groups h.groups;
       tidy = tidy-changed s.inserts (is_named g.name) change (λ k tidy. record { members = tidy.members; stamps = tidy.stamps }) s.groups h.tidy;
+      silences = h.silences;
       rows = h.rows;
       flushes = distinct-last same_flushed same_flushed_equiv.symm f s.flushes at.free h.flushes;
       numbers =

@@ -29,6 +29,7 @@ steady-at s t within h =
       known = h.known;
       groups = h.groups;
       tidy = h.tidy;
+      silences = h.silences;
       rows = h.rows;
       flushes = h.flushes;
       numbers = h.numbers;
@@ -119,6 +120,7 @@ finish_open config s t number outcomes f found within h =
       tidy =
           tidy-changed s.inserts (is_named f.group) change
           (λ g k. tidy-fewer s.inserts (λ m. not (leaves_by outcomes f m)) g k (change g) refl) s.groups h.tidy;
+      silences = h.silences;
       rows = distinct-rows config t f (logged_by outcomes f) s.rows h.rows;
       flushes = IsDistinct-filter same_flushed stays s.flushes h.flushes;
       numbers = IsDistinct-filter same_number stays s.flushes h.numbers;
@@ -145,6 +147,7 @@ steady_maintain s t within h =
       known = h.known;
       groups = IsDistinct-filter same_group stays s.groups h.groups;
       tidy = all-filter (IsTidy s.inserts) stays s.groups h.tidy;
+      silences = h.silences;
       rows = IsDistinct-filter same_key (λ r. not (has_expired t r)) s.rows h.rows;
       flushes = h.flushes;
       numbers = h.numbers;
@@ -199,6 +202,7 @@ note_open config s t integration f within h =
       known = h.known;
       groups = h.groups;
       tidy = h.tidy;
+      silences = h.silences;
       rows = IsDistinct-put_in same_key same_key_equiv (row_at config t f integration) s.rows h.rows;
       flushes =
           IsDistinct-changed same_flushed change

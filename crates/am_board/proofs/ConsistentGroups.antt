@@ -8,6 +8,7 @@ use Rattle.std.proofs.lemmas.Cmp.{nat_eq_equiv, on_equiv, and_equiv}
 use Rattle.std.proofs.lemmas.Map.Keys.{IsDistinct-head, IsDistinct-tail}
 use Rattle.am_alerts.specs.AlertData.{AlertData}
 use Rattle.am_alerts.specs.LabelOrder.{same_label_set_equiv}
+use Rattle.am_mute.specs.Silence.{SilenceData}
 use Rattle.am_nflog.specs.Members.{is_empty}
 use Rattle.am_board.specs.declared.group.GroupName.{GroupName}
 use Rattle.am_board.specs.declared.views.RowView.{RowView}
@@ -16,7 +17,7 @@ use Rattle.am_board.specs.Insert.{same_alert, same_member, same_group}
 use Rattle.am_board.specs.Laws.{same_flushed, same_number}
 use Rattle.am_board.specs.Lists.{put_in, without, changed_where}
 use Rattle.am_board.specs.State.{MemberState, GroupState, FlushState, same_name, is_named, members_in}
-use Rattle.am_board.specs.Upkeep.{is_deserted}
+use Rattle.am_board.specs.Upkeep.{same_silence, is_deserted}
 use Rattle.am_board.proofs.ConsistentLists.{all-both}
 
 -- ---- each test of two things is an equivalence
@@ -35,6 +36,9 @@ same_group_equiv = on_equiv (λ (g : GroupState). g.name) same_name_equiv
 
 pub same_key_equiv : IsEquivalence same_key
 same_key_equiv = and_equiv (on_equiv (λ (r : RowView). r.group) same_name_equiv) (on_equiv (λ (r : RowView). r.integration) nat_eq_equiv)
+
+pub same_silence_equiv : IsEquivalence same_silence
+same_silence_equiv = on_equiv (λ (x : SilenceData). x.id) nat_eq_equiv
 
 pub same_flushed_equiv : IsEquivalence same_flushed
 same_flushed_equiv = on_equiv (λ (f : FlushState). f.group) same_name_equiv

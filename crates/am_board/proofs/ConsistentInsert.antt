@@ -11,9 +11,9 @@ use Rattle.am_board.specs.declared.group.GroupName.{GroupName}
 use Rattle.am_board.specs.Insert.{same_alert, same_member, same_group, names_for, next_stamp, new_group, group_or_new, group_with, put_into_group, groups_with, after_insert}
 use Rattle.am_board.specs.Lists.{put_in}
 use Rattle.am_board.specs.State.{MemberState, GroupState, State, is_named}
-use Rattle.am_board.specs.Upkeep.{after_silence}
+use Rattle.am_board.specs.Upkeep.{same_silence, after_silence}
 use Rattle.am_board.proofs.ListWords.{all-put_in, IsDistinct-put_in}
-use Rattle.am_board.proofs.ConsistentGroups.{same_alert_equiv, same_member_equiv, same_group_equiv, IsAlive, alive-put_in}
+use Rattle.am_board.proofs.ConsistentGroups.{same_alert_equiv, same_member_equiv, same_group_equiv, same_silence_equiv, IsAlive, alive-put_in}
 use Rattle.am_board.proofs.ConsistentLists.{IsDistinct-nil, all-find, all-weaker}
 use Rattle.am_board.proofs.ConsistentState.{IsTidy, IsOpen, IsSteady}
 
@@ -81,6 +81,7 @@ steady_insert config s t a within h =
       known = IsDistinct-put_in same_alert same_alert_equiv a s.known h.known;
       groups = distinct-each config t m names s.groups h.groups;
       tidy = tidy-each config t m (next_stamp s) names s.groups (omega arith) older;
+      silences = h.silences;
       rows = h.rows;
       flushes = h.flushes;
       numbers = h.numbers;
@@ -97,6 +98,7 @@ steady_silence s t silence within h =
       known = h.known;
       groups = h.groups;
       tidy = h.tidy;
+      silences = IsDistinct-put_in same_silence same_silence_equiv silence s.silences h.silences;
       rows = h.rows;
       flushes = h.flushes;
       numbers = h.numbers;

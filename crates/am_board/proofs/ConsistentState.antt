@@ -8,6 +8,7 @@ use Rattle.am_board.specs.Finish.{same_key}
 use Rattle.am_board.specs.Insert.{same_alert, same_member, same_group}
 use Rattle.am_board.specs.Laws.{same_flushed, same_number, same_asked, IsHeld, IsConsistent}
 use Rattle.am_board.specs.State.{MemberState, GroupState, FlushState, State, members_in}
+use Rattle.am_board.specs.Upkeep.{same_silence}
 use Rattle.am_board.proofs.ConsistentGroups.{IsAlive, members_of-in}
 use Rattle.am_board.proofs.ConsistentLists.{all_from, all_to, all-weaker, all-both}
 
@@ -29,6 +30,7 @@ pub record IsSteady (s : State) : Type 0 where
   pub known : IsDistinct same_alert s.known
   pub groups : IsDistinct same_group s.groups
   pub tidy : AllByRecursion (IsTidy s.inserts) s.groups
+  pub silences : IsDistinct same_silence s.silences
   pub rows : IsDistinct same_key s.rows
   pub flushes : IsDistinct same_flushed s.flushes
   pub numbers : IsDistinct same_number s.flushes
@@ -70,6 +72,7 @@ consistent_from s h =
       stamps =
           let P : GroupState → Type 0 = λ g. All (λ m. m.stamp ≤ s.inserts) g.members in
           all_from P s.groups (all-weaker (IsTidy s.inserts) P (λ g k. all_from (λ (m : MemberState). m.stamp ≤ s.inserts) g.members k.stamps) s.groups h.tidy);
+      silences = h.silences;
       rows = h.rows;
       flushes = h.flushes;
       numbers = h.numbers;
@@ -88,6 +91,7 @@ consistent_to s h =
           all-both P Q (IsTidy s.inserts)
           (λ g members stamps. record { members = members; stamps = all_to (λ (m : MemberState). m.stamp ≤ s.inserts) g.members stamps })
           s.groups (all_to P s.groups h.members) (all_to Q s.groups h.stamps);
+      silences = h.silences;
       rows = h.rows;
       flushes = h.flushes;
       numbers = h.numbers;

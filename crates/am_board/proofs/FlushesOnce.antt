@@ -1,12 +1,11 @@
 -- Each flush has one begin and at most one finish, and its group isn't taken before.
-use Rattle.std.proofs.Common.{◌≡◌, ℕ, ◌≤◌, Bool, true, false, cond, not, ◌&&◌, ◌||◌, Option, Some, None, List, [], ◌∷◌, reverse, refl, sym, ap, ◌∙◌, subst, arith, if◌then◌else◌}
+use Rattle.std.proofs.Common.{◌≡◌, ℕ, ◌≤◌, Bool, true, false, cond, not, ◌&&◌, ◌||◌, Option, Some, None, List, [], ◌∷◌, refl, sym, ap, ◌∙◌, subst, arith, if◌then◌else◌}
 use Rattle.std.specs.Prelude.{find, filter, ◌==◌, nat_le}
 use Rattle.std.specs.List.{AllByRecursion, list_any}
 use Rattle.std.specs.Option.{option_map}
 use Rattle.std.proofs.Math.Bool.{or-false}
 use Rattle.std.proofs.lemmas.Bool.{false≢true, eqb-true, ne_eqb, leb-true}
 use Rattle.std.proofs.lemmas.Cmp.{nat_eq_equiv}
-use Rattle.std.proofs.lemmas.List.{reverse-reverse}
 use Rattle.std.proofs.lemmas.List.Folds.{list_any-append}
 use Rattle.am_alerts.specs.LabelOrder.{same_label_set_equiv}
 use Rattle.am_alerts.specs.AlertData.{AlertData}
@@ -33,22 +32,23 @@ use Rattle.am_board.specs.Finish.{finished, after_finish_of}
 use Rattle.am_board.specs.History.{entry}
 use Rattle.am_board.specs.Insert.{inserted}
 use Rattle.am_board.specs.Laws.{last_begin_after, IsBegunAt}
-use Rattle.am_board.specs.LookBack.{member_with, number_in, has_open, begun_at, IsLater, IsOneOfEach, FlushesEndOnce}
-use Rattle.am_board.specs.Note.{with_note, may_note, after_note, after_note_of, noted}
-use Rattle.am_board.specs.Past.{AtEach, past_of, moment_at, is_flush, is_flush_of, is_finish, takes, has_begun, has_finished}
-use Rattle.am_board.specs.Replay.{reply, after_call, IsLegal}
-use Rattle.am_board.specs.State.{MemberState, GroupState, FlushState, State, at_moment, moment, same_name, is_flushing, members_in, flush_numbered}
+use Rattle.am_board.specs.LookBack.{member_with, EveryLegalHistory, number_in, has_open, begun_at, IsLater, IsOneFlushAtATime, FlushesEndOnce}
+use Rattle.am_board.specs.Note.{with_note, may_note, after_note, noted}
+use Rattle.am_board.specs.Past.{past_of, moment_at, is_flush, is_flush_of, is_finish, takes, has_begun, has_finished}
+use Rattle.am_board.specs.Replay.{reply, after, after_call}
+use Rattle.am_board.specs.State.{MemberState, GroupState, FlushState, State, moment, same_name, is_flushing, members_in, flush_numbered}
 use Rattle.am_board.specs.Upkeep.{silenced, maintained}
 use Rattle.am_board.proofs.Begins.{Keeps, keeps-call, opening_keeps}
 use Rattle.am_board.proofs.ConsistentBegin.{taken-is}
 use Rattle.am_board.proofs.ConsistentGroups.{members_of, members_of-in}
 use Rattle.am_board.proofs.ConsistentLists.{all-find, all-filter, all-least, all-passes, all-both, find-passes}
 use Rattle.am_board.proofs.ConsistentState.{IsOpen, IsSteady}
-use Rattle.am_board.proofs.FoundAlerts.{inside, steady_past, finds_past}
+use Rattle.am_board.proofs.EachCall.{HoldsOfEach, each_call}
+use Rattle.am_board.proofs.FoundAlerts.{steady_past, finds_past}
 use Rattle.am_board.proofs.FoundSteps.{clock-step}
 use Rattle.am_board.proofs.LogRows.{same_name-is}
 use Rattle.am_board.proofs.Opened.{Finds}
-use Rattle.am_board.proofs.Pasts.{state_after, IsLegalPast, legal_of_past}
+use Rattle.am_board.proofs.Pasts.{state_after, IsLegalPast, at_each, legal_past}
 use Rattle.am_board.proofs.PastWords.{has_labels}
 use Rattle.am_board.proofs.SetWords.{any-filter, any-alike, any-and, any-map, passes}
 use Rattle.am_board.proofs.ToldSets.{present-passes}
@@ -173,7 +173,7 @@ module _ (config : Config) (id : ℕ) (s : State) (past : List Record) (pass : �
 
   -- what holds of a record, and what is counted after it
   abbrev Holds : Call → State → Reply → Type 0
-  Holds c new p = IsOneOfEach config (entry pass c p) past × Counts config new (entry pass c p ∷ past)
+  Holds c new p = IsOneFlushAtATime config (entry pass c p) past × Counts config new (entry pass c p ∷ past)
 
   keeps-after : (c : Call) (p : Reply) → reply config id s c ≡ Some p → Begins c p → Keeps config (after_call config s c).groups (λ name. begun_at config name (entry pass c p ∷ past))
   keeps-after c p e same = subst (Keeps config (after_call config s c).groups) (λ j name. same name j) (keeps-call config id s (λ name. begun_at config name past) n.keeps c p e)
@@ -197,14 +197,14 @@ module _ (config : Config) (id : ℕ) (s : State) (past : List Record) (pass : �
           let come : h.due ≤ t = leb-true h.due t (first (nat_le h.due t) (not (is_flushing s.flushes h.name)) passes) in
           subst (λ d. d ≤ t) is.1 come
 
-  none-begun : (c : Call) (p : Reply) → ((number : ℕ) → is_flush number p ≡ false) → ((number : ℕ) → is_finish number c ≡ false) → ((name : GroupName) → takes name p ≡ false) → IsOneOfEach config (entry pass c p) past
+  none-begun : (c : Call) (p : Reply) → ((number : ℕ) → is_flush number p ≡ false) → ((number : ℕ) → is_finish number c ≡ false) → ((name : GroupName) → takes name p ≡ false) → IsOneFlushAtATime config (entry pass c p) past
   none-begun c p a b d =
       record {
-        begins = λ number e. absurd (false≢true (sym (a number) ∙ e));
-        begun = λ number e. absurd (false≢true (sym (b number) ∙ e));
-        finishes = λ number e. absurd (false≢true (sym (b number) ∙ e));
-        alone = λ name e. absurd (false≢true (sym (d name) ∙ e));
-        later = λ name e. absurd (false≢true (sym (d name) ∙ e));
+        first_begin = λ number e. absurd (false≢true (sym (a number) ∙ e));
+        begun_before = λ number e. absurd (false≢true (sym (b number) ∙ e));
+        first_finish = λ number e. absurd (false≢true (sym (b number) ∙ e));
+        none_open = λ name e. absurd (false≢true (sym (d name) ∙ e));
+        interval_over = λ name e. absurd (false≢true (sym (d name) ∙ e));
       }
 
   insert : (now : ℕ) (a : AlertData) → Holds (Insert now a) (after_call config s (Insert now a)) (Inserted (inserted config s a))
@@ -234,17 +234,17 @@ module _ (config : Config) (id : ℕ) (s : State) (past : List Record) (pass : �
       )
 
   -- a begin that takes a group
-  taking-one : (now : ℕ) (g : GroupState) (p : Reply) → taken s (moment s now) ≡ Some g → ((number : ℕ) → is_flush number p ≡ true → has_begun number past ≡ false) → ((name : GroupName) → takes name p ≡ same_name name g.name) → IsOneOfEach config (entry pass (Begin now) p) past
+  taking-one : (now : ℕ) (g : GroupState) (p : Reply) → taken s (moment s now) ≡ Some g → ((number : ℕ) → is_flush number p ≡ true → has_begun number past ≡ false) → ((name : GroupName) → takes name p ≡ same_name name g.name) → IsOneFlushAtATime config (entry pass (Begin now) p) past
   taking-one now g p e first is =
       let at = clock-step config s past k now (entry pass (Begin now) p) refl in
       record {
-        begins = first;
-        begun = λ number h. absurd (false≢true h);
-        finishes = λ number h. absurd (false≢true h);
-        alone = λ name h.
+        first_begin = first;
+        begun_before = λ number h. absurd (false≢true h);
+        first_finish = λ number h. absurd (false≢true h);
+        none_open = λ name h.
             let own : name ≡ g.name = same_name-is name g.name (sym (is name) ∙ h) in
             open-group config s past n name ∙ ap (is_flushing s.flushes) own ∙ any_none (λ f. same_name g.name f.group) s.flushes (taken-is s (moment s now) g steady.groups e).free;
-        later = λ name h.
+        interval_over = λ name h.
             let own : name ≡ g.name = same_name-is name g.name (sym (is name) ∙ h) in
             subst (λ t. IsLater (route_of config name).group_interval t (begun_at config name past)) at
             (subst (λ m. IsLater (route_of config m).group_interval (moment s now) (begun_at config m past)) (sym own) (later-taken (moment s now) g e));
@@ -291,14 +291,19 @@ module _ (config : Config) (id : ℕ) (s : State) (past : List Record) (pass : �
       turn false true = refl
       turn false false = refl
 
-  begin : (now : ℕ) (o : Option GroupState) → taken s (moment s now) ≡ o
+  -- the last begins after a begin are kept
+  keeps-begin : (now : ℕ) (o : Option GroupState) → taken s (moment s now) ≡ o
       → Keeps config (after_taking config s (moment s now) o).groups (λ name. begun_at config name (entry pass (Begin now) (reply_taking config id s (moment s now) o) ∷ past))
-      → Holds (Begin now) (after_taking config s (moment s now) o) (reply_taking config id s (moment s now) o)
-  begin now None e keeps = (
-    none-begun (Begin now) NothingDue (λ m. refl) (λ m. refl) (λ name. refl),
-    record { opens = n.opens; begun = n.begun; ended = n.ended; keeps = keeps },
-  )
-  begin now (Some g) e keeps = asking now g (asked_of config s (moment s now) g) e keeps
+  keeps-begin now o e =
+      subst (λ o. Keeps config (after_taking config s (moment s now) o).groups (λ name. begun_at config name (entry pass (Begin now) (reply_taking config id s (moment s now) o) ∷ past))) e
+      (keeps-after (Begin now) (begin_is.begun config id s (moment s now)) refl (begins-taking now (taken s (moment s now))))
+
+  begin : (now : ℕ) (g : GroupState) → taken s (moment s now) ≡ Some g → (asked : List (ℕ × Integration)) → asked_of config s (moment s now) g ≡ asked
+      → Holds (Begin now) (after_asking config s (moment s now) g asked) (reply_asking config id s (moment s now) g asked)
+  begin now g is asked are =
+      asking now g asked is
+      (subst (λ asked. Keeps config (after_asking config s (moment s now) g asked).groups (λ name. begun_at config name (entry pass (Begin now) (reply_asking config id s (moment s now) g asked) ∷ past))) are
+      (keeps-begin now (Some g) is))
 
   finish : (now m : ℕ) (outcomes : List (ℕ × Outcome)) (f : FlushState) → flush_numbered s.flushes m ≡ Some f → Holds (Finish now m outcomes) (after_finish_of config s (moment s now) outcomes (Some f)) (Finished (finished s outcomes f))
   finish now m outcomes f is =
@@ -309,11 +314,11 @@ module _ (config : Config) (id : ℕ) (s : State) (past : List Record) (pass : �
       let is_open : (has_begun m past && not (has_finished m past)) ≡ true = open-number config s past n m ∙ any_some (λ (h : FlushState). h.number == m) f s.flushes is in
       let told : option_map (λ h. reply_is.Finished (finished s outcomes h)) (flush_numbered s.flushes m) ≡ Some p = ap (option_map (λ h. reply_is.Finished (finished s outcomes h))) is in (
         record {
-          begins = λ number h. absurd (false≢true h);
-          begun = λ number h. subst (λ x. has_begun x past ≡ true) (eqb-true m number h) (two (has_begun m past) (has_finished m past) is_open).0;
-          finishes = λ number h. subst (λ x. has_finished x past ≡ false) (eqb-true m number h) (two (has_begun m past) (has_finished m past) is_open).1;
-          alone = λ name h. absurd (false≢true h);
-          later = λ name h. absurd (false≢true h);
+          first_begin = λ number h. absurd (false≢true h);
+          begun_before = λ number h. subst (λ x. has_begun x past ≡ true) (eqb-true m number h) (two (has_begun m past) (has_finished m past) is_open).0;
+          first_finish = λ number h. subst (λ x. has_finished x past ≡ false) (eqb-true m number h) (two (has_begun m past) (has_finished m past) is_open).1;
+          none_open = λ name h. absurd (false≢true h);
+          interval_over = λ name h. absurd (false≢true h);
         },
         record {
           opens = λ test.
@@ -355,47 +360,37 @@ module _ (config : Config) (id : ℕ) (s : State) (past : List Record) (pass : �
       kept test h true = refl
       kept test h false = refl
 
-  finish_of : (now m : ℕ) (outcomes : List (ℕ × Outcome)) (o : Option FlushState) (p : Reply) → flush_numbered s.flushes m ≡ o → option_map (λ f. reply_is.Finished (finished s outcomes f)) o ≡ Some p → Holds (Finish now m outcomes) (after_finish_of config s (moment s now) outcomes o) p
-  finish_of now m outcomes None p is e = absurd (cc)
-  finish_of now m outcomes (Some f) p is e = subst (Holds (Finish now m outcomes) (after_finish_of config s (moment s now) outcomes (Some f))) (inside (reply_is.Finished (finished s outcomes f)) p e) (finish now m outcomes f is)
-
-  note_of : (now m i : ℕ) (outcome : Option Outcome) (o : Option FlushState) (p : Reply) → flush_numbered s.flushes m ≡ o → noted i outcome o ≡ Some p → Holds (Note now m i outcome) (after_note_of config s (moment s now) i outcome o) p
-  note_of now m i outcome None p is e = absurd (cc)
-  note_of now m i outcome (Some f) p is e =
-      elim (may_note i outcome f) as (λ b. may_note i outcome f ≡ b → (if b then Some reply_is.Noted else None) ≡ Some p → Holds (Note now m i outcome) (if b then after_note config s (moment s now) i f else at_moment s (moment s now)) p) [
-        | true ↦ λ may told. subst (Holds (Note now m i outcome) (after_note config s (moment s now) i f)) (inside reply_is.Noted p told) (note now m i outcome f is may)
-        | false ↦ λ may told. absurd (cc)
-      ] refl e
-
-  one_call : (c : Call) (p : Reply) → reply config id s c ≡ Some p → Holds c (after_call config s c) p
-  one_call (Insert now a) p e = subst (Holds (Insert now a) (after_call config s (Insert now a))) (inside (reply_is.Inserted (inserted config s a)) p e) (insert now a)
-  one_call (Silence now number matchers start end) p e =
-      subst (Holds (Silence now number matchers start end) (after_call config s (Silence now number matchers start end))) (inside (reply_is.Silenced (silenced s (silence_of number matchers start end))) p e) (silence now number matchers start end)
-  one_call (Begin now) p e =
-      let o = taken s (moment s now) in
-      subst (Holds (Begin now) (after_call config s (Begin now))) (inside (begin_is.begun config id s (moment s now)) p e)
-      (begin now o refl (keeps-after (Begin now) (begin_is.begun config id s (moment s now)) refl (begins-taking now o)))
-  one_call (Finish now m outcomes) p e = finish_of now m outcomes (flush_numbered s.flushes m) p refl e
-  one_call (Maintain now) p e = subst (Holds (Maintain now) (after_call config s (Maintain now))) (inside (reply_is.Maintained (maintained s (moment s now))) p e) (maintain now)
-  one_call (Note now m i outcome) p e = note_of now m i outcome (flush_numbered s.flushes m) p refl e
+  each : HoldsOfEach config id s Holds
+  each =
+      record {
+        insert = insert;
+        silence = silence;
+        nothing = λ now none. (
+          none-begun (Begin now) NothingDue (λ m. refl) (λ m. refl) (λ name. refl),
+          record { opens = n.opens; begun = n.begun; ended = n.ended; keeps = keeps-begin now None none },
+        );
+        begin = begin;
+        finish = finish;
+        maintain = maintain;
+        note = note;
+      }
 
 -- ---- each legal past
+
+-- what holds of a record after a legal past, and what is counted after it
+one_record : (config : Config) (id : ℕ) (r : Record) (past : List Record) → IsLegalPast config id past → reply config id (state_after config past) r.call ≡ Some r.reply → Counts config (state_after config past) past
+    → IsOneFlushAtATime config r past × Counts config (after config (state_after config past) r) (r ∷ past)
+one_record config id r past legal told n =
+    let s = state_after config past in
+    let holds = each config id s past r.pass (steady_past config past) (finds_past config id past legal) n in
+    each_call config id s (λ c new p. IsOneFlushAtATime config (entry r.pass c p) past × Counts config new (entry r.pass c p ∷ past)) holds r.call r.reply told
 
 counts_past : (config : Config) (id : ℕ) (past : List Record) → IsLegalPast config id past → Counts config (state_after config past) past
 counts_past config id [] legal =
     record { opens = λ test. refl; begun = λ m h. refl; ended = λ m h. refl; keeps = opening_keeps config }
-counts_past config id (r ∷ past) legal =
-    (one_call config id (state_after config past) past r.pass (steady_past config past) (finds_past config id past legal.1) (counts_past config id past legal.1) r.call r.reply legal.0).1
+counts_past config id (r ∷ past) legal = (one_record config id r past legal.1 legal.0 (counts_past config id past legal.1)).1
 
-pub each_past : (config : Config) (id : ℕ) (past : List Record) → IsLegalPast config id past → AtEach (IsOneOfEach config) past
-each_past config id [] legal = tt
-each_past config id (r ∷ past) legal = (
-  (one_call config id (state_after config past) past r.pass (steady_past config past) (finds_past config id past legal.1) (counts_past config id past legal.1) r.call r.reply legal.0).0,
-  each_past config id past legal.1,
-)
-
-pub flushes_end_once : FlushesEndOnce
+pub flushes_end_once : EveryLegalHistory FlushesEndOnce
 flushes_end_once config id history legal =
-    let past = past_of history in
-    let back : reverse past ≡ history = reverse-reverse history in
-    each_past config id past (legal_of_past config id past (subst (IsLegal config id) (sym back) legal))
+    at_each config id (IsOneFlushAtATime config) (λ r past before told. (one_record config id r past before told (counts_past config id past before)).0)
+    (past_of history) (legal_past config id history legal)

@@ -12,7 +12,8 @@ use Rattle.am_board.specs.declared.record.Record.{Record}
 use Rattle.am_board.specs.Begin.{taken, asked_of, after_asking, after_taking}
 use Rattle.am_board.specs.Finish.{after_finish_of}
 use Rattle.am_board.specs.Note.{may_note, after_note, after_note_of}
-use Rattle.am_board.specs.Laws.{ReplayAppends, LegalAppends, ClockIsMoment, now_of}
+use Rattle.am_board.specs.Calls.{now_of}
+use Rattle.am_board.specs.Laws.{ReplayAppends, LegalAppends, ClockIsMoment}
 use Rattle.am_board.specs.Replay.{reply, after, after_call, replay_from, IsLegalFrom}
 use Rattle.am_board.specs.State.{GroupState, FlushState, State, opening_state, moment, at_moment, flush_numbered}
 

@@ -1,4 +1,5 @@
 pub mod Agreeing
+pub mod AlertsShown
 pub mod Alone
 pub mod AskedRightly
 pub mod Askings
@@ -16,6 +17,7 @@ pub mod ConsistentGroups
 pub mod ConsistentInsert
 pub mod ConsistentLists
 pub mod ConsistentState
+pub mod EachCall
 pub mod Exchanges
 pub mod Faultless
 pub mod FewGroups
@@ -63,7 +65,8 @@ pub mod RowsOrder
 pub mod RowsRefused
 pub mod RowsResolved
 pub mod RowsRouted
-pub mod RowsTold
+pub mod RowsDelivered
+pub mod SameAlerts
 pub mod Searches
 pub mod SetWords
 pub mod Shown

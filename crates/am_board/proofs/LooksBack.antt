@@ -1,28 +1,26 @@
 -- What looking back says of every legal history, in one.
-use Rattle.std.proofs.Common.{List, [], ◌∷◌}
-use Rattle.am_board.specs.declared.config.Config.{Config}
-use Rattle.am_board.specs.declared.record.Record.{Record}
-use Rattle.am_board.specs.LookBack.{KeepsRefiring, IsOneOfEach, HistoriesLookBack}
-use Rattle.am_board.specs.Past.{AtEach, past_of}
-use Rattle.am_board.proofs.AskedRightly.{begins_ask_rightly}
+use Rattle.am_board.specs.LookBack.{EveryLegalHistory, LooksBack}
+use Rattle.am_board.proofs.AlertsShown.{shown_alerts_are_found}
+use Rattle.am_board.proofs.AskedRightly.{begins_ask_rightly, begins_tell_what_is_there}
+use Rattle.am_board.proofs.Consistent.{consistent}
 use Rattle.am_board.proofs.FlushesOnce.{flushes_end_once}
 use Rattle.am_board.proofs.FoundAlerts.{alerts_are_found}
 use Rattle.am_board.proofs.FoundRows.{rows_are_found}
-use Rattle.am_board.proofs.Refiring.{present-after}
-use Rattle.am_board.proofs.RowsTold.{rows_were_told}
+use Rattle.am_board.proofs.Refiring.{refiring_alerts_stay}
+use Rattle.am_board.proofs.RowsDelivered.{shown_rows_are_found, only_delivered_is_logged, rows_were_delivered}
 
-refiring_each : (config : Config) (past : List Record) → AtEach (IsOneOfEach config) past → AtEach (KeepsRefiring config) past
-refiring_each config [] each = tt
-refiring_each config (r ∷ past) each = (present-after config r past each.0 each.1, refiring_each config past each.1)
-
-pub histories_look_back : HistoriesLookBack
+pub histories_look_back : EveryLegalHistory LooksBack
 histories_look_back config id history legal =
-    let once = flushes_end_once config id history legal in
     record {
+      consistent = consistent config id history legal;
       alerts = alerts_are_found config id history legal;
+      shown_alerts = shown_alerts_are_found config id history legal;
       rows = rows_are_found config id history legal;
-      told = rows_were_told config id history legal;
-      refiring = refiring_each config (past_of history) once;
-      once = once;
+      shown_rows = shown_rows_are_found config id history legal;
+      only_delivered = only_delivered_is_logged config id history legal;
+      delivered = rows_were_delivered config id history legal;
+      refiring = refiring_alerts_stay config id history legal;
+      once = flushes_end_once config id history legal;
       asked = begins_ask_rightly config id history legal;
+      tells = begins_tell_what_is_there config id history legal;
     }

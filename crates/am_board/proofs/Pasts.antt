@@ -1,7 +1,8 @@
 -- Histories from their end: the state after a past, and what one record more does to what is found.
-use Rattle.std.proofs.Common.{◌≡◌, ℕ, Bool, true, false, cond, ◌||◌, Option, Some, None, List, [], ◌∷◌, reverse, refl, ap, ◌∙◌, subst}
+use Rattle.std.proofs.Common.{◌≡◌, ℕ, Bool, true, false, cond, ◌||◌, Option, Some, None, List, [], ◌∷◌, reverse, refl, sym, ap, ◌∙◌, subst}
 use Rattle.std.proofs.lemmas.Bool.{false≢true}
 use Rattle.std.proofs.lemmas.Grind.{reverse_onto}
+use Rattle.std.proofs.lemmas.List.{reverse-reverse}
 use Rattle.am_alerts.specs.AlertData.{AlertData}
 use Rattle.am_alerts.specs.Labels.{same_label_set}
 use Rattle.am_alerts.specs.LabelOrder.{same_label_set_equiv, same_label_set-decides}
@@ -14,6 +15,7 @@ use Rattle.am_board.specs.declared.record.Inserted.{Inserted}
 use Rattle.am_board.specs.declared.record.Record.{Record}
 use Rattle.am_board.specs.declared.record.Reply.TheVariants as reply_is
 use Rattle.am_board.specs.History.{entry}
+use Rattle.am_board.specs.Past.{AtEach, past_of}
 use Rattle.am_board.specs.Presence.{goes_to, inserts, inserted_by, stamp_told, last_insert, removes, has_left, unless_left, presence}
 use Rattle.am_board.specs.Replay.{reply, after, replay, IsLegal}
 use Rattle.am_board.specs.State.{MemberState, State, opening_state}
@@ -42,6 +44,20 @@ legal_of_past config id [] h = tt
 legal_of_past config id (r ∷ past) h =
     let parts = (legal_appends config id (reverse past) r).0 (subst (IsLegal config id) (reverse_onto past r []) h) in
     (subst (λ s. reply config id s r.call ≡ Some r.reply) (replay_of_past config past) parts.1, legal_of_past config id past parts.0)
+
+-- what holds of a record after a legal past, where it was told its reply, holds at each record
+pub at_each : (config : Config) (id : ℕ) (P : Record → List Record → Type 0) → ((r : Record) (past : List Record) → IsLegalPast config id past → reply config id (state_after config past) r.call ≡ Some r.reply → P r past)
+    → (past : List Record) → IsLegalPast config id past → AtEach P past
+at_each config id P one [] legal = tt
+at_each config id P one (r ∷ past) legal = (one r past legal.1 legal.0, at_each config id P one past legal.1)
+
+-- a legal history is legal from its end
+pub legal_past : (config : Config) (id : ℕ) (history : List Record) → IsLegal config id history → IsLegalPast config id (past_of history)
+legal_past config id history legal = legal_of_past config id (past_of history) (subst (IsLegal config id) (sym (reverse-reverse history)) legal)
+
+-- the state after a history, from its end
+pub replay_is_past : (config : Config) (history : List Record) → replay config history ≡ state_after config (past_of history)
+replay_is_past config history = ap (replay config) (sym (reverse-reverse history)) ∙ replay_of_past config (past_of history)
 
 -- ---- the last insert
 

@@ -5,7 +5,7 @@ use Rattle.std.specs.Option.{option_or}
 use Rattle.std.specs.Cmp.{IsEquivalence}
 use Rattle.std.specs.List.{AllByRecursion, IsDistinct, list_any}
 use Rattle.std.proofs.lemmas.Bool.{ne_eqb, eqb-true}
-use Rattle.std.proofs.lemmas.Cmp.{nat_eq_equiv, on_equiv}
+use Rattle.std.proofs.lemmas.Cmp.{nat_eq_equiv}
 use Rattle.am_alerts.specs.AlertData.{AlertData}
 use Rattle.am_alerts.specs.declared.labels.Label.{Label}
 use Rattle.am_mute.specs.Silence.{SilenceData, silence_of}
@@ -22,7 +22,7 @@ use Rattle.am_board.specs.declared.views.RowView.{RowView}
 use Rattle.am_board.specs.Begin.{is_entry_of, notice_for, deadline_of, begun_group, flush_asking}
 use Rattle.am_board.specs.Configured.{expiry_at}
 use Rattle.am_board.specs.Data.{NoticeData}
-use Rattle.am_board.specs.Entry.{latest_first, known_in, silences_in, firing_in, resolved_in, row_of_begin, begins_group, asked_to_success, logs, unless_expired, entry_in}
+use Rattle.am_board.specs.Entry.{latest_first, known_in, silences_in, firing_in, resolved_in, row_of_begin, begins_group, asked_and_succeeded, logs, unless_expired, entry_in}
 use Rattle.am_board.specs.Finish.{same_key, row_at, log_with, has_succeeded, logged_by, finished, after_finish}
 use Rattle.am_board.specs.History.{entry}
 use Rattle.am_board.specs.Insert.{same_alert, same_member, inserted, after_insert}
@@ -33,10 +33,9 @@ use Rattle.am_board.specs.Past.{moment_at, is_flush, begin_of, was_noted, succee
 use Rattle.am_board.specs.State.{AskedState, FlushState, GroupState, State, moment, is_named, same_name, flush_numbered}
 use Rattle.am_board.specs.Upkeep.{same_silence, silenced, after_silence, has_expired, maintained, after_maintain}
 use Rattle.am_board.proofs.ConsistentBegin.{IsTaken}
-use Rattle.am_board.proofs.ConsistentGroups.{same_key_equiv, same_alert_equiv}
+use Rattle.am_board.proofs.ConsistentGroups.{same_key_equiv, same_alert_equiv, same_silence_equiv}
 use Rattle.am_board.proofs.ConsistentLists.{all-find, all-filter, all-map, all-push, all-weaker, all-both, find-passes}
 use Rattle.am_board.proofs.ConsistentState.{IsOpen, IsSteady}
-use Rattle.am_board.proofs.ListWords.{IsDistinct-put_in}
 use Rattle.am_board.proofs.FoundSteps.{clock-step}
 use Rattle.am_board.proofs.Opened.{notices_at, asked_as, IsOpened, Finds, members-tidy}
 use Rattle.am_board.proofs.PastWords.{unless, find-put, find-without}
@@ -53,11 +52,7 @@ pub record Tells (config : Config) (s : State) (past : List Record) : Type 0 whe
   pub rows : (name : GroupName) (integration : ℕ) → find (is_entry_of name integration) s.rows ≡ entry_in config name integration past
   pub known : (test : AlertData → Bool) → list_any test s.known ≡ list_any test (known_in past)
   pub silences : (test : SilenceData → Bool) → list_any test s.silences ≡ list_any test (silences_in past)
-  pub distinct : IsDistinct same_silence s.silences
   pub told : AllByRecursion (IsToldBy config past) s.flushes
-
-same_silence_equiv : IsEquivalence same_silence
-same_silence_equiv = on_equiv (λ (x : SilenceData). x.id) nat_eq_equiv
 
 -- a record that isn't the flush's begin
 told-step : (config : Config) (r : Record) (past : List Record) (f : FlushState) → is_flush f.number r.reply ≡ false → IsToldBy config past f → IsToldBy config (r ∷ past) f
@@ -123,7 +118,7 @@ module _ (name : GroupName) (i : ℕ) where
 
 -- whom a finish logs is whom the notices say
 logged-found : (config : Config) (n : ℕ) (past : List Record) (f : FlushState) → IsOpened config n past f → (outcomes : List (ℕ × Outcome)) (i : ℕ)
-    → list_any (λ a. i == a.integration) (logged_by outcomes f) ≡ (asked_to_success f.number outcomes past i (begin_of f.number past) && not (was_noted f.number i past))
+    → list_any (λ a. i == a.integration) (logged_by outcomes f) ≡ (asked_and_succeeded f.number outcomes past i (begin_of f.number past) && not (was_noted f.number i past))
 logged-found config n past f o outcomes i =
     any-filter (λ a. i == a.integration) (λ a. has_succeeded outcomes a && not a.noted) f.asked
     ∙ ap (λ asked. list_any (λ a. (has_succeeded outcomes a && not a.noted) && (i == a.integration)) asked) o.asked
@@ -133,7 +128,7 @@ logged-found config n past f o outcomes i =
     ∙ any-and (λ x. (x.integration == i) && succeeded f.number outcomes past x) (not (was_noted f.number i past)) (notices_at (begin_of f.number past))
     ∙ ap (λ b. b && not (was_noted f.number i past)) (begun (begin_of f.number past))
   where
-    begun : (begin : List Record) → list_any (λ x. (x.integration == i) && succeeded f.number outcomes past x) (notices_at begin) ≡ asked_to_success f.number outcomes past i begin
+    begun : (begin : List Record) → list_any (λ x. (x.integration == i) && succeeded f.number outcomes past x) (notices_at begin) ≡ asked_and_succeeded f.number outcomes past i begin
     begun [] = refl
     begun (r ∷ before) = refl
 
@@ -172,20 +167,18 @@ module _ (config : Config) (s : State) (past : List Record) (k : Finds config s 
         rows = l.rows;
         known = latest-any same_alert same_alert_equiv a s.known (known_in past) steady.known l.known;
         silences = l.silences;
-        distinct = l.distinct;
         told = all-weaker (IsToldBy config past) (IsToldBy config (r ∷ past)) (λ f o. told-step config r past f refl o) s.flushes l.told;
       }
 
-  pub tells-silence : (pass now id : ℕ) (matchers : List MatcherParts) (start end : ℕ)
+  pub tells-silence : (pass now id : ℕ) (matchers : List MatcherParts) (start end : ℕ) → IsSteady s
       → Tells config (after_silence s (moment s now) (silence_of id matchers start end)) (entry pass (call.Silence now id matchers start end) (reply_is.Silenced (silenced s (silence_of id matchers start end))) ∷ past)
-  tells-silence pass now id matchers start end =
+  tells-silence pass now id matchers start end steady =
       let x = silence_of id matchers start end in
       let r = entry pass (call.Silence now id matchers start end) (reply_is.Silenced (silenced s x)) in
       record {
         rows = l.rows;
         known = l.known;
-        silences = latest-any same_silence same_silence_equiv x s.silences (silences_in past) l.distinct l.silences;
-        distinct = IsDistinct-put_in same_silence same_silence_equiv x s.silences l.distinct;
+        silences = latest-any same_silence same_silence_equiv x s.silences (silences_in past) steady.silences l.silences;
         told = all-weaker (IsToldBy config past) (IsToldBy config (r ∷ past)) (λ f o. told-step config r past f refl o) s.flushes l.told;
       }
 
@@ -198,7 +191,6 @@ module _ (config : Config) (s : State) (past : List Record) (k : Finds config s 
         rows = λ name i. ap (find (is_entry_of name i)) rows ∙ l.rows name i;
         known = λ test. ap (list_any test) known ∙ l.known test;
         silences = λ test. ap (list_any test) silences ∙ l.silences test;
-        distinct = subst (IsDistinct same_silence) (sym silences) l.distinct;
         told = subst (AllByRecursion (IsToldBy config (r ∷ past))) (sym flushes) (all-weaker (IsToldBy config past) (IsToldBy config (r ∷ past)) (λ f o. told-step config r past f (other f.number) o) s.flushes l.told);
       }
 
@@ -222,7 +214,6 @@ module _ (config : Config) (s : State) (past : List Record) (k : Finds config s 
         rows = l.rows;
         known = l.known;
         silences = l.silences;
-        distinct = l.distinct;
         told =
             all-push (IsToldBy config (r ∷ past)) s.flushes (flush_asking config s t g asked)
             (all-both (IsToldBy config past) (IsOpen next s.groups) (IsToldBy config (r ∷ past))
@@ -251,13 +242,12 @@ module _ (config : Config) (s : State) (past : List Record) (k : Finds config s 
             ∙ or-there (same_name name f.group && list_any (λ a. i == a.integration) (logged_by outcomes f)) (logs name i past r.call) (row_of_begin config (moment_at (r ∷ past)) i (begin_of number past)) (row_at config t f i)
             (find (is_entry_of name i) s.rows) (entry_in config name i past)
             (ap (λ b. same_name name f.group && b) (logged-found config s.inserts past f o outcomes i)
-            ∙ ap (λ b. b && (asked_to_success f.number outcomes past i (begin_of f.number past) && not (was_noted f.number i past))) (sym (told.group name))
-            ∙ ap (λ n. begins_group name (begin_of n past) && (asked_to_success n outcomes past i (begin_of n past) && not (was_noted n i past))) same)
+            ∙ ap (λ b. b && (asked_and_succeeded f.number outcomes past i (begin_of f.number past) && not (was_noted f.number i past))) (sym (told.group name))
+            ∙ ap (λ n. begins_group name (begin_of n past) && (asked_and_succeeded n outcomes past i (begin_of n past) && not (was_noted n i past))) same)
             (ap (λ u. row_of_begin config u i (begin_of number past)) (sym at) ∙ ap (λ n. row_of_begin config t i (begin_of n past)) (sym same) ∙ told.row t i)
             (l.rows name i);
         known = l.known;
         silences = l.silences;
-        distinct = l.distinct;
         told =
             all-filter (IsToldBy config (r ∷ past)) (λ h. not (h.number == f.number)) s.flushes
             (all-weaker (IsToldBy config past) (IsToldBy config (r ∷ past)) (λ h o. told-step config r past h refl o) s.flushes l.told);
@@ -276,7 +266,6 @@ module _ (config : Config) (s : State) (past : List Record) (k : Finds config s 
             ∙ by (moment_at (r ∷ past)) (entry_in config name i past);
         known = l.known;
         silences = l.silences;
-        distinct = l.distinct;
         told = all-weaker (IsToldBy config past) (IsToldBy config (r ∷ past)) (λ f o. told-step config r past f refl o) s.flushes l.told;
       }
     where
@@ -302,7 +291,6 @@ module _ (config : Config) (s : State) (past : List Record) (k : Finds config s 
             (l.rows name i);
         known = l.known;
         silences = l.silences;
-        distinct = l.distinct;
         told =
             all-map (λ h. cond (h.number == f.number) (with_note n h) h) (IsToldBy config (r ∷ past)) s.flushes
             (all-weaker (IsToldBy config past) (λ h. IsToldBy config (r ∷ past) (cond (h.number == f.number) (with_note n h) h))

@@ -1,17 +1,10 @@
--- What lists of alerts have in common that have the same elements: what passes a test among them, and their label sets in order.
-use Rattle.std.proofs.Common.{◌≡◌, Bool, true, false, cond, not, ◌&&◌, ◌||◌, Option, Some, None, List, [], ◌∷◌, map, refl, sym, ap, ◌∙◌, subst}
+-- What passes a test among the elements of lists, and what is found where no two are alike.
+use Rattle.std.proofs.Common.{◌≡◌, Bool, true, false, cond, not, ◌&&◌, ◌||◌, Option, Some, None, List, [], ◌∷◌, map, refl, sym, ap, ◌∙◌}
 use Rattle.std.specs.Prelude.{find, filter}
 use Rattle.std.specs.Cmp.{IsEquivalence}
-use Rattle.std.specs.List.{AllByRecursion, IsDistinct, list_any, list_all, filter_map, cons_option}
-use Rattle.std.specs.Ordering.{is_lt, is_eq, ordering_reverse}
-use Rattle.std.specs.declared.cmp.Ordering.{Ordering}
-use Rattle.std.specs.declared.cmp.Ordering.TheVariants.{Less, Equal, Greater}
+use Rattle.std.specs.List.{AllByRecursion, IsDistinct, list_any, filter_map, cons_option}
 use Rattle.std.proofs.lemmas.Bool.{false≢true}
 use Rattle.std.proofs.lemmas.Map.Keys.{IsDistinct-head, IsDistinct-tail, IsDistinct-cons}
-use Rattle.am_alerts.specs.Labels.{same_label_set, label_set_cmp}
-use Rattle.am_alerts.specs.LabelOrder.{same_label_set_equiv, same_label_set-decides, same_label_set-cmp, label_set_cmp_total}
-use Rattle.am_alerts.specs.declared.labels.Label.{Label}
-use Rattle.am_nflog.specs.Members.{is_ascending, is_member}
 use Rattle.am_board.specs.Lists.{put_in, without}
 use Rattle.am_board.proofs.ConsistentLists.{IsDistinct-filter, all-weaker, all-passes}
 
@@ -44,7 +37,7 @@ module _ {X : Type 0} where
       by false b d = refl
 
   -- those that aren't like one, where none is
-  without-none : (like : X → X → Bool) (x : X) (xs : List X) → AllByRecursion (λ y. like x y ≡ false) xs → without (like x) xs ≡ xs
+  pub without-none : (like : X → X → Bool) (x : X) (xs : List X) → AllByRecursion (λ y. like x y ≡ false) xs → without (like x) xs ≡ xs
   without-none like x [] all = refl
   without-none like x (y ∷ ys) all =
       ap (λ b. cond (not b) (y ∷ without (like x) ys) (without (like x) ys)) all.0 ∙ ap (λ zs. y ∷ zs) (without-none like x ys all.1)
@@ -116,79 +109,14 @@ any-found {X} like test also tells (x ∷ xs) h =
     none [] all own = refl
     none (y ∷ ys) all own = ap (λ b. b || list_any (λ z. test z && also z) ys) (no y (test y) refl all.0 own) ∙ none ys all.1 own
 
--- ---- label sets in order
-
--- what is below each is apart from each
-lt_apart : (a b : List Label) → is_lt (label_set_cmp a b) ≡ true → same_label_set a b ≡ false
-lt_apart a b h = same_label_set-cmp a b ∙ by (label_set_cmp a b) h
+-- where no two are alike, each is found by what it is like
+pub each-found : {X : Type 0} (like : X → X → Bool) → IsEquivalence like → (xs : List X) → IsDistinct like xs → AllByRecursion (λ x. find (like x) xs ≡ Some x) xs
+each-found like laws [] h = tt
+each-found {X} like laws (x ∷ xs) h = (
+  ap (λ b. cond b (Some x) (find (like x) xs)) (laws.refl x),
+  others xs (IsDistinct-head like x xs h) (each-found like laws xs (IsDistinct-tail like x xs h)),
+)
   where
-    by : (o : Ordering) → is_lt o ≡ true → is_eq o ≡ false
-    by Less e = refl
-    by Equal e = absurd (false≢true e)
-    by Greater e = absurd (false≢true e)
-
-lt_one_way : (a b : List Label) → is_lt (label_set_cmp a b) ≡ true → is_lt (label_set_cmp b a) ≡ true → ⊥
-lt_one_way a b h k = by (label_set_cmp b a) (ap is_lt (sym (label_set_cmp_total.antisymm a b)) ∙ h) k
-  where
-    by : (o : Ordering) → is_lt (ordering_reverse o) ≡ true → is_lt o ≡ true → ⊥
-    by Less e f = false≢true e
-    by Equal e f = false≢true e
-    by Greater e f = false≢true f
-
--- what all are above, each member is above
-below_member : (a z : List Label) (xs : List (List Label)) → list_all (λ w. is_lt (label_set_cmp a w)) xs ≡ true → is_member same_label_set z xs ≡ true → is_lt (label_set_cmp a z) ≡ true
-below_member a z [] all e = absurd (false≢true e)
-below_member a z (x ∷ xs) all e = by (same_label_set z x) (is_lt (label_set_cmp a x)) refl refl (below_member a z xs) all e
-  where
-    by : (b c : Bool) → same_label_set z x ≡ b → is_lt (label_set_cmp a x) ≡ c → (list_all (λ w. is_lt (label_set_cmp a w)) xs ≡ true → is_member same_label_set z xs ≡ true → is_lt (label_set_cmp a z) ≡ true) → (c && list_all (λ w. is_lt (label_set_cmp a w)) xs) ≡ true → (b || is_member same_label_set z xs) ≡ true → is_lt (label_set_cmp a z) ≡ true
-    by b false f g rest h k = absurd (false≢true h)
-    by true true f g rest h k = subst (λ l. is_lt (label_set_cmp a l) ≡ true) (sym ((same_label_set-decides z x).0 f)) g
-    by false true f g rest h k = rest h k
-
--- lists of label sets that rise strictly and have the same members are one list
-pub same_ascending : (xs ys : List (List Label)) → is_ascending label_set_cmp xs ≡ true → is_ascending label_set_cmp ys ≡ true
-    → ((z : List Label) → is_member same_label_set z xs ≡ is_member same_label_set z ys) → xs ≡ ys
-same_ascending [] [] up also same = refl
-same_ascending [] (y ∷ ys) up also same = absurd (false≢true (same y ∙ ap (λ b. b || is_member same_label_set y ys) (same_label_set_equiv.refl y)))
-same_ascending (x ∷ xs) [] up also same = absurd (false≢true (sym (same x) ∙ ap (λ b. b || is_member same_label_set x xs) (same_label_set_equiv.refl x)))
-same_ascending (x ∷ xs) (y ∷ ys) up also same = by (same_label_set x y) refl (same_ascending xs ys (later x xs up) (later y ys also))
-  where
-    later : (z : List Label) (zs : List (List Label)) → is_ascending label_set_cmp (z ∷ zs) ≡ true → is_ascending label_set_cmp zs ≡ true
-    later z zs e = two (list_all (λ w. is_lt (label_set_cmp z w)) zs) (is_ascending label_set_cmp zs) e
-      where
-        two : (a b : Bool) → (a && b) ≡ true → b ≡ true
-        two true b h = h
-        two false b h = absurd (false≢true h)
-
-    above : (z : List Label) (zs : List (List Label)) → is_ascending label_set_cmp (z ∷ zs) ≡ true → list_all (λ w. is_lt (label_set_cmp z w)) zs ≡ true
-    above z zs e = one (list_all (λ w. is_lt (label_set_cmp z w)) zs) (is_ascending label_set_cmp zs) e
-      where
-        one : (a b : Bool) → (a && b) ≡ true → a ≡ true
-        one true b h = refl
-        one false b h = absurd (false≢true h)
-
-    -- the head is no member of the tail
-    apart : (z w : List Label) (zs : List (List Label)) → is_ascending label_set_cmp (z ∷ zs) ≡ true → same_label_set w z ≡ true → is_member same_label_set w zs ≡ false
-    apart z w zs e own = no (is_member same_label_set w zs) refl
-      where
-        no : (b : Bool) → is_member same_label_set w zs ≡ b → b ≡ false
-        no true h =
-            let below = below_member z w zs (above z zs e) h in
-            absurd (false≢true (sym (lt_apart z w below) ∙ (same_label_set_equiv.symm z w ∙ own)))
-        no false h = refl
-
-    tails : x ≡ y → (z : List Label) → is_member same_label_set z xs ≡ is_member same_label_set z ys
-    tails e z = either (same_label_set z x) refl
-      where
-        either : (b : Bool) → same_label_set z x ≡ b → is_member same_label_set z xs ≡ is_member same_label_set z ys
-        either true own = apart x z xs up own ∙ sym (apart y z ys also (subst (λ l. same_label_set z l ≡ true) e own))
-        either false other =
-            sym (ap (λ b. b || is_member same_label_set z xs) other) ∙ same z
-            ∙ ap (λ b. b || is_member same_label_set z ys) (subst (λ l. same_label_set z l ≡ false) e other)
-
-    by : (b : Bool) → same_label_set x y ≡ b → (((z : List Label) → is_member same_label_set z xs ≡ is_member same_label_set z ys) → xs ≡ ys) → x ∷ xs ≡ y ∷ ys
-    by true e rest = let one = (same_label_set-decides x y).0 e in ap (λ z. z ∷ xs) one ∙ ap (λ zs. y ∷ zs) (rest (tails one))
-    by false e rest =
-        let in_ys : is_member same_label_set x ys ≡ true = sym (ap (λ b. b || is_member same_label_set x ys) e) ∙ sym (same x) ∙ ap (λ b. b || is_member same_label_set x xs) (same_label_set_equiv.refl x) in
-        let in_xs : is_member same_label_set y xs ≡ true = sym (ap (λ b. b || is_member same_label_set y xs) (same_label_set_equiv.symm y x ∙ e)) ∙ same y ∙ ap (λ b. b || is_member same_label_set y ys) (same_label_set_equiv.refl y) in
-        absurd (lt_one_way x y (below_member x y xs (above x xs up) in_xs) (below_member y x ys (above y ys also) in_ys))
+    others : (ys : List X) → AllByRecursion (λ y. like x y ≡ false) ys → AllByRecursion (λ y. find (like y) xs ≡ Some y) ys → AllByRecursion (λ y. cond (like y x) (Some x) (find (like y) xs) ≡ Some y) ys
+    others [] apart all = tt
+    others (y ∷ ys) apart all = (ap (λ b. cond b (Some x) (find (like y) xs)) (laws.symm y x ∙ apart.0) ∙ all.0, others ys apart.1 all.1)

@@ -1,37 +1,37 @@
--- What a begin tells is what looking back finds: the label sets that fire and those that are resolved, from the history alone.
+-- What a begin lists is what looking back finds: the alerts that fire and those that are resolved, from the history alone.
 use Rattle.std.proofs.Common.{◌≡◌, ℕ, Bool, true, false, cond, not, ◌&&◌, ◌||◌, Option, Some, None, List, [], ◌∷◌, map, refl, sym, ap, ◌∙◌, subst}
-use Rattle.std.specs.Prelude.{filter, is_some}
+use Rattle.std.specs.Prelude.{IsPermutation, filter, count_by, is_some}
 use Rattle.std.specs.List.{AllByRecursion, IsDistinct, list_any, filter_map, cons_option}
-use Rattle.std.proofs.lemmas.List.Sorted.{list_any-IsPermutation}
+use Rattle.std.proofs.lemmas.List.Sorted.{IsPermutation-map}
 use Rattle.std.proofs.lemmas.Map.Keys.{IsDistinct-head, IsDistinct-tail, IsDistinct-cons}
-use Rattle.am_alerts.specs.AlertData.{AlertData, is_resolved, alert_of}
-use Rattle.am_alerts.specs.Labels.{same_label_set, label_set_cmp}
-use Rattle.am_alerts.specs.LabelOrder.{same_label_set_equiv, same_label_set-decides, same_label_set-cmp, label_set_cmp_total}
+use Rattle.am_alerts.specs.AlertData.{AlertData, is_resolved}
+use Rattle.am_alerts.specs.Labels.{same_label_set}
+use Rattle.am_alerts.specs.LabelOrder.{same_label_set_equiv, same_label_set-decides}
 use Rattle.am_alerts.specs.declared.labels.Label.{Label}
 use Rattle.am_mute.specs.Inhibit.{RuleData, is_inhibited_by}
 use Rattle.am_mute.specs.Mute.{is_muted}
 use Rattle.am_mute.specs.Silence.{SilenceData, silence_mutes}
 use Rattle.am_alerts.specs.Matcher.{match_all}
-use Rattle.am_nflog.specs.Members.{is_member}
 use Rattle.am_board.specs.declared.config.Config.{Config}
 use Rattle.am_board.specs.declared.group.GroupName.{GroupName}
 use Rattle.am_board.specs.declared.record.Call.{Call}
 use Rattle.am_board.specs.declared.record.Call.TheVariants.{Insert, Silence, Begin, Finish, Maintain, Note}
 use Rattle.am_board.specs.declared.record.Record.{Record}
-use Rattle.am_board.specs.Begin.{alert_cmp, copied, label_sets, firing_of, resolved_of, copy_of}
+use Rattle.am_board.specs.Begin.{alert_cmp, copied, label_sets, firing_of, resolved_of, copy_of, count_resolved}
 use Rattle.am_board.specs.Configured.{rules_of}
-use Rattle.am_board.specs.Entry.{latest_first, alert_in, known_in, silences_in, present_in, unmuted_in, firing_in, resolved_in}
+use Rattle.am_board.specs.Entry.{latest_first, alert_in, known_in, silences_in, present_in, without_end, firing_alerts_in, resolved_alerts_in, firing_in, resolved_in}
 use Rattle.am_board.specs.Insert.{same_alert, same_member}
 use Rattle.am_board.specs.Lists.{without, in_order}
 use Rattle.am_board.specs.LookBack.{member_with}
 use Rattle.am_board.specs.Presence.{goes_to, inserts, inserted_by, stamp_told, last_insert, has_left, unless_left, presence}
 use Rattle.am_board.specs.State.{MemberState, GroupState, State}
 use Rattle.am_board.proofs.ConsistentLists.{IsDistinct-nil}
-use Rattle.am_board.proofs.InOrder.{in_order-ascends, apart_by_ties, label_sets-ascend, labels-copied, IsDistinct-alerts, IsDistinct-filter, IsDistinct-map, IsDistinct-copy}
-use Rattle.am_board.proofs.ListWords.{in_order-moves}
+use Rattle.am_board.proofs.Exchanges.{filter-permutation, without-permutation, count_by-permutation}
+use Rattle.am_board.proofs.InOrder.{in_order-alerts, labels-copied, IsDistinct-firing, IsDistinct-resolved}
 use Rattle.am_board.proofs.Pasts.{last_insert-labels}
 use Rattle.am_board.proofs.PastWords.{has_labels}
-use Rattle.am_board.proofs.SetWords.{any-filter, any-alike, any-and, any-found, any-map, any-filter_map, latest-distinct, passes, same_ascending}
+use Rattle.am_board.proofs.SameAlerts.{same-members}
+use Rattle.am_board.proofs.SetWords.{any-filter, any-alike, any-and, any-filter_map, latest-distinct, passes}
 
 -- ---- the known alerts of a past
 
@@ -150,86 +150,136 @@ module _ (config : Config) (name : GroupName) (past : List Record) where
           by None e rest all = rest
           by (Some m) e rest all = IsDistinct-cons same_member m (filter_map (λ b. presence config name b.labels past) xs) (apart a m e xs all) rest
 
--- ---- what a begin tells
+  -- looking among those present finds what is present
+  pub present-found : (labels : List Label) → member_with labels (present_in config name past) ≡ presence config name labels past
+  present-found labels =
+      among (known_in past) ∙ ap (λ b. cond b (presence config name labels past) None) (known-inserted labels past) ∙ inserted (presence config name labels past) refl
+    where
+      either : (b : Bool) (o : Option MemberState) → cond b o o ≡ o
+      either true o = refl
+      either false o = refl
+
+      inserted : (o : Option MemberState) → presence config name labels past ≡ o → cond (is_some (last_insert labels past)) o None ≡ o
+      inserted None e = either (is_some (last_insert labels past)) None
+      inserted (Some m) e = ap (λ o. cond (is_some o) (Some m) None) (presence-inserted labels m e)
+
+      absent : (xs : List AlertData) → presence config name labels past ≡ None → cond (list_any (λ a. same_label_set labels a.labels) xs) (presence config name labels past) None ≡ None
+      absent xs e = ap (λ o. cond (list_any (λ a. same_label_set labels a.labels) xs) o None) e ∙ either (list_any (λ a. same_label_set labels a.labels) xs) None
+
+      among : (xs : List AlertData) → member_with labels (filter_map (λ a. presence config name a.labels past) xs) ≡ cond (list_any (λ a. same_label_set labels a.labels) xs) (presence config name labels past) None
+      among [] = refl
+      among (a ∷ xs) = by (presence config name a.labels past) refl (same_label_set labels a.labels) refl (among xs)
+        where
+          by : (o : Option MemberState) → presence config name a.labels past ≡ o → (b : Bool) → same_label_set labels a.labels ≡ b
+              → member_with labels (filter_map (λ a. presence config name a.labels past) xs) ≡ cond (list_any (λ a. same_label_set labels a.labels) xs) (presence config name labels past) None
+              → member_with labels (cons_option o (filter_map (λ a. presence config name a.labels past) xs)) ≡ cond (b || list_any (λ a. same_label_set labels a.labels) xs) (presence config name labels past) None
+          by None e true own rest =
+              let same : labels ≡ a.labels = (same_label_set-decides labels a.labels).0 own in
+              let gone : presence config name labels past ≡ None = subst (λ l. presence config name l past ≡ None) (sym same) e in
+              rest ∙ absent xs gone ∙ sym gone
+          by None e false other rest = rest
+          by (Some m) e true own rest =
+              let same : labels ≡ a.labels = (same_label_set-decides labels a.labels).0 own in
+              let there : presence config name labels past ≡ Some m = subst (λ l. presence config name l past ≡ Some m) (sym same) e in
+              ap (λ b. cond b (Some m) (member_with labels (filter_map (λ a. presence config name a.labels past) xs))) (presence-labels labels m there) ∙ sym there
+          by (Some m) e false other rest =
+              let apart : same_label_set labels m.alert.labels ≡ false =
+              same_label_set_equiv.symm labels m.alert.labels ∙ sym (same_label_set_equiv.congr a.labels m.alert.labels labels (presence-labels a.labels m e)) ∙ same_label_set_equiv.symm a.labels labels ∙ other in
+              ap (λ b. cond b (Some m) (member_with labels (filter_map (λ a. presence config name a.labels past) xs))) apart ∙ rest
+
+  -- alerts of which no two have one label set, and among which looking finds what is present, are those present
+  pub members-present : (members : List MemberState) → IsDistinct same_member members → ((labels : List Label) → member_with labels members ≡ presence config name labels past) → IsPermutation members (present_in config name past)
+  members-present members apart there = same-members members (present_in config name past) apart present-distinct (λ labels. there labels ∙ sym (present-found labels))
+
+-- ---- a copy, alert by alert
+
+module _ (t : ℕ) where
+  abbrev unresolved : List AlertData → List AlertData
+  unresolved xs = without (λ a. is_resolved a t) xs
+
+  abbrev resolved : List AlertData → List AlertData
+  resolved xs = filter (λ a. is_resolved a t) xs
+
+  one-firing : (a : AlertData) (xs ys : List AlertData) → unresolved xs ≡ map without_end (unresolved ys) → (b : Bool) → is_resolved a t ≡ b → (c : Bool)
+      → unresolved (cond (not c) (cond b a (without_end a) ∷ xs) xs) ≡ map without_end (unresolved (cond (not c) (a ∷ ys) ys))
+  one-firing a xs ys rest b e true = rest
+  one-firing a xs ys rest true e false =
+      ap (λ b. cond (not b) (a ∷ unresolved xs) (unresolved xs)) e ∙ rest ∙ sym (ap (λ b. map without_end (cond (not b) (a ∷ unresolved ys) (unresolved ys))) e)
+  one-firing a xs ys rest false e false =
+      ap (λ l. without_end a ∷ l) rest ∙ sym (ap (λ b. map without_end (cond (not b) (a ∷ unresolved ys) (unresolved ys))) e)
+
+  one-resolved : (a : AlertData) (xs ys : List AlertData) → resolved xs ≡ resolved ys → (b : Bool) → is_resolved a t ≡ b → (c : Bool)
+      → resolved (cond (not c) (cond b a (without_end a) ∷ xs) xs) ≡ resolved (cond (not c) (a ∷ ys) ys)
+  one-resolved a xs ys rest b e true = rest
+  one-resolved a xs ys rest true e false = ap (λ l. cond (is_resolved a t) (a ∷ l) l) rest
+  one-resolved a xs ys rest false e false = rest ∙ sym (ap (λ b. cond b (a ∷ resolved ys) (resolved ys)) e)
+
+  module _ (muted : List Label → Bool) where
+    abbrev heard : List AlertData → List AlertData
+    heard xs = without (λ a. muted a.labels) xs
+
+    -- what fires in a copy is what fires in the group, without its end
+    copied-firing : (ms : List MemberState) → unresolved (heard (map (λ m. copied t m.alert) ms)) ≡ map without_end (unresolved (heard (map (λ m. m.alert) ms)))
+    copied-firing [] = refl
+    copied-firing (m ∷ ms) =
+        let xs = heard (map (λ n. copied t n.alert) ms) in
+        (λ j. unresolved (cond (not (muted (labels-copied t m.alert j))) (copied t m.alert ∷ xs) xs))
+        ∙ one-firing m.alert xs (heard (map (λ n. n.alert) ms)) (copied-firing ms) (is_resolved m.alert t) refl (muted m.alert.labels)
+
+    -- what is resolved in it is what is resolved in the group
+    copied-resolved : (ms : List MemberState) → resolved (heard (map (λ m. copied t m.alert) ms)) ≡ resolved (heard (map (λ m. m.alert) ms))
+    copied-resolved [] = refl
+    copied-resolved (m ∷ ms) =
+        let xs = heard (map (λ n. copied t n.alert) ms) in
+        (λ j. resolved (cond (not (muted (labels-copied t m.alert j))) (copied t m.alert ∷ xs) xs))
+        ∙ one-resolved m.alert xs (heard (map (λ n. n.alert) ms)) (copied-resolved ms) (is_resolved m.alert t) refl (muted m.alert.labels)
+
+-- ---- what a begin lists
 
 module _ (config : Config) (s : State) (past : List Record)
     (known : (test : AlertData → Bool) → list_any test s.known ≡ list_any test (known_in past))
     (silences : (test : SilenceData → Bool) → list_any test s.silences ≡ list_any test (silences_in past)) where
-  pub muted-found : (labels : List Label) (t : ℕ) → is_muted labels t s.silences (rules_of config) s.known ≡ is_muted labels t (silences_in past) (rules_of config) (known_in past)
+  muted-found : (labels : List Label) (t : ℕ) → is_muted labels t s.silences (rules_of config) s.known ≡ is_muted labels t (silences_in past) (rules_of config) (known_in past)
   muted-found labels t = (λ j. silences (λ x. silence_mutes x t labels) j || list_any (λ (r : RuleData). match_all r.target labels && known (λ a. is_inhibited_by r t labels a) j) (rules_of config))
 
-  turn : (n p u : Bool) → (n && (p && u)) ≡ (u && (n && p))
-  turn true true true = refl
-  turn true true false = refl
-  turn true false true = refl
-  turn true false false = refl
-  turn false p true = refl
-  turn false p false = refl
+  module _ (t : ℕ) (g : GroupState) (apart : IsDistinct same_member g.members) (there : (labels : List Label) → member_with labels g.members ≡ presence config g.name labels past) where
+    moved : IsPermutation g.members (present_in config g.name past)
+    moved = members-present config g.name past g.members apart there
 
-  module _ (t : ℕ) (g : GroupState) (part : AlertData → Bool) (copies : (a : AlertData) → part (copied t a) ≡ part a) (apart : IsDistinct same_member g.members)
-      (there : (labels : List Label) → member_with labels g.members ≡ presence config g.name labels past) where
-    -- whether a present alert is told
-    abbrev is_told : MemberState → Bool
-    is_told m = not (is_muted m.alert.labels t (silences_in past) (rules_of config) (known_in past)) && part m.alert
+    abbrev hushed : List Label → Bool
+    hushed labels = is_muted labels t s.silences (rules_of config) s.known
 
-    told-state : (l : List Label) → is_member same_label_set l (label_sets (in_order alert_cmp (filter part (copy_of config s t g)))) ≡ passes is_told (member_with l g.members)
-    told-state l =
-        let rules = rules_of config in
-        let own : AlertData → Bool = λ a. same_label_set l a.labels in
-        let heard : AlertData → Bool = λ a. not (is_muted a.labels t s.silences rules s.known) in
-        any-map (same_label_set l) (λ (a : AlertData). a.labels) (in_order alert_cmp (filter part (copy_of config s t g)))
-        ∙ sym (list_any-IsPermutation own (filter part (copy_of config s t g)) (in_order alert_cmp (filter part (copy_of config s t g))) (in_order-moves alert_cmp (filter part (copy_of config s t g))))
-        ∙ any-filter own part (copy_of config s t g)
-        ∙ any-filter (λ a. part a && own a) heard (map (λ (m : MemberState). copied t m.alert) g.members)
-        ∙ any-map (λ a. heard a && (part a && own a)) (λ (m : MemberState). copied t m.alert) g.members
-        ∙ any-alike (λ m. heard (copied t m.alert) && (part (copied t m.alert) && own (copied t m.alert))) (λ m. has_labels l m && is_told m) each g.members
-        ∙ any-found same_member (has_labels l) is_told (λ m n e f. sym (same_label_set_equiv.congr l m.alert.labels n.alert.labels e) ∙ f) g.members apart
-      where
-        each : (m : MemberState) → (not (is_muted (copied t m.alert).labels t s.silences (rules_of config) s.known) && (part (copied t m.alert) && same_label_set l (copied t m.alert).labels)) ≡ (has_labels l m && is_told m)
-        each m =
-            (λ j. not (is_muted (labels-copied t m.alert j) t s.silences (rules_of config) s.known) && (copies m.alert j && same_label_set l (labels-copied t m.alert j)))
-            ∙ ap (λ b. not b && (part m.alert && same_label_set l m.alert.labels)) (muted-found m.alert.labels t)
-            ∙ turn (not (is_muted m.alert.labels t (silences_in past) (rules_of config) (known_in past))) (part m.alert) (same_label_set l m.alert.labels)
+    abbrev hushed_then : List Label → Bool
+    hushed_then labels = is_muted labels t (silences_in past) (rules_of config) (known_in past)
 
-    told-past : (l : List Label) → is_member same_label_set l (in_order label_set_cmp (label_sets (filter part (unmuted_in config g.name t past)))) ≡ passes is_told (presence config g.name l past)
-    told-past l =
-        let own : AlertData → Bool = λ a. same_label_set l a.labels in
-        let heard : AlertData → Bool = λ a. not (is_muted a.labels t (silences_in past) (rules_of config) (known_in past)) in
-        let present = present_in config g.name past in
-        sym (list_any-IsPermutation (same_label_set l) (label_sets (filter part (unmuted_in config g.name t past))) (in_order label_set_cmp (label_sets (filter part (unmuted_in config g.name t past)))) (in_order-moves label_set_cmp (label_sets (filter part (unmuted_in config g.name t past)))))
-        ∙ any-map (same_label_set l) (λ (a : AlertData). a.labels) (filter part (unmuted_in config g.name t past))
-        ∙ any-filter own part (unmuted_in config g.name t past)
-        ∙ any-filter (λ a. part a && own a) heard (map (λ (m : MemberState). m.alert) present)
-        ∙ any-map (λ a. heard a && (part a && own a)) (λ (m : MemberState). m.alert) present
-        ∙ any-alike (λ m. heard m.alert && (part m.alert && own m.alert)) (λ m. has_labels l m && is_told m)
-        (λ m. turn (heard m.alert) (part m.alert) (own m.alert)) present
-        ∙ present-passes config g.name past l is_told
+    abbrev copy_then : List AlertData
+    copy_then = heard t hushed (map (λ m. copied t m.alert) (present_in config g.name past))
 
-    pub told-same : label_sets (in_order alert_cmp (filter part (copy_of config s t g))) ≡ in_order label_set_cmp (label_sets (filter part (unmuted_in config g.name t past)))
-    told-same =
-        let state = filter part (copy_of config s t g) in
-        let found = filter part (unmuted_in config g.name t past) in
-        let heard : AlertData → Bool = λ a. not (is_muted a.labels t (silences_in past) (rules_of config) (known_in past)) in
-        let distinct : IsDistinct same_alert found =
-        IsDistinct-filter same_alert part (unmuted_in config g.name t past)
-        (IsDistinct-filter same_alert heard (map (λ (m : MemberState). m.alert) (present_in config g.name past)) (IsDistinct-alerts (present_in config g.name past) (present-distinct config g.name past))) in
-        same_ascending (label_sets (in_order alert_cmp state)) (in_order label_set_cmp (label_sets found))
-        (label_sets-ascend state (IsDistinct-filter same_alert part (copy_of config s t g) (IsDistinct-copy (rules_of config) s t g apart)))
-        (in_order-ascends label_set_cmp label_set_cmp_total (label_sets found) (apart_by_ties same_label_set label_set_cmp same_label_set-cmp (label_sets found) (IsDistinct-map same_alert same_label_set (λ (a : AlertData). a.labels) (λ a b. refl) found distinct)))
-        (λ l. told-state l ∙ ap (passes is_told) (there l) ∙ sym (told-past l))
+    copy-moved : IsPermutation (copy_of config s t g) copy_then
+    copy-moved =
+        without-permutation (λ a. hushed a.labels) (map (λ m. copied t m.alert) g.members) (map (λ m. copied t m.alert) (present_in config g.name past))
+        (IsPermutation-map (λ m. copied t m.alert) g.members (present_in config g.name past) moved)
 
-  resolved-copied : (t : ℕ) (a : AlertData) → is_resolved (copied t a) t ≡ is_resolved a t
-  resolved-copied t a = by (is_resolved a t) refl
-    where
-      by : (b : Bool) → is_resolved a t ≡ b → is_resolved (cond b a (alert_of a.labels a.starts None)) t ≡ b
-      by true e = e
-      by false e = refl
+    -- the alerts that a begin of the group lists as firing, and those that it lists as resolved
+    pub firing-same : firing_of config s t g ≡ firing_alerts_in config g.name t past
+    firing-same =
+        in_order-alerts (unresolved t (copy_of config s t g)) (unresolved t copy_then) (without-permutation (λ a. is_resolved a t) (copy_of config s t g) copy_then copy-moved) (IsDistinct-firing config s t g apart)
+        ∙ (λ j. in_order alert_cmp (unresolved t (without (λ a. muted-found a.labels t j) (map (λ m. copied t m.alert) (present_in config g.name past)))))
+        ∙ ap (in_order alert_cmp) (copied-firing t hushed_then (present_in config g.name past))
 
-  -- the label sets that a begin at t of a group tells as firing, and as resolved
-  pub firing-found : (t : ℕ) (g : GroupState) → IsDistinct same_member g.members → ((labels : List Label) → member_with labels g.members ≡ presence config g.name labels past)
-      → label_sets (firing_of config s t g) ≡ firing_in config g.name t past
-  firing-found t g apart there = told-same t g (λ a. not (is_resolved a t)) (λ a. ap not (resolved-copied t a)) apart there
+    pub resolved-same : resolved_of config s t g ≡ resolved_alerts_in config g.name t past
+    resolved-same =
+        in_order-alerts (resolved t (copy_of config s t g)) (resolved t copy_then) (filter-permutation (λ a. is_resolved a t) (copy_of config s t g) copy_then copy-moved) (IsDistinct-resolved config s t g apart)
+        ∙ (λ j. in_order alert_cmp (resolved t (without (λ a. muted-found a.labels t j) (map (λ m. copied t m.alert) (present_in config g.name past)))))
+        ∙ ap (in_order alert_cmp) (copied-resolved t hushed_then (present_in config g.name past))
 
-  pub resolved-found : (t : ℕ) (g : GroupState) → IsDistinct same_member g.members → ((labels : List Label) → member_with labels g.members ≡ presence config g.name labels past)
-      → label_sets (resolved_of config s t g) ≡ resolved_in config g.name t past
-  resolved-found t g apart there = told-same t g (λ a. is_resolved a t) (resolved-copied t) apart there
+    -- and their label sets
+    pub firing-found : label_sets (firing_of config s t g) ≡ firing_in config g.name t past
+    firing-found = ap label_sets firing-same
+
+    pub resolved-found : label_sets (resolved_of config s t g) ≡ resolved_in config g.name t past
+    resolved-found = ap label_sets resolved-same
+
+    -- how many of the group are resolved
+    pub count-same : count_resolved t g ≡ count_by (λ m. is_resolved m.alert t) (present_in config g.name past)
+    count-same = sym (count_by-permutation (λ m. is_resolved m.alert t) g.members (present_in config g.name past) moved)

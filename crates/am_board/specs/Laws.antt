@@ -5,15 +5,15 @@ use Rattle.am_alerts.specs.declared.limits.TheConstants.{MAX_MOMENT}
 use Rattle.am_nflog.specs.Members.{is_empty}
 use Rattle.am_board.specs.declared.config.Config.{Config}
 use Rattle.am_board.specs.declared.group.GroupName.{GroupName}
-use Rattle.am_board.specs.declared.record.Call.{Call}
-use Rattle.am_board.specs.declared.record.Call.TheVariants.{Insert, Silence, Begin, Finish, Maintain, Note}
 use Rattle.am_board.specs.declared.record.Record.{Record}
 use Rattle.am_board.specs.declared.record.Reply.{Reply}
 use Rattle.am_board.specs.declared.record.Reply.TheVariants.{Inserted, Silenced, NothingDue, Quiet, Flush, Finished, Maintained, Noted}
+use Rattle.am_board.specs.Calls.{now_of}
 use Rattle.am_board.specs.Configured.{route_of}
 use Rattle.am_board.specs.Finish.{same_key}
 use Rattle.am_board.specs.Insert.{same_alert, same_member, same_group}
 use Rattle.am_board.specs.Replay.{reply, after, replay, IsLegal}
+use Rattle.am_board.specs.Upkeep.{same_silence}
 use Rattle.am_board.specs.State.{GroupState, AskedState, FlushState, State, opening_state, same_name, has_group, members_in}
 
 -- one record more is one step more
@@ -27,15 +27,6 @@ abbrev pub LegalAppends : Type 0
 LegalAppends =
     (config : Config) (id : ℕ) (history : List Record) (r : Record)
     → IsLegal config id (history ++ r ∷ []) ↔ (IsLegal config id history × (reply config id (replay config history) r.call ≡ Some r.reply))
-
--- the moment that a call hands in
-abbrev pub now_of : Call → ℕ
-now_of (Insert now alert) = now
-now_of (Silence now number matchers start end) = now
-now_of (Begin now) = now
-now_of (Finish now number outcomes) = now
-now_of (Maintain now) = now
-now_of (Note now number integration outcome) = now
 
 -- moment of a history: the greatest moment that its calls handed in, each at most the greatest there is
 abbrev pub moment_of : List Record → ℕ
@@ -107,6 +98,7 @@ pub record IsConsistent (s : State) : Type 0 where
   pub groups : IsDistinct same_group s.groups
   pub members : All (λ g. IsDistinct same_member g.members) s.groups
   pub stamps : All (λ g. All (λ m. m.stamp ≤ s.inserts) g.members) s.groups
+  pub silences : IsDistinct same_silence s.silences
   pub rows : IsDistinct same_key s.rows
   pub flushes : IsDistinct same_flushed s.flushes
   pub numbers : IsDistinct same_number s.flushes

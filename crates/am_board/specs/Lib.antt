@@ -1,5 +1,6 @@
 pub mod Begin
 pub mod Board
+pub mod Calls
 pub mod Causes
 pub mod Config
 pub mod Configured

@@ -1,6 +1,8 @@
 //! Laws of histories.
 ghost use Rattle.am_board.specs.Laws.{ReplayAppends, LegalAppends, ClockIsMoment, LegalKeeps};
-ghost use Rattle.am_board.specs.LookBack.{AlertsAreFound, RowsAreFound, RowsWereTold, RefiringAlertsStay, FlushesEndOnce, BeginsAskRightly, HistoriesLookBack};
+ghost use Rattle.am_board.specs.LookBack.{EveryLegalHistory, AlertsAreFound, ShownAlertsAreFound, RowsAreFound, ShownRowsAreFound};
+ghost use Rattle.am_board.specs.LookBack.{OnlyDeliveredIsLogged, RowsWereDelivered, RefiringAlertsStay, FlushesEndOnce};
+ghost use Rattle.am_board.specs.LookBack.{BeginsAskRightly, BeginsTellWhatIsThere, LooksBack};
 
 /// What the definitions of the sequential dispatcher say of a history with one record more: its
 /// state is the one after that record, it is legal where the history before is and the record's
@@ -11,41 +13,60 @@ pub fn histories_go_record_by_record()
     ensures clock { ClockIsMoment }
 {}
 
-/// What holds after every legal history: no two known alerts, groups, members of a group, rows or
-/// open flushes are alike; a group with an open flush has alerts, so no maintenance removes it; and
-/// a group that was begun since it was made is there, flushed, and due one group interval after its
-/// last begin.
+/// What holds after every legal history: no two known alerts, silences, groups, members of a group,
+/// rows or open flushes are alike; a group with an open flush has alerts, so no maintenance removes
+/// it; and a group that was begun since it was made is there, flushed, and due one group interval
+/// after its last begin.
 pub fn legal_histories_are_consistent()
     ensures { LegalKeeps }
 {}
 
-/// Which alerts are in which group after a legal history, read off the history from its end.
+/// Which alerts are in which group after a legal history, read off the history from its end; and
+/// each group that is shown has just those, in the order of their label sets.
 pub fn looking_back_finds_alerts()
-    ensures { AlertsAreFound }
+    ensures found { EveryLegalHistory AlertsAreFound }
+    ensures shown { EveryLegalHistory ShownAlertsAreFound }
 {}
 
-/// Which rows the log has after a legal history, read off the history from its end, and for what each stands.
+/// Which rows the log has after a legal history, read off the history from its end; and each row
+/// that is shown is the one that is found for its group and integration.
 pub fn looking_back_finds_rows()
-    ensures found { RowsAreFound }
-    ensures told { RowsWereTold }
+    ensures found { EveryLegalHistory RowsAreFound }
+    ensures shown { EveryLegalHistory ShownRowsAreFound }
 {}
 
-/// An alert that fires again while a flush of its group is open stays in the group.
+/// Each finish and each note of a legal history that logs an integration's success reports that this
+/// flush's notice was delivered, or it had nothing to send; and each row of the log stands for such
+/// a record, the last that logged under its key.
+pub fn logged_only_after_delivery()
+    ensures each_record { EveryLegalHistory OnlyDeliveredIsLogged }
+    ensures rows { EveryLegalHistory RowsWereDelivered }
+{}
+
+/// An alert that fires again while a flush of its group is open is in the group after the finish.
 pub fn refiring_alerts_stay()
-    ensures { RefiringAlertsStay }
+    ensures { EveryLegalHistory RefiringAlertsStay }
 {}
 
 /// Each flush has one begin and at most one finish, and its group isn't taken before.
 pub fn flushes_end_once()
-    ensures { FlushesEndOnce }
+    ensures { EveryLegalHistory FlushesEndOnce }
 {}
 
 /// A begin asks exactly the integrations that the history before it says.
 pub fn begins_ask_rightly()
-    ensures { BeginsAskRightly }
+    ensures { EveryLegalHistory BeginsAskRightly }
+{}
+
+/// What a begin tells is there: each notice of a flush lists the alerts that looking back finds in
+/// the group, not muted, those that fire without an end, and the resolved ones where its integration
+/// is sent them; the deadline is the begin's moment plus the group interval or ten seconds, whichever
+/// is more; and a quiet begin counts the alerts that looking back finds resolved, muted ones too.
+pub fn begins_tell_what_is_there()
+    ensures { EveryLegalHistory BeginsTellWhatIsThere }
 {}
 
 /// What looking back says of every legal history, all of it.
 pub fn legal_histories_look_back()
-    ensures { HistoriesLookBack }
+    ensures { EveryLegalHistory LooksBack }
 {}

@@ -4,6 +4,7 @@ pub mod AskedRightly
 pub mod Askings
 pub mod BeginCauses
 pub mod BeginEnds
+pub mod BeginIntervals
 pub mod Begins
 pub mod Bounded
 pub mod BoundedAlerts
@@ -50,6 +51,7 @@ pub mod PastWords
 pub mod Pasts
 pub mod Places
 pub mod Placing
+pub mod ReasonsDecide
 pub mod Receivers
 pub mod Refiring
 pub mod ReservedRows

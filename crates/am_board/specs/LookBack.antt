@@ -21,8 +21,10 @@ use Rattle.am_board.specs.Configured.{route_of, integrations_of}
 use Rattle.am_board.specs.Data.{NoticeData}
 use Rattle.am_board.specs.Entry.{begins_group, present_in, firing_in, resolved_in, entry_in}
 use Rattle.am_board.specs.Finish.{is_delivered}
+use Rattle.am_board.specs.Interval.{IntervalIsKept}
 use Rattle.am_board.specs.Past.{AtEach, past_of, moment_at, is_flush, is_flush_of, is_finish, is_maintenance, takes, notices_in, begin_of, has_begun, has_finished}
 use Rattle.am_board.specs.Presence.{goes_to, inserts, inserted_by, stamp_told, presence}
+use Rattle.am_board.specs.Reasons.{BeginsHaveReasons}
 use Rattle.am_board.specs.Replay.{replay, IsLegal}
 use Rattle.am_board.specs.State.{MemberState, members_in}
 use Rattle.am_board.specs.Ticket.{outcome_of, is_nothing}
@@ -192,6 +194,8 @@ pub record LooksBack (config : Config) (history : List Record) : Type 0 where
   pub refiring : AtEach (KeepsRefiring config) (past_of history)
   pub once : AtEach (IsOneOfEach config) (past_of history)
   pub asked : AtEach (IsAskedRightly config) (past_of history)
+  pub interval : IntervalIsKept config history
+  pub reasons : BeginsHaveReasons config history
 
 -- every legal history looks back so
 abbrev pub HistoriesLookBack : Type 0

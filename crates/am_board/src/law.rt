@@ -1,6 +1,8 @@
 //! Laws of histories.
 ghost use Rattle.am_board.specs.Laws.{ReplayAppends, LegalAppends, ClockIsMoment, LegalKeeps};
+ghost use Rattle.am_board.specs.Interval.{BeginsKeepTheInterval};
 ghost use Rattle.am_board.specs.LookBack.{AlertsAreFound, RowsAreFound, RowsWereTold, RefiringAlertsStay, FlushesEndOnce, BeginsAskRightly, HistoriesLookBack};
+ghost use Rattle.am_board.specs.Reasons.{ReasonsDecide, NotYetEnds};
 
 /// What the definitions of the sequential dispatcher say of a history with one record more: its
 /// state is the one after that record, it is legal where the history before is and the record's
@@ -43,6 +45,20 @@ pub fn flushes_end_once()
 /// A begin asks exactly the integrations that the history before it says.
 pub fn begins_ask_rightly()
     ensures { BeginsAskRightly }
+{}
+
+/// Of any two begins of a group, with no maintenance between them that found it without alerts, the
+/// later is at least the route's `group_interval` later.
+pub fn begins_keep_the_interval()
+    ensures { BeginsKeepTheInterval }
+{}
+
+/// A begin that takes a group asks an integration of its receiver exactly if the case of needs-update
+/// that applies, by the history before it, is a reason to; and a notice that isn't repeated yet is
+/// from the moment on that this reason names.
+pub fn reasons_decide()
+    ensures asked { ReasonsDecide }
+    ensures waits { NotYetEnds }
 {}
 
 /// What looking back says of every legal history, all of it.

@@ -73,3 +73,6 @@ pub mod Sound
 pub mod Staying
 pub mod TakenOut
 pub mod ToldSets
+pub mod WorkedEntries
+pub mod WorkedFlushes
+pub mod WorkedReasons

@@ -29,18 +29,22 @@ use Rattle.am_board.proofs.SetWords.{any-map}
 -- ---- an update is needed exactly if the reason is one to ask
 
 needed-asks : (o : Option RowView) (firing resolved : List (List Label)) (send_resolved : Bool) (repeat t : ℕ)
-    → needed same_label_set (option_map log_row o) firing resolved send_resolved repeat t ≡ asks (reason_by o firing resolved send_resolved repeat t)
+    → needed same_label_set (option_map log_row o) firing resolved send_resolved repeat t
+    ≡ asks (reason_by o firing resolved send_resolved repeat t)
 needed-asks None firing resolved send_resolved repeat t = by (is_empty firing)
   where
     by : (b : Bool) → not b ≡ asks (cond b NothingFiring FirstNotice)
     by true = refl
     by false = refl
 needed-asks (Some row) firing resolved send_resolved repeat t =
-    by (not (is_subset same_label_set firing row.firing)) (is_empty firing) (is_empty row.firing) (send_resolved && not (is_subset same_label_set resolved row.resolved)) (nat_lt (row.moment + repeat) t)
+    let new = not (is_subset same_label_set firing row.firing) in
+    let ended = send_resolved && not (is_subset same_label_set resolved row.resolved) in
+    by new (is_empty firing) (is_empty row.firing) ended (nat_lt (row.moment + repeat) t)
   where
     by : (new none fired ended over : Bool)
         → cond new true (cond none (not fired) (cond ended true over))
-        ≡ asks (cond new NewAlert (cond none (cond fired NothingFiring AllResolved) (cond ended NewlyResolved (cond over Repeat (NotYet (row.moment + repeat + 1))))))
+        ≡ asks (cond new NewAlert (cond none (cond fired NothingFiring AllResolved)
+        (cond ended NewlyResolved (cond over Repeat (NotYet (row.moment + repeat + 1))))))
     by true none fired ended over = refl
     by false true true ended over = refl
     by false true false ended over = refl
@@ -53,19 +57,25 @@ filter-none [] = refl
 filter-none (x ∷ xs) = filter-none xs
 
 module _ (config : Config) (name : GroupName) (t : ℕ) (past : List Record) (firing resolved : List (List Label)) where
-  -- whether an integration needs an update by its entry, and whether its reason there is one to ask
-  abbrev needs : ℕ × Integration → Bool
-  needs i = needed same_label_set (option_map log_row (entry_in config name i.0 past)) firing resolved i.1.send_resolved (route_of config name).repeat_interval t
+  -- the entry of an integration, and the repeat interval
+  abbrev its_entry : ℕ × Integration → Option RowView
+  its_entry i = entry_in config name i.0 past
 
-  abbrev has_reason : ℕ × Integration → Bool
-  has_reason i = asks (reason_by (entry_in config name i.0 past) firing resolved i.1.send_resolved (route_of config name).repeat_interval t)
+  abbrev repeat : ℕ
+  repeat = (route_of config name).repeat_interval
+
+  -- whether it needs an update by its entry, and its reason
+  abbrev needs : ℕ × Integration → Bool
+  needs i = needed same_label_set (option_map log_row (its_entry i)) firing resolved i.1.send_resolved repeat t
+
+  abbrev reason_where : Bool → ℕ × Integration → Reason
+  reason_where nothing i = if nothing then NothingLeft else reason_by (its_entry i) firing resolved i.1.send_resolved repeat t
 
   with-reasons : (nothing : Bool) (is : List (ℕ × Integration))
-      → (if nothing then [] else map (λ i. i.0) (filter needs is))
-      ≡ map (λ i. i.0) (filter (λ (i : ℕ × Integration). asks (if nothing then NothingLeft else reason_by (entry_in config name i.0 past) firing resolved i.1.send_resolved (route_of config name).repeat_interval t)) is)
+      → (if nothing then [] else map (λ i. i.0) (filter needs is)) ≡ map (λ i. i.0) (filter (λ i. asks (reason_where nothing i)) is)
   with-reasons true is = ap (map (λ i. i.0)) (sym (filter-none is))
   with-reasons false is =
-      λ j. map (λ i. i.0) (filter (λ (i : ℕ × Integration). needed-asks (entry_in config name i.0 past) firing resolved i.1.send_resolved (route_of config name).repeat_interval t j) is)
+      λ j. map (λ i. i.0) (filter (λ (i : ℕ × Integration). needed-asks (its_entry i) firing resolved i.1.send_resolved repeat t j) is)
 
 asked-reasons : (config : Config) (name : GroupName) (t : ℕ) (past : List Record)
     → asked_by_past config name t past ≡ map (λ i. i.0) (filter (λ i. asks (reason_in config name t past i)) (integrations_of config name))
@@ -74,45 +84,50 @@ asked-reasons config name t past =
     let resolved = resolved_in config name t past in
     with-reasons config name t past firing resolved (is_empty firing && is_empty resolved) (integrations_of config name)
 
--- ---- among those of a receiver that pass a test, each is found exactly if it passes
+-- ---- among elements with their positions, one that passes a test is found exactly if it passes
 
--- whether there is an integration of this position
-abbrev has_position : ℕ → List (ℕ × Integration) → Bool
-has_position position is = list_any (λ n. n == position) (map (λ i. i.0) is)
-
-above : (position n : ℕ) → position < n → (xs : List Integration) → AllByRecursion (λ i. position < i.0) (enumerate_from n xs)
+above : {X : Type 0} (position n : ℕ) → position < n → (xs : List X) → AllByRecursion (λ i. position < i.0) (enumerate_from n xs)
 above position n below [] = tt
 above position n below (x ∷ xs) = (below, above position (n + 1) (omega (arith, below)) xs)
 
-module _ (test : ℕ × Integration → Bool) where
-  -- one that is at another position is passed over
-  one-more : (position : ℕ) (i : ℕ × Integration) (is : List (ℕ × Integration)) → (i.0 ≡ position → ⊥) → has_position position (filter test (i ∷ is)) ≡ has_position position (filter test is)
+module _ {X : Type 0} (test : ℕ × X → Bool) where
+  -- whether there is one of this position that passes
+  abbrev passes_at : ℕ → List (ℕ × X) → Bool
+  passes_at position is = list_any (λ n. n == position) (map (λ i. i.0) (filter test is))
+
+  -- one at another position is passed over
+  one-more : (position : ℕ) (i : ℕ × X) (is : List (ℕ × X)) → (i.0 ≡ position → ⊥) → passes_at position (i ∷ is) ≡ passes_at position is
   one-more position i is other =
-      elim (test i) as (λ b. has_position position (cond b (i ∷ filter test is) (filter test is)) ≡ has_position position (filter test is)) [
-        | true ↦ ap (λ b. b || has_position position (filter test is)) (ne_eqb i.0 position other)
+      let rest = filter test is in
+      elim (test i) as (λ b. list_any (λ n. n == position) (map (λ i. i.0) (cond b (i ∷ rest) rest)) ≡ passes_at position is) [
+        | true ↦ ap (λ b. b || passes_at position is) (ne_eqb i.0 position other)
         | false ↦ refl
       ]
 
-  none-below : (position n : ℕ) → position < n → (xs : List Integration) → has_position position (filter test (enumerate_from n xs)) ≡ false
+  none-below : (position n : ℕ) → position < n → (xs : List X) → passes_at position (enumerate_from n xs) ≡ false
   none-below position n below [] = refl
   none-below position n below (x ∷ xs) =
-      one-more position (n, x) (enumerate_from (n + 1) xs) (λ same. omega (arith, same, below)) ∙ none-below position (n + 1) (omega (arith, below)) xs
+      one-more position (n, x) (enumerate_from (n + 1) xs) (λ same. omega (arith, same, below))
+      ∙ none-below position (n + 1) (omega (arith, below)) xs
 
-  first-passes : (n : ℕ) (x : Integration) (xs : List Integration) → has_position n (filter test (enumerate_from n (x ∷ xs))) ≡ test (n, x)
+  first-passes : (n : ℕ) (x : X) (xs : List X) → passes_at n (enumerate_from n (x ∷ xs)) ≡ test (n, x)
   first-passes n x xs =
-      elim (test (n, x)) as (λ b. has_position n (cond b ((n, x) ∷ filter test (enumerate_from (n + 1) xs)) (filter test (enumerate_from (n + 1) xs))) ≡ b) [
-        | true ↦ ap (λ b. b || has_position n (filter test (enumerate_from (n + 1) xs))) (nat_eq_equiv.refl n)
+      let rest = enumerate_from (n + 1) xs in
+      elim (test (n, x)) as (λ b. list_any (λ m. m == n) (map (λ i. i.0) (cond b ((n, x) ∷ filter test rest) (filter test rest))) ≡ b) [
+        | true ↦ ap (λ b. b || passes_at n rest) (nat_eq_equiv.refl n)
         | false ↦ none-below n (n + 1) (omega arith) xs
       ]
 
-  each-passes : (n : ℕ) (xs : List Integration) → AllByRecursion (λ i. has_position i.0 (filter test (enumerate_from n xs)) ≡ test i) (enumerate_from n xs)
+  each-passes : (n : ℕ) (xs : List X) → AllByRecursion (λ i. passes_at i.0 (enumerate_from n xs) ≡ test i) (enumerate_from n xs)
   each-passes n [] = tt
-  each-passes n (x ∷ xs) = (
-    first-passes n x xs,
-    all-both (λ i. n < i.0) (λ i. has_position i.0 (filter test (enumerate_from (n + 1) xs)) ≡ test i) (λ i. has_position i.0 (filter test (enumerate_from n (x ∷ xs))) ≡ test i)
-        (λ i below is. one-more i.0 (n, x) (enumerate_from (n + 1) xs) (λ same. omega (arith, same, below)) ∙ is)
-        (enumerate_from (n + 1) xs) (above n (n + 1) (omega arith) xs) (each-passes (n + 1) xs),
-  )
+  each-passes n (x ∷ xs) =
+      let rest = enumerate_from (n + 1) xs in
+      let all = enumerate_from n (x ∷ xs) in (
+        first-passes n x xs,
+        all-both (λ i. n < i.0) (λ i. passes_at i.0 rest ≡ test i) (λ i. passes_at i.0 all ≡ test i)
+            (λ i below is. one-more i.0 (n, x) rest (λ same. omega (arith, same, below)) ∙ is)
+            rest (above n (n + 1) (omega arith) xs) (each-passes (n + 1) xs),
+      )
 
 -- ---- each begin
 
@@ -121,12 +136,13 @@ one_record config r past asked =
     let t = moment_at (r ∷ past) in
     record {
       each = λ name taken.
+          let is = integrations_of config name in
           let test : ℕ × Integration → Bool = λ i. asks (reason_in config name t past i) in
-          let found : map (λ n. n.integration) (notices_in r.reply) ≡ map (λ i. i.0) (filter test (integrations_of config name)) = asked name taken ∙ asked-reasons config name t past in
-          all_from (λ i. is_asked_in i.0 r.reply ≡ test i) (integrations_of config name)
-          (all-weaker (λ i. has_position i.0 (filter test (integrations_of config name)) ≡ test i) (λ i. is_asked_in i.0 r.reply ≡ test i)
-          (λ i is. sym (any-map (λ n. n == i.0) (λ n. n.integration) (notices_in r.reply)) ∙ ap (list_any (λ n. n == i.0)) found ∙ is)
-          (integrations_of config name) (each-passes test 0 (integrations_named (route_of config name).receiver config.receivers)));
+          let found = asked name taken ∙ asked-reasons config name t past in
+          all_from (λ i. is_asked_in i.0 r.reply ≡ test i) is
+          (all-weaker (λ i. passes_at test i.0 is ≡ test i) (λ i. is_asked_in i.0 r.reply ≡ test i)
+          (λ i h. sym (any-map (λ n. n == i.0) (λ n. n.integration) (notices_in r.reply)) ∙ ap (list_any (λ n. n == i.0)) found ∙ h)
+          is (each-passes test 0 (integrations_named (route_of config name).receiver config.receivers)));
       only = λ name taken. asked name taken ∙ asked-reasons config name t past;
     }
 
@@ -155,12 +171,16 @@ module _ (over from : ℕ) where
   abbrev repeat_at : ℕ → Reason
   repeat_at t = if nat_lt over t then Repeat else NotYet (over + 1)
 
+  abbrev EndsAfter : (ℕ → Reason) → ℕ → Type 0
+  EndsAfter reason_at t =
+      (t < from) × ((later : ℕ) → (from ≤ later → reason_at later ≡ Repeat) × (later < from → reason_at later ≡ NotYet from))
+
   abbrev Ends : (ℕ → Reason) → Type 0
-  Ends reason_at = (t : ℕ) → reason_at t ≡ NotYet from → (t < from) × ((later : ℕ) → (from ≤ later → reason_at later ≡ Repeat) × (later < from → reason_at later ≡ NotYet from))
+  Ends reason_at = (t : ℕ) → reason_at t ≡ NotYet from → EndsAfter reason_at t
 
   repeat-ends : Ends repeat_at
   repeat-ends t e =
-      elim (nat_lt over t) as (λ b. nat_lt over t ≡ b → cond b Repeat (NotYet (over + 1)) ≡ NotYet from → (t < from) × ((later : ℕ) → (from ≤ later → repeat_at later ≡ Repeat) × (later < from → repeat_at later ≡ NotYet from))) [
+      elim (nat_lt over t) as (λ b. nat_lt over t ≡ b → cond b Repeat (NotYet (over + 1)) ≡ NotYet from → EndsAfter repeat_at t) [
         | true ↦ λ is e. absurd (cc)
         | false ↦ λ is e.
             let same : over + 1 ≡ from = ap named_moment e in
@@ -174,7 +194,8 @@ module _ (over from : ℕ) where
       ] refl e
 
   -- so it is behind cases that don't depend on the moment
-  case-ends : (b : Bool) (reason : Reason) (reason_at : ℕ → Reason) → (reason ≡ NotYet from → ⊥) → Ends reason_at → Ends (λ t. cond b reason (reason_at t))
+  case-ends : (b : Bool) (reason : Reason) (reason_at : ℕ → Reason) → (reason ≡ NotYet from → ⊥)
+      → Ends reason_at → Ends (λ t. cond b reason (reason_at t))
   case-ends true reason reason_at other ends t e = absurd (other e)
   case-ends false reason reason_at other ends t e = ends t e
 
@@ -186,10 +207,12 @@ not_yet_ends None firing resolved send_resolved repeat t from later e = absurd (
     by false e = cc
 not_yet_ends (Some row) firing resolved send_resolved repeat t from later e =
     let over = row.moment + repeat in
-    let ends =
-    case-ends over from (not (is_subset same_label_set firing row.firing)) NewAlert _ (λ e. cc)
-    (case-ends over from (is_empty firing) (cond (is_empty row.firing) NothingFiring AllResolved) _ (by (is_empty row.firing))
-    (case-ends over from (send_resolved && not (is_subset same_label_set resolved row.resolved)) NewlyResolved _ (λ e. cc) (repeat-ends over from))) t e in
+    let new = not (is_subset same_label_set firing row.firing) in
+    let ended = send_resolved && not (is_subset same_label_set resolved row.resolved) in
+    let last = case-ends over from ended NewlyResolved _ (λ e. cc) (repeat-ends over from) in
+    let none = cond (is_empty row.firing) NothingFiring AllResolved in
+    let middle = case-ends over from (is_empty firing) none _ (by (is_empty row.firing)) last in
+    let ends = case-ends over from new NewAlert _ (λ e. cc) middle t e in
     (ends.0, (ends.1 later).0, (ends.1 later).1)
   where
     by : (b : Bool) → cond b NothingFiring AllResolved ≡ NotYet from → ⊥

@@ -77,7 +77,7 @@ refused_keeps_entry = refl
 refused_stays : presence base group_a (named (codes "A")) (past_of refused_first) ≡ Some (record { alert = a_ended; stamp = 2 })
 refused_stays = refl
 
-refused_removes_none : finish_removes group_a a_ended (past_of resolved_open) (call.Finish 331_000 2 ((0, Refused) ∷ (0, Delivered) ∷ [])) ≡ false
+refused_removes_none : finish_removes group_a a_ended (past_of resolved_open) (call.Finish 331_000 2 ((0, Refused) ∷ [])) ≡ false
 refused_removes_none = refl
 
 resolved_then : resolved_at_begin group_a a_ended (begin_since (named (codes "A")) 2 (past_of resolved_open)) ≡ true
@@ -89,7 +89,7 @@ refused_has_not_left = refl
 delivered_entry : entry_in base group_a 0 (past_of delivered_first) ≡ Some (row group_a 0 331_000 29_131_000 [] (named (codes "A") ∷ []))
 delivered_entry = refl
 
-delivered_removes : finish_removes group_a a_ended (past_of resolved_open) (call.Finish 331_000 2 ((0, Delivered) ∷ (0, Refused) ∷ [])) ≡ true
+delivered_removes : finish_removes group_a a_ended (past_of resolved_open) (call.Finish 331_000 2 ((0, Delivered) ∷ [])) ≡ true
 delivered_removes = refl
 
 delivered_has_left : has_left group_a a_ended (past_of delivered_first) ≡ true
@@ -100,12 +100,11 @@ not_asked = refl
 
 -- ---- a success that was noted, and collected before the finish: the finish puts nothing back
 
+abbrev first_open : List Record
+first_open = insert 0 a 1 1 1 ∷ flush_hook 30_000 1 group_a 330_000 (a ∷ []) [] ∷ []
+
 abbrev noted : List Record
-noted =
-    insert 0 a 1 1 1
-    ∷ flush_hook 30_000 1 group_a 330_000 (a ∷ []) []
-    ∷ entry 0 (call.Note 31_000 1 0 (Some Delivered)) reply.Noted
-    ∷ []
+noted = first_open ++ entry 0 (call.Note 31_000 1 0 (Some Delivered)) reply.Noted ∷ []
 
 abbrev collected : List Record
 collected = noted ++ maintain 3_631_000 0 1 ∷ []
@@ -122,10 +121,10 @@ note_entry = refl
 noted_succeeds : succeeded 1 [] (past_of noted) (notice 1 330_000 group_a 0 (a ∷ []) []) ≡ true
 noted_succeeds = refl
 
-note_logged : logs group_a 0 (past_of (insert 0 a 1 1 1 ∷ flush_hook 30_000 1 group_a 330_000 (a ∷ []) [] ∷ [])) (call.Note 31_000 1 0 (Some Delivered)) ≡ true
+note_logged : logs group_a 0 (past_of first_open) (call.Note 31_000 1 0 (Some Delivered)) ≡ true
 note_logged = refl
 
-other_note_not_logged : logs group_a 1 (past_of (insert 0 a 1 1 1 ∷ flush_hook 30_000 1 group_a 330_000 (a ∷ []) [] ∷ [])) (call.Note 31_000 1 0 (Some Delivered)) ≡ false
+other_note_not_logged : logs group_a 1 (past_of first_open) (call.Note 31_000 1 0 (Some Delivered)) ≡ false
 other_note_not_logged = refl
 
 collected_entry : entry_in for_an_hour group_a 0 (past_of collected) ≡ None

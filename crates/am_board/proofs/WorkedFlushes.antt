@@ -110,7 +110,8 @@ third_entry = refl
 first_stays : presence base group_a (named (codes "A")) (past_of all_ended) ≡ Some (record { alert = a_ended; stamp = 4 })
 first_stays = refl
 
-first_member : member_with (named (codes "A")) (members_in (replay base all_ended).groups group_a) ≡ Some (record { alert = a_ended; stamp = 4 })
+first_member :
+    member_with (named (codes "A")) (members_in (replay base all_ended).groups group_a) ≡ Some (record { alert = a_ended; stamp = 4 })
 first_member = refl
 
 third_stays : presence base group_c (named (codes "C")) (past_of all_ended) ≡ Some (record { alert = c; stamp = 3 })
@@ -236,10 +237,13 @@ gone_again =
 abbrev swept : List Record
 swept = gone_again ++ maintain 332_000 1 0 ∷ []
 
-abbrev made_again : List Record
-made_again = swept ++ insert 333_000 (fires (named (codes "A")) 333_000) 3 1 1 ∷ []
+abbrev a_again : AlertData
+a_again = fires (named (codes "A")) 333_000
 
-made_again_legal : IsLegal base 7 (made_again ++ flush_hook 363_000 3 group_a 663_000 (fires (named (codes "A")) 333_000 ∷ []) [] ∷ [])
+abbrev made_again : List Record
+made_again = swept ++ insert 333_000 a_again 3 1 1 ∷ []
+
+made_again_legal : IsLegal base 7 (made_again ++ flush_hook 363_000 3 group_a 663_000 (a_again ∷ []) [] ∷ [])
 made_again_legal = (refl, (refl, (refl, (refl, (refl, (refl, (refl, (refl, (refl, (refl, tt))))))))))
 
 none_found : found_empty base group_a (maintain 332_000 1 0) (past_of gone_again) ≡ true
@@ -258,5 +262,13 @@ begun_nowhere : begun_at base group_a (past_of made_again) ≡ None
 begun_nowhere = refl
 
 -- without that maintenance it waits for its interval
-not_sooner : IsLegal base 7 (gone_again ++ insert 333_000 (fires (named (codes "A")) 333_000) 3 1 0 ∷ nothing_due 629_999 ∷ flush_hook 630_000 3 group_a 930_000 (fires (named (codes "A")) 333_000 ∷ []) [] ∷ [])
+abbrev not_swept : List Record
+not_swept =
+    gone_again
+    ++ insert 333_000 a_again 3 1 0
+    ∷ nothing_due 629_999
+    ∷ flush_hook 630_000 3 group_a 930_000 (a_again ∷ []) []
+    ∷ []
+
+not_sooner : IsLegal base 7 not_swept
 not_sooner = (refl, (refl, (refl, (refl, (refl, (refl, (refl, (refl, (refl, (refl, tt))))))))))

@@ -6,7 +6,7 @@ use Rattle.am_alerts.specs.AlertData.{AlertData}
 use Rattle.am_alerts.specs.declared.labels.Label.{Label}
 use Rattle.am_alerts.specs.declared.matcher.MatcherParts.{MatcherParts}
 use Rattle.am_alerts.specs.declared.matcher.Operator.TheVariants.{Equal}
-use Rattle.am_mute.specs.Inhibit.{rule_of}
+use Rattle.am_mute.specs.Inhibit.{RuleData, rule_of}
 use Rattle.am_mute.specs.Silence.{silence_of}
 use Rattle.am_nflog.specs.Members.{is_empty}
 use Rattle.am_retry.specs.declared.outcome.Outcome.TheVariants.{Delivered}
@@ -170,7 +170,8 @@ resolved_only =
 resolved_only_legal : IsLegal base 7 (resolved_only ++ quiet 630_000 group_a 1 ∷ [])
 resolved_only_legal = (refl, (refl, (refl, (refl, (refl, (refl, (refl, (refl, tt))))))))
 
-resolved_only_entry : entry_in base group_a 0 (past_of resolved_only) ≡ Some (row group_a 0 331_000 29_131_000 [] (instance (codes "A") (codes "1") ∷ []))
+resolved_only_entry :
+    entry_in base group_a 0 (past_of resolved_only) ≡ Some (row group_a 0 331_000 29_131_000 [] (instance (codes "A") (codes "1") ∷ []))
 resolved_only_entry = refl
 
 second_is_resolved : resolved_in base group_a 630_000 (past_of resolved_only) ≡ instance (codes "A") (codes "2") ∷ []
@@ -211,16 +212,22 @@ silenced_legal : IsLegal base 7 (silenced ++ quiet 330_000 group_a 1 ∷ [])
 silenced_legal = (refl, (refl, (refl, (refl, (refl, (refl, (refl, tt)))))))
 
 -- the last silence of an id counts: replaced by one that is over, it mutes no more
-over_again : reason_in base group_a 330_000 (past_of (silenced ++ silence 210_000 300_000 true ∷ [])) hook ≡ AllResolved
+abbrev silence_replaced : List Record
+silence_replaced = silenced ++ silence 210_000 300_000 true ∷ []
+
+over_again : reason_in base group_a 330_000 (past_of silence_replaced) hook ≡ AllResolved
 over_again = refl
 
-one_unmuted : unmuted_in base group_a 330_000 (past_of (silenced ++ silence 210_000 300_000 true ∷ [])) ≡ a_ended ∷ []
+one_unmuted : unmuted_in base group_a 330_000 (past_of silence_replaced) ≡ a_ended ∷ []
 one_unmuted = refl
 
 -- ---- inhibition: a critical alert mutes a warning of its data centre, until it is resolved
 
+abbrev rule : RuleData
+rule = rule_of (is (codes "severity") (codes "critical") ∷ []) (is (codes "severity") (codes "warning") ∷ []) (codes "dc" ∷ [])
+
 abbrev inhibiting : Config
-inhibiting = record base { rules = rule_of (is (codes "severity") (codes "critical") ∷ []) (is (codes "severity") (codes "warning") ∷ []) (codes "dc" ∷ []) ∷ [] }
+inhibiting = record base { rules = rule ∷ [] }
 
 abbrev labels_of : List ℕ → List ℕ → List Label
 labels_of name severity = label (codes "alertname") name ∷ label (codes "dc") (codes "x") ∷ label (codes "severity") severity ∷ []
@@ -254,7 +261,14 @@ inhibited =
 abbrev inhibited_no_more : List Record
 inhibited_no_more = inhibited ++ insert 40_000 source_ended 3 1 0 ∷ []
 
-inhibited_legal : IsLegal inhibiting 7 (inhibited_no_more ++ flush_hook 330_000 2 group_s 630_000 [] (source_ended ∷ []) ∷ flush_hook 330_000 3 group_t 630_000 (target ∷ []) [] ∷ [])
+abbrev target_told : List Record
+target_told =
+    inhibited_no_more
+    ++ flush_hook 330_000 2 group_s 630_000 [] (source_ended ∷ [])
+    ∷ flush_hook 330_000 3 group_t 630_000 (target ∷ []) []
+    ∷ []
+
+inhibited_legal : IsLegal inhibiting 7 target_told
 inhibited_legal = (refl, (refl, (refl, (refl, (refl, (refl, (refl, (refl, tt))))))))
 
 inhibited_reason : reason_in inhibiting group_t 30_000 (past_of both) hook ≡ NothingLeft
@@ -279,5 +293,5 @@ known_last = refl
 no_silences : silences_in (past_of inhibited_no_more) ≡ []
 no_silences = refl
 
-last_silence : silences_in (past_of (silenced ++ silence 210_000 300_000 true ∷ [])) ≡ silence_of 1 (is (codes "alertname") (codes "A") ∷ []) 0 300_000 ∷ []
+last_silence : silences_in (past_of silence_replaced) ≡ silence_of 1 (is (codes "alertname") (codes "A") ∷ []) 0 300_000 ∷ []
 last_silence = refl

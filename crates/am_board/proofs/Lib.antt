@@ -52,6 +52,7 @@ pub mod Pasts
 pub mod Places
 pub mod Placing
 pub mod ReasonsDecide
+pub mod ReasonsSay
 pub mod Receivers
 pub mod Refiring
 pub mod ReservedRows

@@ -7,7 +7,7 @@ use Rattle.am_board.specs.declared.record.Call.TheVariants as call
 use Rattle.am_board.specs.declared.record.Record.{Record}
 use Rattle.am_board.specs.declared.record.Reply.TheVariants as reply
 use Rattle.am_board.specs.Begin.{is_entry_of}
-use Rattle.am_board.specs.Entry.{present_in, firing_in, resolved_in, logs, entry_in}
+use Rattle.am_board.specs.Entry.{present_in, firing_in, resolved_in, begins_group, logs, entry_in}
 use Rattle.am_board.specs.History.{entry}
 use Rattle.am_board.specs.Past.{past_of, was_noted, succeeded}
 use Rattle.am_board.specs.Presence.{last_insert, resolved_at_begin, begin_since, finish_removes, removes, has_left, presence}
@@ -82,6 +82,9 @@ refused_removes_none = refl
 
 resolved_then : resolved_at_begin group_a a_ended (begin_since (named (codes "A")) 2 (past_of resolved_open)) ≡ true
 resolved_then = refl
+
+its_begin_counts : begins_group group_a (begin_since (named (codes "A")) 2 (past_of resolved_open)) ≡ true
+its_begin_counts = refl
 
 refused_has_not_left : has_left group_a a_ended (past_of refused_first) ≡ false
 refused_has_not_left = refl

@@ -10,11 +10,11 @@ use Rattle.am_board.specs.Configured.{route_of}
 use Rattle.am_board.specs.Entry.{begins_group, entry_in}
 use Rattle.am_board.specs.Interval.{found_empty, begun_since, KeepsInterval}
 use Rattle.am_board.specs.LookBack.{member_with, has_open, begun_at}
-use Rattle.am_board.specs.Past.{past_of, moment_at, is_flush, is_quiet, is_flush_of, takes, is_finish, is_maintenance, begin_of, has_begun, has_finished}
-use Rattle.am_board.specs.Presence.{presence}
+use Rattle.am_board.specs.Past.{past_of, moment_at, is_flush, is_quiet, is_flush_of, takes, notices_in, is_finish, is_note, is_maintenance, begin_of, has_begun, has_finished}
+use Rattle.am_board.specs.Presence.{inserts, presence}
 use Rattle.am_board.specs.Replay.{IsLegal, replay}
 use Rattle.am_board.specs.State.{members_in}
-use Rattle.am_board.proofs.RowBase.{base, named, group, fires, ended, group_a, a, first_notice, insert, nothing_due, quiet, flush_hook, finish, maintain, row}
+use Rattle.am_board.proofs.RowBase.{base, named, group, fires, ended, group_a, a, first_notice, insert, nothing_due, quiet, notice, flush_hook, finish, maintain, row}
 
 -- ---- three flushes are open at once; the second ends first, and the third fails
 
@@ -169,6 +169,24 @@ maintains = refl
 
 begins_only : is_maintenance (call.Begin 0) ≡ false
 begins_only = refl
+
+notes_hook : is_note 1 0 (call.Note 31_000 1 0 None) ≡ true
+notes_hook = refl
+
+notes_no_other : is_note 1 1 (call.Note 31_000 1 0 None) ≡ false
+notes_no_other = refl
+
+inserts_a : inserts (named (codes "A")) (call.Insert 0 a) ≡ true
+inserts_a = refl
+
+inserts_no_other : inserts (named (codes "B")) (call.Insert 0 a) ≡ false
+inserts_no_other = refl
+
+one_notice : notices_in begin_a.reply ≡ notice 1 330_000 group_a 0 (a ∷ []) [] ∷ []
+one_notice = refl
+
+no_notice : notices_in quiet_a.reply ≡ []
+no_notice = refl
 
 -- the moment of the latest record doesn't go back
 moment_stays : moment_at (past_of (insert 50_000 a 1 1 1 ∷ nothing_due 45_000 ∷ [])) ≡ 50_000

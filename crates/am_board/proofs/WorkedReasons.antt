@@ -1,5 +1,5 @@
 -- Worked histories of reasons: why a begin asks an integration, or why not, and that it does so.
-use Rattle.std.proofs.Common.{◌≡◌, ℕ, Bool, true, false, Some, List, [], ◌∷◌, ◌++◌, refl, sym, ap}
+use Rattle.std.proofs.Common.{◌≡◌, ℕ, Bool, true, false, Option, Some, None, List, [], ◌∷◌, ◌++◌, refl, sym, ap, arith}
 use Rattle.std.specs.Prelude.{codes}
 use Rattle.std.proofs.lemmas.Bool.{false≢true}
 use Rattle.am_alerts.specs.AlertData.{AlertData}
@@ -17,11 +17,12 @@ use Rattle.am_board.specs.declared.reason.Reason.TheVariants.{FirstNotice, NewAl
 use Rattle.am_board.specs.declared.record.Call.TheVariants.{Silence}
 use Rattle.am_board.specs.declared.record.Record.{Record}
 use Rattle.am_board.specs.declared.record.Reply.TheVariants.{Silenced}
+use Rattle.am_board.specs.declared.views.RowView.{RowView}
 use Rattle.am_board.specs.Configured.{integrations_of}
 use Rattle.am_board.specs.Entry.{known_in, silences_in, unmuted_in, firing_in, resolved_in, entry_in}
 use Rattle.am_board.specs.History.{entry}
 use Rattle.am_board.specs.Past.{past_of}
-use Rattle.am_board.specs.Reasons.{asks, reason_in, is_asked_in, AsksForReasons}
+use Rattle.am_board.specs.Reasons.{asks, Says, reason_in, is_asked_in, AsksForReasons}
 use Rattle.am_board.specs.Replay.{IsLegal}
 use Rattle.am_board.proofs.RowBase.{base, firing_only, integration, label, named, instance, group, fires, ended, group_a, a, first_notice, insert, quiet, flush_hook, finish, row}
 
@@ -72,6 +73,14 @@ waits_at_equality = refl
 
 repeats : reason_in base group_a 14_430_001 (past_of first_notice) hook ≡ Repeat
 repeats = refl
+
+-- at equality it isn't so that the entry is older
+abbrev told_at : Option RowView → ℕ
+told_at None = 0
+told_at (Some r) = r.moment
+
+not_older : Says Repeat (entry_in base group_a 0 (past_of first_notice)) (named (codes "A") ∷ []) [] true 14_400_000 14_430_000 → ⊥
+not_older says = let at : 30_000 ≡ says.0.moment = ap told_at says.1 in let over = says.3 in omega (arith, at, over)
 
 repeat_asks : asks Repeat ≡ true
 repeat_asks = refl

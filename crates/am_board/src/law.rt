@@ -2,7 +2,7 @@
 ghost use Rattle.am_board.specs.Laws.{ReplayAppends, LegalAppends, ClockIsMoment, LegalKeeps};
 ghost use Rattle.am_board.specs.Interval.{BeginsKeepTheInterval};
 ghost use Rattle.am_board.specs.LookBack.{AlertsAreFound, RowsAreFound, RowsWereTold, RefiringAlertsStay, FlushesEndOnce, BeginsAskRightly, HistoriesLookBack};
-ghost use Rattle.am_board.specs.Reasons.{ReasonsDecide, NotYetEnds};
+ghost use Rattle.am_board.specs.Reasons.{ReasonsDecide, ReasonsAreSo, NotYetEnds};
 
 /// What the definitions of the sequential dispatcher say of a history with one record more: its
 /// state is the one after that record, it is legal where the history before is and the record's
@@ -54,10 +54,11 @@ pub fn begins_keep_the_interval()
 {}
 
 /// A begin that takes a group asks an integration of its receiver exactly if the case of needs-update
-/// that applies, by the history before it, is a reason to; and a notice that isn't repeated yet is
-/// from the moment on that this reason names.
+/// that applies, by the history before it, is a reason to. What a reason says is so; and a notice
+/// that isn't repeated yet is from the moment on that its reason names.
 pub fn reasons_decide()
     ensures asked { ReasonsDecide }
+    ensures so { ReasonsAreSo }
     ensures waits { NotYetEnds }
 {}
 

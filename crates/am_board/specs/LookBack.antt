@@ -23,10 +23,12 @@ use Rattle.am_board.specs.Configured.{route_of, integrations_of}
 use Rattle.am_board.specs.Data.{NoticeData}
 use Rattle.am_board.specs.Entry.{begins_group, logs, present_in, firing_alerts_in, resolved_alerts_in, firing_in, resolved_in, entry_in}
 use Rattle.am_board.specs.Finish.{is_delivered}
+use Rattle.am_board.specs.Interval.{BeginsKeepTheInterval}
 use Rattle.am_board.specs.Laws.{IsConsistent}
 use Rattle.am_board.specs.Lists.{in_order}
 use Rattle.am_board.specs.Past.{AtEach, past_of, replay_past, moment_at, is_flush, is_flush_of, is_finish, is_maintenance, takes, notices_in, begin_of, has_begun, has_finished}
 use Rattle.am_board.specs.Presence.{goes_to, inserts, inserted_by, stamp_told, presence}
+use Rattle.am_board.specs.Reasons.{BeginsHaveReasons}
 use Rattle.am_board.specs.Replay.{replay, IsLegal}
 use Rattle.am_board.specs.State.{MemberState, members_in}
 use Rattle.am_board.specs.Ticket.{outcome_of, is_nothing}
@@ -248,3 +250,5 @@ pub record LooksBack (config : Config) (history : List Record) : Type 0 where
   pub once : FlushesEndOnce config history
   pub asked : BeginsAskRightly config history
   pub tells : BeginsTellWhatIsThere config history
+  pub interval : BeginsKeepTheInterval config history
+  pub reasons : BeginsHaveReasons config history

@@ -23,10 +23,10 @@ use Rattle.am_board.specs.Configured.{route_of, integrations_of}
 use Rattle.am_board.specs.Data.{NoticeData}
 use Rattle.am_board.specs.Entry.{begins_group, logs, present_in, firing_alerts_in, resolved_alerts_in, firing_in, resolved_in, entry_in}
 use Rattle.am_board.specs.Finish.{is_delivered}
-use Rattle.am_board.specs.Interval.{BeginsKeepTheInterval}
+use Rattle.am_board.specs.Interval.{found_empty, BeginsKeepTheInterval}
 use Rattle.am_board.specs.Laws.{IsConsistent}
 use Rattle.am_board.specs.Lists.{in_order}
-use Rattle.am_board.specs.Past.{AtEach, past_of, replay_past, moment_at, is_flush, is_flush_of, is_finish, is_maintenance, takes, notices_in, begin_of, has_begun, has_finished}
+use Rattle.am_board.specs.Past.{AtEach, past_of, replay_past, moment_at, is_flush, is_flush_of, is_finish, takes, notices_in, begin_of, has_begun, has_finished}
 use Rattle.am_board.specs.Presence.{goes_to, inserts, inserted_by, stamp_told, presence}
 use Rattle.am_board.specs.Reasons.{BeginsHaveReasons}
 use Rattle.am_board.specs.Replay.{replay, IsLegal}
@@ -153,7 +153,7 @@ abbrev pub begun_at : Config → GroupName → List Record → Option ℕ
 begun_at config name [] = None
 begun_at config name (r ∷ past) =
     if takes name r.reply then Some (moment_at (r ∷ past))
-    else if is_maintenance r.call && is_empty (present_in config name past) then None
+    else if found_empty config name r past then None
     else begun_at config name past
 
 -- t is an interval after the last begin, if there was one

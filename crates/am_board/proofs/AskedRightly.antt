@@ -21,7 +21,7 @@ use Rattle.am_board.specs.Configured.{route_of, integrations_named, integrations
 use Rattle.am_board.specs.Entry.{resolved_alerts_in, firing_in, resolved_in, entry_in}
 use Rattle.am_board.specs.History.{entry}
 use Rattle.am_board.specs.Insert.{same_member}
-use Rattle.am_board.specs.LookBack.{member_with, EveryLegalHistory, asked_by_past, IsAskedRightly, BeginsAskRightly, wants_resolved, IsNoticeFound, IsToldRightly, BeginsTellWhatIsThere}
+use Rattle.am_board.specs.LookBack.{member_with, EveryLegalHistory, asked_after, IsAskedRightly, BeginsAskRightly, wants_resolved, IsNoticeFound, IsToldRightly, BeginsTellWhatIsThere}
 use Rattle.am_board.specs.Past.{past_of, moment_at, takes}
 use Rattle.am_board.specs.Presence.{presence}
 use Rattle.am_board.specs.State.{GroupState, State, moment, same_name}
@@ -58,7 +58,7 @@ module _ (config : Config) (id : ℕ) (s : State) (past : List Record) (pass : �
     there labels = ap (member_with labels) (sym own.own) ∙ k.found g.name labels
 
     -- those that are asked are those that are to be asked
-    asked-found : map (λ i. i.0) (asked_of config s t g) ≡ asked_by_past config g.name t past
+    asked-found : map (λ i. i.0) (asked_of config s t g) ≡ asked_after config g.name t past
     asked-found =
         let firing = firing-found config s past l.known l.silences t g apart there in
         let resolved = resolved-found config s past l.known l.silences t g apart there in
@@ -109,19 +109,19 @@ module _ (config : Config) (id : ℕ) (s : State) (past : List Record) (pass : �
         among true = tt
         among false = all-filter (λ i. wants_resolved config g.name i.0 ≡ i.1.send_resolved) (needs config s t g.name (label_sets (firing_of config s t g)) (label_sets (resolved_of config s t g))) (integrations_of config g.name) all
 
-  asking : (now : ℕ) (g : GroupState) (asked : List (ℕ × Integration)) (new : State) → map (λ i. i.0) asked ≡ asked_by_past config g.name (moment s now) past → Asks (Begin now) new (reply_asking config id s (moment s now) g asked)
+  asking : (now : ℕ) (g : GroupState) (asked : List (ℕ × Integration)) (new : State) → map (λ i. i.0) asked ≡ asked_after config g.name (moment s now) past → Asks (Begin now) new (reply_asking config id s (moment s now) g asked)
   asking now g [] new e name takes =
       let r = entry pass (Begin now) (reply_asking config id s (moment s now) g []) in
-      e ∙ ap (λ t. asked_by_past config g.name t past) (clock-step config s past k now r refl)
-      ∙ ap (λ n. asked_by_past config n (moment_at (r ∷ past)) past) (sym (same_name-is name g.name (quiet (same_name name g.name) takes)))
+      e ∙ ap (λ t. asked_after config g.name t past) (clock-step config s past k now r refl)
+      ∙ ap (λ n. asked_after config n (moment_at (r ∷ past)) past) (sym (same_name-is name g.name (quiet (same_name name g.name) takes)))
     where
       quiet : (b : Bool) → (b || false) ≡ true → b ≡ true
       quiet true h = refl
       quiet false h = h
   asking now g (i ∷ is) new e name takes =
       let r = entry pass (Begin now) (reply_asking config id s (moment s now) g (i ∷ is)) in
-      each (i ∷ is) ∙ e ∙ ap (λ t. asked_by_past config g.name t past) (clock-step config s past k now r refl)
-      ∙ ap (λ n. asked_by_past config n (moment_at (r ∷ past)) past) (sym (same_name-is name g.name takes))
+      each (i ∷ is) ∙ e ∙ ap (λ t. asked_after config g.name t past) (clock-step config s past k now r refl)
+      ∙ ap (λ n. asked_after config n (moment_at (r ∷ past)) past) (sym (same_name-is name g.name takes))
     where
       each : (is : List (ℕ × Integration)) → map (λ n. n.integration) (map (notice_for config id s (moment s now) g) is) ≡ map (λ i. i.0) is
       each [] = refl

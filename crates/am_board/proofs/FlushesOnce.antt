@@ -32,7 +32,7 @@ use Rattle.am_board.specs.Finish.{finished, after_finish_of}
 use Rattle.am_board.specs.History.{entry}
 use Rattle.am_board.specs.Insert.{inserted}
 use Rattle.am_board.specs.Laws.{last_begin_after, IsBegunAt}
-use Rattle.am_board.specs.LookBack.{member_with, EveryLegalHistory, number_in, has_open, begun_at, IsLater, IsOneOfEach, FlushesEndOnce}
+use Rattle.am_board.specs.LookBack.{member_with, EveryLegalHistory, number_in, has_open, begun_at, IsLater, IsOneFlushAtATime, FlushesEndOnce}
 use Rattle.am_board.specs.Note.{with_note, may_note, after_note, after_note_of, noted}
 use Rattle.am_board.specs.Past.{AtEach, past_of, moment_at, is_flush, is_flush_of, is_finish, takes, has_begun, has_finished}
 use Rattle.am_board.specs.Replay.{reply, after_call}
@@ -173,7 +173,7 @@ module _ (config : Config) (id : ℕ) (s : State) (past : List Record) (pass : �
 
   -- what holds of a record, and what is counted after it
   abbrev Holds : Call → State → Reply → Type 0
-  Holds c new p = IsOneOfEach config (entry pass c p) past × Counts config new (entry pass c p ∷ past)
+  Holds c new p = IsOneFlushAtATime config (entry pass c p) past × Counts config new (entry pass c p ∷ past)
 
   keeps-after : (c : Call) (p : Reply) → reply config id s c ≡ Some p → Begins c p → Keeps config (after_call config s c).groups (λ name. begun_at config name (entry pass c p ∷ past))
   keeps-after c p e same = subst (Keeps config (after_call config s c).groups) (λ j name. same name j) (keeps-call config id s (λ name. begun_at config name past) n.keeps c p e)
@@ -197,14 +197,14 @@ module _ (config : Config) (id : ℕ) (s : State) (past : List Record) (pass : �
           let come : h.due ≤ t = leb-true h.due t (first (nat_le h.due t) (not (is_flushing s.flushes h.name)) passes) in
           subst (λ d. d ≤ t) is.1 come
 
-  none-begun : (c : Call) (p : Reply) → ((number : ℕ) → is_flush number p ≡ false) → ((number : ℕ) → is_finish number c ≡ false) → ((name : GroupName) → takes name p ≡ false) → IsOneOfEach config (entry pass c p) past
+  none-begun : (c : Call) (p : Reply) → ((number : ℕ) → is_flush number p ≡ false) → ((number : ℕ) → is_finish number c ≡ false) → ((name : GroupName) → takes name p ≡ false) → IsOneFlushAtATime config (entry pass c p) past
   none-begun c p a b d =
       record {
-        begins = λ number e. absurd (false≢true (sym (a number) ∙ e));
-        begun = λ number e. absurd (false≢true (sym (b number) ∙ e));
-        finishes = λ number e. absurd (false≢true (sym (b number) ∙ e));
-        alone = λ name e. absurd (false≢true (sym (d name) ∙ e));
-        later = λ name e. absurd (false≢true (sym (d name) ∙ e));
+        first_begin = λ number e. absurd (false≢true (sym (a number) ∙ e));
+        begun_before = λ number e. absurd (false≢true (sym (b number) ∙ e));
+        first_finish = λ number e. absurd (false≢true (sym (b number) ∙ e));
+        none_open = λ name e. absurd (false≢true (sym (d name) ∙ e));
+        interval_over = λ name e. absurd (false≢true (sym (d name) ∙ e));
       }
 
   insert : (now : ℕ) (a : AlertData) → Holds (Insert now a) (after_call config s (Insert now a)) (Inserted (inserted config s a))
@@ -234,17 +234,17 @@ module _ (config : Config) (id : ℕ) (s : State) (past : List Record) (pass : �
       )
 
   -- a begin that takes a group
-  taking-one : (now : ℕ) (g : GroupState) (p : Reply) → taken s (moment s now) ≡ Some g → ((number : ℕ) → is_flush number p ≡ true → has_begun number past ≡ false) → ((name : GroupName) → takes name p ≡ same_name name g.name) → IsOneOfEach config (entry pass (Begin now) p) past
+  taking-one : (now : ℕ) (g : GroupState) (p : Reply) → taken s (moment s now) ≡ Some g → ((number : ℕ) → is_flush number p ≡ true → has_begun number past ≡ false) → ((name : GroupName) → takes name p ≡ same_name name g.name) → IsOneFlushAtATime config (entry pass (Begin now) p) past
   taking-one now g p e first is =
       let at = clock-step config s past k now (entry pass (Begin now) p) refl in
       record {
-        begins = first;
-        begun = λ number h. absurd (false≢true h);
-        finishes = λ number h. absurd (false≢true h);
-        alone = λ name h.
+        first_begin = first;
+        begun_before = λ number h. absurd (false≢true h);
+        first_finish = λ number h. absurd (false≢true h);
+        none_open = λ name h.
             let own : name ≡ g.name = same_name-is name g.name (sym (is name) ∙ h) in
             open-group config s past n name ∙ ap (is_flushing s.flushes) own ∙ any_none (λ f. same_name g.name f.group) s.flushes (taken-is s (moment s now) g steady.groups e).free;
-        later = λ name h.
+        interval_over = λ name h.
             let own : name ≡ g.name = same_name-is name g.name (sym (is name) ∙ h) in
             subst (λ t. IsLater (route_of config name).group_interval t (begun_at config name past)) at
             (subst (λ m. IsLater (route_of config m).group_interval (moment s now) (begun_at config m past)) (sym own) (later-taken (moment s now) g e));
@@ -309,11 +309,11 @@ module _ (config : Config) (id : ℕ) (s : State) (past : List Record) (pass : �
       let is_open : (has_begun m past && not (has_finished m past)) ≡ true = open-number config s past n m ∙ any_some (λ (h : FlushState). h.number == m) f s.flushes is in
       let told : option_map (λ h. reply_is.Finished (finished s outcomes h)) (flush_numbered s.flushes m) ≡ Some p = ap (option_map (λ h. reply_is.Finished (finished s outcomes h))) is in (
         record {
-          begins = λ number h. absurd (false≢true h);
-          begun = λ number h. subst (λ x. has_begun x past ≡ true) (eqb-true m number h) (two (has_begun m past) (has_finished m past) is_open).0;
-          finishes = λ number h. subst (λ x. has_finished x past ≡ false) (eqb-true m number h) (two (has_begun m past) (has_finished m past) is_open).1;
-          alone = λ name h. absurd (false≢true h);
-          later = λ name h. absurd (false≢true h);
+          first_begin = λ number h. absurd (false≢true h);
+          begun_before = λ number h. subst (λ x. has_begun x past ≡ true) (eqb-true m number h) (two (has_begun m past) (has_finished m past) is_open).0;
+          first_finish = λ number h. subst (λ x. has_finished x past ≡ false) (eqb-true m number h) (two (has_begun m past) (has_finished m past) is_open).1;
+          none_open = λ name h. absurd (false≢true h);
+          interval_over = λ name h. absurd (false≢true h);
         },
         record {
           opens = λ test.
@@ -387,7 +387,7 @@ counts_past config id [] legal =
 counts_past config id (r ∷ past) legal =
     (one_call config id (state_after config past) past r.pass (steady_past config past) (finds_past config id past legal.1) (counts_past config id past legal.1) r.call r.reply legal.0).1
 
-pub each_past : (config : Config) (id : ℕ) (past : List Record) → IsLegalPast config id past → AtEach (IsOneOfEach config) past
+pub each_past : (config : Config) (id : ℕ) (past : List Record) → IsLegalPast config id past → AtEach (IsOneFlushAtATime config) past
 each_past config id [] legal = tt
 each_past config id (r ∷ past) legal = (
   (one_call config id (state_after config past) past r.pass (steady_past config past) (finds_past config id past legal.1) (counts_past config id past legal.1) r.call r.reply legal.0).0,

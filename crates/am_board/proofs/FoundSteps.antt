@@ -29,7 +29,7 @@ use Rattle.am_board.specs.Calls.{now_of}
 use Rattle.am_board.specs.Lists.{put_in, without, changed_where}
 use Rattle.am_board.specs.LookBack.{member_with}
 use Rattle.am_board.specs.Past.{moment_at, is_flush, is_note, begin_of, was_noted}
-use Rattle.am_board.specs.Presence.{goes_to, inserts, begin_since, resolved_at_begin, asked_with_success, last_insert, unless_left, removes, presence}
+use Rattle.am_board.specs.Presence.{goes_to, inserts, begin_since, resolved_at_begin, all_succeeded_at, last_insert, unless_left, removes, presence}
 use Rattle.am_board.specs.State.{MemberState, GroupState, FlushState, State, moment, same_name, is_named, flush_numbered}
 use Rattle.am_board.specs.Upkeep.{after_maintain, maintained}
 use Rattle.am_board.proofs.ConsistentBegin.{IsTaken}
@@ -246,8 +246,8 @@ module _ (config : Config) (s : State) (past : List Record) (k : Finds config s 
             (λ m is.
             let own : labels ≡ m.alert.labels = (same_label_set-decides labels m.alert.labels).0 (member-labels labels m (members_of s.groups name) (k.found name labels ∙ is)) in
             let there : presence config name m.alert.labels past ≡ Some m = subst (λ l. presence config name l past ≡ Some m) own is in
-            ap (λ n. resolved_at_begin name m.alert (begin_since m.alert.labels n past) && asked_with_success n outcomes past (begin_of n past)) (sym same)
-            ∙ ap (λ b. b && asked_with_success f.number outcomes past (begin_of f.number past)) (o.leaving name m there)
+            ap (λ n. resolved_at_begin name m.alert (begin_since m.alert.labels n past) && all_succeeded_at n outcomes past (begin_of n past)) (sym same)
+            ∙ ap (λ b. b && all_succeeded_at f.number outcomes past (begin_of f.number past)) (o.leaving name m there)
             ∙ ap (λ b. (same_name name f.group && is_leaving f.leaving m) && b) (success-found config s.inserts past f o outcomes held.asked)
             ∙ turn (same_name name f.group) (is_leaving f.leaving m) (all_succeeded outcomes f));
         clock = clock-step now r refl;

@@ -68,7 +68,7 @@ pub mod RowsOrder
 pub mod RowsRefused
 pub mod RowsResolved
 pub mod RowsRouted
-pub mod RowsTold
+pub mod RowsDelivered
 pub mod SameAlerts
 pub mod Searches
 pub mod SetWords

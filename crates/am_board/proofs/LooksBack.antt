@@ -9,17 +9,18 @@ use Rattle.am_board.proofs.FoundAlerts.{alerts_are_found}
 use Rattle.am_board.proofs.FoundRows.{rows_are_found}
 use Rattle.am_board.proofs.ReasonsDecide.{begins_have_reasons}
 use Rattle.am_board.proofs.Refiring.{refiring_alerts_stay}
-use Rattle.am_board.proofs.RowsTold.{logs_as_told, rows_were_told}
+use Rattle.am_board.proofs.RowsDelivered.{shown_rows_are_found, only_delivered_is_logged, rows_were_delivered}
 
 pub histories_look_back : EveryLegalHistory LooksBack
 histories_look_back config id history legal =
     record {
       consistent = consistent config id history legal;
       alerts = alerts_are_found config id history legal;
-      shown = shown_alerts_are_found config id history legal;
+      shown_alerts = shown_alerts_are_found config id history legal;
       rows = rows_are_found config id history legal;
-      logged = logs_as_told config id history legal;
-      told = rows_were_told config id history legal;
+      shown_rows = shown_rows_are_found config id history legal;
+      only_delivered = only_delivered_is_logged config id history legal;
+      delivered = rows_were_delivered config id history legal;
       refiring = refiring_alerts_stay config id history legal;
       once = flushes_end_once config id history legal;
       asked = begins_ask_rightly config id history legal;

@@ -15,7 +15,7 @@ use Rattle.am_board.specs.Finish.{is_leaving, has_succeeded, all_succeeded}
 use Rattle.am_board.specs.Insert.{same_member}
 use Rattle.am_board.specs.LookBack.{member_with}
 use Rattle.am_board.specs.Past.{moment_at, is_flush, is_note, notices_in, begin_of, was_noted}
-use Rattle.am_board.specs.Presence.{inserts, begin_since, resolved_at_begin, asked_with_success, removes, presence}
+use Rattle.am_board.specs.Presence.{inserts, begin_since, resolved_at_begin, all_succeeded_at, removes, presence}
 use Rattle.am_board.specs.State.{MemberState, GroupState, AskedState, Stamped, FlushState, State, same_name, is_named}
 use Rattle.am_board.specs.Ticket.{is_nothing}
 use Rattle.am_board.proofs.ConsistentGroups.{members_of}
@@ -85,10 +85,10 @@ module _ (config : Config) (r : Record) (past : List Record) where
 
 module _ (config : Config) (n : ℕ) (past : List Record) (f : FlushState) (o : IsOpened config n past f) where
   -- all that it asked succeeded, exactly if its notices say so
-  pub success-found : (outcomes : List (ℕ × Outcome)) → is_empty f.asked ≡ false → asked_with_success f.number outcomes past (begin_of f.number past) ≡ all_succeeded outcomes f
+  pub success-found : (outcomes : List (ℕ × Outcome)) → is_empty f.asked ≡ false → all_succeeded_at f.number outcomes past (begin_of f.number past) ≡ all_succeeded outcomes f
   success-found outcomes some = by (begin_of f.number past) o.asked
     where
-      by : (begin : List Record) → f.asked ≡ map (asked_as f.number past) (notices_at begin) → asked_with_success f.number outcomes past begin ≡ all_succeeded outcomes f
+      by : (begin : List Record) → f.asked ≡ map (asked_as f.number past) (notices_at begin) → all_succeeded_at f.number outcomes past begin ≡ all_succeeded outcomes f
       by [] e = absurd (false≢true (sym some ∙ ap is_empty e))
       by (r ∷ before) e = sym (ap (λ asked. list_all (has_succeeded outcomes) asked) e ∙ list_all-map (has_succeeded outcomes) (asked_as f.number past) (notices_in r.reply))
 

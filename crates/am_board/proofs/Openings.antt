@@ -20,7 +20,7 @@ use Rattle.am_board.specs.declared.group.Group.{Group}
 use Rattle.am_board.specs.declared.group.GroupName.{GroupName}
 use Rattle.am_board.specs.declared.group.Member.{Member}
 use Rattle.am_board.specs.Begin.{deadline_of, firing_of, flush_asking, label_sets, leaving_of, notice_for, resolved_of}
-use Rattle.am_board.specs.Found.{IsFlushOf, IsFound, asked_asking, asking_of, leaving_member, notice_asking}
+use Rattle.am_board.specs.Found.{IsFlushAsking, IsFound, asked_asking, asking_of, leaving_member, notice_asking}
 use Rattle.am_board.specs.Insert.{same_member}
 use Rattle.am_board.specs.Kept.{asked_state_of, flush_state, group_state, member_state, stamped}
 use Rattle.am_board.specs.Opening.{IsSpare}
@@ -63,7 +63,7 @@ module _ (config : Config) (s : State) (t : ℕ) (g : Group) (found : Found) (is
       ∙ (ap (λ d. map (λ i. notice_asking id s.next_number d g.name found (asking_of i)) asked) ends
       ∙ ap (λ f. map (λ i. notice_asking id s.next_number (deadline_of config t (group_state g)) g.name f (asking_of i)) asked) found-is))
 
-  module _ (kept : ℕ) (askings : List Asking) (same : askings ≡ map asking_of asked) (f : OpenFlush) (h : IsFlushOf s.next_number kept g found askings t f) where
+  module _ (kept : ℕ) (askings : List Asking) (same : askings ≡ map asking_of asked) (f : OpenFlush) (h : IsFlushAsking s.next_number kept g found askings t f) where
     asked-are : map asked_state_of f.asked.items ≡ (flush_asking config s t (group_state g) asked).asked
     asked-are =
         ap (map asked_state_of) h.asked

@@ -19,7 +19,7 @@ use Rattle.am_board.specs.declared.views.RowView.{RowView}
 use Rattle.am_board.specs.Begin.{log_row}
 use Rattle.am_board.specs.Configured.{route_of, integrations_of, integrations_named}
 use Rattle.am_board.specs.Entry.{firing_in, resolved_in, entry_in}
-use Rattle.am_board.specs.LookBack.{EveryLegalHistory, asked_by_past, IsAskedRightly}
+use Rattle.am_board.specs.LookBack.{EveryLegalHistory, asked_after, IsAskedRightly}
 use Rattle.am_board.specs.Past.{AtEach, past_of, moment_at, notices_in}
 use Rattle.am_board.specs.Reasons.{asks, reason_by, reason_in, is_asked_in, AsksForReasons, BeginsHaveReasons, NotYetEnds}
 use Rattle.am_board.proofs.AskedRightly.{begins_ask_rightly}
@@ -78,7 +78,7 @@ module _ (config : Config) (name : GroupName) (t : ℕ) (past : List Record) (fi
       λ j. map (λ i. i.0) (filter (λ (i : ℕ × Integration). needed-asks (its_entry i) firing resolved i.1.send_resolved repeat t j) is)
 
 asked-reasons : (config : Config) (name : GroupName) (t : ℕ) (past : List Record)
-    → asked_by_past config name t past ≡ map (λ i. i.0) (filter (λ i. asks (reason_in config name t past i)) (integrations_of config name))
+    → asked_after config name t past ≡ map (λ i. i.0) (filter (λ i. asks (reason_in config name t past i)) (integrations_of config name))
 asked-reasons config name t past =
     let firing = firing_in config name t past in
     let resolved = resolved_in config name t past in

@@ -13,9 +13,9 @@ use Rattle.am_board.specs.declared.record.Record.{Record}
 use Rattle.am_board.specs.declared.record.Reply.{Reply}
 use Rattle.am_board.specs.declared.record.Reply.TheVariants.{Inserted, Silenced, NothingDue, Quiet, Flush, Finished, Maintained, Noted}
 use Rattle.am_board.specs.Entry.{begins_group}
-use Rattle.am_board.specs.LookBack.{member_with, EveryLegalHistory, number_in, insert_during, KeepsRefiring, IsOneOfEach, RefiringAlertsStay}
+use Rattle.am_board.specs.LookBack.{member_with, EveryLegalHistory, number_in, insert_during, KeepsRefiring, IsOneFlushAtATime, RefiringAlertsStay}
 use Rattle.am_board.specs.Past.{AtEach, past_of, moment_at, is_flush, is_flush_of, is_quiet, is_finish, takes, begin_of, has_finished}
-use Rattle.am_board.specs.Presence.{goes_to, inserts, inserted_by, stamp_told, last_insert, begin_since, resolved_at_begin, asked_with_success, finish_removes, removes, has_left, unless_left, presence}
+use Rattle.am_board.specs.Presence.{goes_to, inserts, inserted_by, stamp_told, last_insert, begin_since, resolved_at_begin, all_succeeded_at, finish_removes, removes, has_left, unless_left, presence}
 use Rattle.am_board.specs.State.{MemberState, members_in}
 use Rattle.am_board.proofs.FlushesOnce.{flushes_end_once}
 use Rattle.am_board.proofs.FoundAlerts.{members-found}
@@ -57,16 +57,16 @@ module _ (config : Config) (name : GroupName) (number : ℕ) where
       later false h = h
 
   -- so that no record takes the group
-  not-taken : (r : Record) (past : List Record) → IsOneOfEach config r past → begins_group name (begin_of number past) ≡ true → has_finished number past ≡ false → takes name r.reply ≡ false
+  not-taken : (r : Record) (past : List Record) → IsOneFlushAtATime config r past → begins_group name (begin_of number past) ≡ true → has_finished number past ≡ false → takes name r.reply ≡ false
   not-taken r past one begun unfinished = by (takes name r.reply) refl
     where
       by : (b : Bool) → takes name r.reply ≡ b → b ≡ false
-      by true e = absurd (false≢true (sym (one.alone name e) ∙ open-there past past begun unfinished))
+      by true e = absurd (false≢true (sym (one.none_open name e) ∙ open-there past past begun unfinished))
       by false e = refl
 
   module _ (labels : List Label) (m : MemberState) (own : labels ≡ m.alert.labels) where
     -- no begin of the group since the alert's last insert
-    none-resolved : (n : ℕ) (past : List Record) → AtEach (IsOneOfEach config) past → begins_group name (begin_of number past) ≡ true → has_finished number past ≡ false → insert_during number labels past ≡ Some m
+    none-resolved : (n : ℕ) (past : List Record) → AtEach (IsOneFlushAtATime config) past → begins_group name (begin_of number past) ≡ true → has_finished number past ≡ false → insert_during number labels past ≡ Some m
         → resolved_at_begin name m.alert (begin_since m.alert.labels n past) ≡ false
     none-resolved n [] each begun unfinished is = refl
     none-resolved n (r ∷ past) each begun unfinished is =
@@ -92,19 +92,19 @@ module _ (config : Config) (name : GroupName) (number : ℕ) where
     none-removed past (Insert now alert) h = refl
     none-removed past (Silence now id matchers start end) h = refl
     none-removed past (Begin now) h = refl
-    none-removed past (Finish now n outcomes) h = ap (λ b. b && asked_with_success n outcomes past (begin_of n past)) (h n)
+    none-removed past (Finish now n outcomes) h = ap (λ b. b && all_succeeded_at n outcomes past (begin_of n past)) (h n)
     none-removed past (Maintain now) h = refl
     none-removed past (Note now n integration outcome) h = refl
 
     -- a record while the flush is open
-    stays-one : (r : Record) (past : List Record) → IsOneOfEach config r past → AtEach (IsOneOfEach config) past → begins_group name (begin_of number past) ≡ true → has_finished number past ≡ false → insert_during number labels past ≡ Some m
+    stays-one : (r : Record) (past : List Record) → IsOneFlushAtATime config r past → AtEach (IsOneFlushAtATime config) past → begins_group name (begin_of number past) ≡ true → has_finished number past ≡ false → insert_during number labels past ≡ Some m
         → removes name m.alert r past ≡ false
     stays-one r past one each begun unfinished is =
         let free = neither (is_quiet name r.reply) (is_flush_of name r.reply) (not-taken r past one begun unfinished) in
         ap (λ b. (b && is_resolved m.alert (moment_at (r ∷ past))) || finish_removes name m.alert past r.call) free.0
         ∙ none-removed past r.call (λ n. none-resolved n past each begun unfinished is)
 
-    stays : (past : List Record) → AtEach (IsOneOfEach config) past → begins_group name (begin_of number past) ≡ true → has_finished number past ≡ false → insert_during number labels past ≡ Some m → has_left name m.alert past ≡ false
+    stays : (past : List Record) → AtEach (IsOneFlushAtATime config) past → begins_group name (begin_of number past) ≡ true → has_finished number past ≡ false → insert_during number labels past ≡ Some m → has_left name m.alert past ≡ false
     stays [] each begun unfinished is = refl
     stays (r ∷ past) each begun unfinished is =
         elim (is_flush number r.reply) as (λ b. is_flush number r.reply ≡ b → begins_group name (cond b (r ∷ past) (begin_of number past)) ≡ true → cond b None (cond (inserts labels r.call) (inserted_by (stamp_told r.reply) r.call) (insert_during number labels past)) ≡ Some m → has_left name m.alert (r ∷ past) ≡ false) [
@@ -144,13 +144,13 @@ finish-keeps labels number (Finish now n outcomes) e = refl
 finish-keeps labels number (Maintain now) e = refl
 finish-keeps labels number (Note now n integration outcome) e = refl
 
-present-after : (config : Config) (r : Record) (past : List Record) → IsOneOfEach config r past → AtEach (IsOneOfEach config) past → (number : ℕ) → is_finish number r.call ≡ true
+present-after : (config : Config) (r : Record) (past : List Record) → IsOneFlushAtATime config r past → AtEach (IsOneFlushAtATime config) past → (number : ℕ) → is_finish number r.call ≡ true
     → (name : GroupName) → begins_group name (begin_of number past) ≡ true → (labels : List Label) → goes_to config name labels ≡ true
     → (m : MemberState) → insert_during number labels past ≡ Some m → presence config name labels (r ∷ past) ≡ Some m
 present-after config r past one each number is name begun labels goes m during =
     let last = during-last number labels m past during in
     let own : labels ≡ m.alert.labels = (same_label_set-decides labels m.alert.labels).0 (last_insert-labels labels m past last) in
-    let unfinished = one.finishes number is in
+    let unfinished = one.first_finish number is in
     ap (λ b. cond b (unless_left name (r ∷ past) (last_insert labels (r ∷ past))) None) goes
     ∙ ap (λ b. unless_left name (r ∷ past) (cond b (inserted_by (stamp_told r.reply) r.call) (last_insert labels past))) (finish-keeps labels number r.call is)
     ∙ ap (unless_left name (r ∷ past)) last
@@ -158,7 +158,7 @@ present-after config r past one each number is name begun labels goes m during =
     ∙ ap (λ b. cond (b || has_left name m.alert past) None (Some m)) (stays-one config name number labels m own r past one each begun unfinished during)
     ∙ ap (λ b. cond b None (Some m)) (stays config name number labels m own past each begun unfinished during)
 
-each_past : (config : Config) (id : ℕ) (past : List Record) → IsLegalPast config id past → AtEach (IsOneOfEach config) past → AtEach (KeepsRefiring config) past
+each_past : (config : Config) (id : ℕ) (past : List Record) → IsLegalPast config id past → AtEach (IsOneFlushAtATime config) past → AtEach (KeepsRefiring config) past
 each_past config id [] legal each = tt
 each_past config id (r ∷ past) legal each = (
   λ number is name begun labels goes m during.

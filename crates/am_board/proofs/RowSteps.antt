@@ -22,7 +22,7 @@ use Rattle.am_board.specs.declared.views.RowView.{RowView}
 use Rattle.am_board.specs.Begin.{is_entry_of, notice_for, deadline_of, begun_group, flush_asking}
 use Rattle.am_board.specs.Configured.{expiry_at}
 use Rattle.am_board.specs.Data.{NoticeData}
-use Rattle.am_board.specs.Entry.{latest_first, known_in, silences_in, firing_in, resolved_in, row_of_begin, begins_group, asked_to_success, logs, unless_expired, entry_in}
+use Rattle.am_board.specs.Entry.{latest_first, known_in, silences_in, firing_in, resolved_in, row_of_begin, begins_group, asked_and_succeeded, logs, unless_expired, entry_in}
 use Rattle.am_board.specs.Finish.{same_key, row_at, log_with, has_succeeded, logged_by, finished, after_finish}
 use Rattle.am_board.specs.History.{entry}
 use Rattle.am_board.specs.Insert.{same_alert, same_member, inserted, after_insert}
@@ -118,7 +118,7 @@ module _ (name : GroupName) (i : ℕ) where
 
 -- whom a finish logs is whom the notices say
 logged-found : (config : Config) (n : ℕ) (past : List Record) (f : FlushState) → IsOpened config n past f → (outcomes : List (ℕ × Outcome)) (i : ℕ)
-    → list_any (λ a. i == a.integration) (logged_by outcomes f) ≡ (asked_to_success f.number outcomes past i (begin_of f.number past) && not (was_noted f.number i past))
+    → list_any (λ a. i == a.integration) (logged_by outcomes f) ≡ (asked_and_succeeded f.number outcomes past i (begin_of f.number past) && not (was_noted f.number i past))
 logged-found config n past f o outcomes i =
     any-filter (λ a. i == a.integration) (λ a. has_succeeded outcomes a && not a.noted) f.asked
     ∙ ap (λ asked. list_any (λ a. (has_succeeded outcomes a && not a.noted) && (i == a.integration)) asked) o.asked
@@ -128,7 +128,7 @@ logged-found config n past f o outcomes i =
     ∙ any-and (λ x. (x.integration == i) && succeeded f.number outcomes past x) (not (was_noted f.number i past)) (notices_at (begin_of f.number past))
     ∙ ap (λ b. b && not (was_noted f.number i past)) (begun (begin_of f.number past))
   where
-    begun : (begin : List Record) → list_any (λ x. (x.integration == i) && succeeded f.number outcomes past x) (notices_at begin) ≡ asked_to_success f.number outcomes past i begin
+    begun : (begin : List Record) → list_any (λ x. (x.integration == i) && succeeded f.number outcomes past x) (notices_at begin) ≡ asked_and_succeeded f.number outcomes past i begin
     begun [] = refl
     begun (r ∷ before) = refl
 
@@ -242,8 +242,8 @@ module _ (config : Config) (s : State) (past : List Record) (k : Finds config s 
             ∙ or-there (same_name name f.group && list_any (λ a. i == a.integration) (logged_by outcomes f)) (logs name i past r.call) (row_of_begin config (moment_at (r ∷ past)) i (begin_of number past)) (row_at config t f i)
             (find (is_entry_of name i) s.rows) (entry_in config name i past)
             (ap (λ b. same_name name f.group && b) (logged-found config s.inserts past f o outcomes i)
-            ∙ ap (λ b. b && (asked_to_success f.number outcomes past i (begin_of f.number past) && not (was_noted f.number i past))) (sym (told.group name))
-            ∙ ap (λ n. begins_group name (begin_of n past) && (asked_to_success n outcomes past i (begin_of n past) && not (was_noted n i past))) same)
+            ∙ ap (λ b. b && (asked_and_succeeded f.number outcomes past i (begin_of f.number past) && not (was_noted f.number i past))) (sym (told.group name))
+            ∙ ap (λ n. begins_group name (begin_of n past) && (asked_and_succeeded n outcomes past i (begin_of n past) && not (was_noted n i past))) same)
             (ap (λ u. row_of_begin config u i (begin_of number past)) (sym at) ∙ ap (λ n. row_of_begin config t i (begin_of n past)) (sym same) ∙ told.row t i)
             (l.rows name i);
         known = l.known;

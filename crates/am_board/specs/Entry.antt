@@ -19,7 +19,7 @@ use Rattle.am_board.specs.Begin.{alert_cmp, label_sets}
 use Rattle.am_board.specs.Configured.{rules_of, expiry_at}
 use Rattle.am_board.specs.Insert.{same_alert}
 use Rattle.am_board.specs.Lists.{without, in_order}
-use Rattle.am_board.specs.Past.{moment_at, is_flush_of, notices_in, begin_of, was_noted, succeeded}
+use Rattle.am_board.specs.Past.{Past, moment_at, is_flush_of, notices_in, begin_of, was_noted, succeeded}
 use Rattle.am_board.specs.Presence.{presence}
 use Rattle.am_board.specs.State.{MemberState}
 use Rattle.am_board.specs.Upkeep.{same_silence, has_expired}
@@ -48,21 +48,21 @@ silence_in (Maintain now) = None
 silence_in (Note now number integration outcome) = None
 
 -- the known alerts: the last insert of each label set
-abbrev pub known_in : List Record → List AlertData
+abbrev pub known_in : Past → List AlertData
 known_in [] = []
 known_in (r ∷ past) = latest_first same_alert (alert_in r.call) (known_in past)
 
 -- the silences: the last of each id
-abbrev pub silences_in : List Record → List SilenceData
+abbrev pub silences_in : Past → List SilenceData
 silences_in [] = []
 silences_in (r ∷ past) = latest_first same_silence (silence_in r.call) (silences_in past)
 
 -- the alerts that are present in a group
-abbrev pub present_in : Config → GroupName → List Record → List MemberState
+abbrev pub present_in : Config → GroupName → Past → List MemberState
 present_in config name past = filter_map (λ a. presence config name a.labels past) (known_in past)
 
 -- the alerts that are present in a group and not muted at t
-abbrev pub unmuted_in : Config → GroupName → ℕ → List Record → List AlertData
+abbrev pub unmuted_in : Config → GroupName → ℕ → Past → List AlertData
 unmuted_in config name t past =
     without (λ a. is_muted a.labels t (silences_in past) (rules_of config) (known_in past)) (map (λ m. m.alert) (present_in config name past))
 
@@ -71,29 +71,29 @@ abbrev pub without_end : AlertData → AlertData
 without_end a = alert_of a.labels a.starts None
 
 -- the alerts that a begin of a group at t lists as firing, in the order of their label sets: those that are present, neither muted nor resolved, without their ends
-abbrev pub firing_alerts_in : Config → GroupName → ℕ → List Record → List AlertData
+abbrev pub firing_alerts_in : Config → GroupName → ℕ → Past → List AlertData
 firing_alerts_in config name t past =
     in_order alert_cmp (map without_end (without (λ a. is_resolved a t) (unmuted_in config name t past)))
 
 -- and those that it lists as resolved, as they are
-abbrev pub resolved_alerts_in : Config → GroupName → ℕ → List Record → List AlertData
+abbrev pub resolved_alerts_in : Config → GroupName → ℕ → Past → List AlertData
 resolved_alerts_in config name t past = in_order alert_cmp (filter (λ a. is_resolved a t) (unmuted_in config name t past))
 
 -- the label sets that a begin of a group at t lists as firing, in their order
-abbrev pub firing_in : Config → GroupName → ℕ → List Record → List (List Label)
+abbrev pub firing_in : Config → GroupName → ℕ → Past → List (List Label)
 firing_in config name t past = label_sets (firing_alerts_in config name t past)
 
 -- and those that it lists as resolved
-abbrev pub resolved_in : Config → GroupName → ℕ → List Record → List (List Label)
+abbrev pub resolved_in : Config → GroupName → ℕ → Past → List (List Label)
 resolved_in config name t past = label_sets (resolved_alerts_in config name t past)
 
 -- the row that a success logs at t for an integration that a flush with this reply and this past asked at its moment
-abbrev pub row_told : Config → ℕ → ℕ → ℕ → List Record → Reply → Option RowView
-row_told config t integration begun past (Inserted inserted) = None
-row_told config t integration begun past (Silenced silenced) = None
-row_told config t integration begun past NothingDue = None
-row_told config t integration begun past (Quiet group removed) = None
-row_told config t integration begun past (Flush number group deadline notices) =
+abbrev pub row_of_flush : Config → ℕ → ℕ → ℕ → Past → Reply → Option RowView
+row_of_flush config t integration begun past (Inserted inserted) = None
+row_of_flush config t integration begun past (Silenced silenced) = None
+row_of_flush config t integration begun past NothingDue = None
+row_of_flush config t integration begun past (Quiet group removed) = None
+row_of_flush config t integration begun past (Flush number group deadline notices) =
     Some (record {
       group = group;
       integration = integration;
@@ -102,39 +102,39 @@ row_told config t integration begun past (Flush number group deadline notices) =
       firing = firing_in config group begun past;
       resolved = resolved_in config group begun past;
     })
-row_told config t integration begun past (Finished finished) = None
-row_told config t integration begun past (Maintained maintained) = None
-row_told config t integration begun past Noted = None
+row_of_flush config t integration begun past (Finished finished) = None
+row_of_flush config t integration begun past (Maintained maintained) = None
+row_of_flush config t integration begun past Noted = None
 
 -- the row that a success logs at t for an integration that the flush at the head asked
-abbrev pub row_of_begin : Config → ℕ → ℕ → List Record → Option RowView
+abbrev pub row_of_begin : Config → ℕ → ℕ → Past → Option RowView
 row_of_begin config t integration [] = None
-row_of_begin config t integration (r ∷ past) = row_told config t integration (moment_at (r ∷ past)) past r.reply
+row_of_begin config t integration (r ∷ past) = row_of_flush config t integration (moment_at (r ∷ past)) past r.reply
 
 -- whether the flush at the head is of this group
-abbrev pub begins_group : GroupName → List Record → Bool
+abbrev pub begins_group : GroupName → Past → Bool
 begins_group name [] = false
 begins_group name (r ∷ past) = is_flush_of name r.reply
 
 -- whether the flush at the head asked an integration that succeeded, where its finish has these outcomes and this past
-abbrev pub asked_to_success : ℕ → List (ℕ × Outcome) → List Record → ℕ → List Record → Bool
-asked_to_success number outcomes before integration [] = false
-asked_to_success number outcomes before integration (r ∷ past) =
-    list_any (λ n. (n.integration == integration) && succeeded number outcomes before n) (notices_in r.reply)
+abbrev pub asked_and_succeeded : ℕ → List (ℕ × Outcome) → Past → ℕ → Past → Bool
+asked_and_succeeded number outcomes finish_past integration [] = false
+asked_and_succeeded number outcomes finish_past integration (r ∷ past) =
+    list_any (λ n. (n.integration == integration) && succeeded number outcomes finish_past n) (notices_in r.reply)
 
 -- whether a finish or a note with this past logs an integration's success for a group: a finish of a flush of the group in which it was asked and succeeded, unless it was noted, or its note
-abbrev pub logs : GroupName → ℕ → List Record → Call → Bool
+abbrev pub logs : GroupName → ℕ → Past → Call → Bool
 logs name integration past (Insert now alert) = false
 logs name integration past (Silence now id matchers start end) = false
 logs name integration past (Begin now) = false
 logs name integration past (Finish now number outcomes) =
     begins_group name (begin_of number past)
-    && (asked_to_success number outcomes past integration (begin_of number past) && not (was_noted number integration past))
+    && (asked_and_succeeded number outcomes past integration (begin_of number past) && not (was_noted number integration past))
 logs name integration past (Maintain now) = false
 logs name integration past (Note now number i outcome) = begins_group name (begin_of number past) && (i == integration)
 
--- the begin of the flush that a finish or a note names, with what came before it
-abbrev pub begin_named : List Record → Call → List Record
+-- the past that begins with the begin of the flush that a finish or a note names
+abbrev pub begin_named : Past → Call → Past
 begin_named past (Insert now alert) = []
 begin_named past (Silence now id matchers start end) = []
 begin_named past (Begin now) = []
@@ -143,7 +143,7 @@ begin_named past (Maintain now) = []
 begin_named past (Note now number integration outcome) = begin_of number past
 
 -- the row that the latest record logs for a group and an integration, if it does
-abbrev pub row_logged : Config → GroupName → ℕ → Record → List Record → Option RowView
+abbrev pub row_logged : Config → GroupName → ℕ → Record → Past → Option RowView
 row_logged config name integration r past =
     if logs name integration past r.call
     then row_of_begin config (moment_at (r ∷ past)) integration (begin_named past r.call)
@@ -164,7 +164,7 @@ unless_collected t (Maintain now) row = unless_expired t row
 unless_collected t (Note now number integration outcome) row = row
 
 -- entry: the row of the last record that logged a success of an integration for a group, unless a maintenance since then came at or past its expiry
-abbrev pub entry_in : Config → GroupName → ℕ → List Record → Option RowView
+abbrev pub entry_in : Config → GroupName → ℕ → Past → Option RowView
 entry_in config name integration [] = None
 entry_in config name integration (r ∷ past) =
     option_or (row_logged config name integration r past)

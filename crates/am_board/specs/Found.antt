@@ -96,7 +96,7 @@ abbrev pub leaving_member : Member → Leaving
 leaving_member m = record { labels = m.alert.labels; stamp = m.stamp }
 
 -- a flush of a group at t, of this number, with what was found, that asks these integrations
-pub record IsFlushOf (n kept : ℕ) (g : Group) (found : Found) (askings : List Asking) (t : ℕ) (f : OpenFlush) : Type 0 where
+pub record IsFlushAsking (n kept : ℕ) (g : Group) (found : Found) (askings : List Asking) (t : ℕ) (f : OpenFlush) : Type 0 where
   pub number : f.number ≡ n
   pub kept_for : f.kept_for ≡ kept
   pub group : f.group ≡ g.name

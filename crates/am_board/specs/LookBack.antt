@@ -26,13 +26,13 @@ use Rattle.am_board.specs.Finish.{is_delivered}
 use Rattle.am_board.specs.Interval.{found_empty, BeginsKeepTheInterval}
 use Rattle.am_board.specs.Laws.{IsConsistent}
 use Rattle.am_board.specs.Lists.{in_order}
-use Rattle.am_board.specs.Past.{AtEach, past_of, replay_past, moment_at, is_flush, is_flush_of, is_finish, takes, notices_in, begin_of, has_begun, has_finished}
+use Rattle.am_board.specs.Past.{Past, AtEach, past_of, replay_past, moment_at, is_flush, is_flush_of, is_finish, takes, notices_in, begin_of, has_begun, has_finished}
 use Rattle.am_board.specs.Presence.{goes_to, inserts, inserted_by, stamp_told, presence}
 use Rattle.am_board.specs.Reasons.{BeginsHaveReasons}
 use Rattle.am_board.specs.Replay.{replay, IsLegal}
 use Rattle.am_board.specs.State.{MemberState, members_in}
 use Rattle.am_board.specs.Ticket.{outcome_of, is_nothing}
-use Rattle.am_board.specs.Views.{group_views}
+use Rattle.am_board.specs.Views.{row_views, group_views}
 
 -- what every legal history has
 abbrev pub EveryLegalHistory : (Config → List Record → Type 0) → Type 0
@@ -51,7 +51,7 @@ AlertsAreFound config history =
     → member_with labels (members_in (replay config history).groups name) ≡ presence config name labels (past_of history)
 
 -- the alerts of a group, in the order of their label sets
-abbrev pub alerts_in : Config → GroupName → List Record → List AlertData
+abbrev pub alerts_in : Config → GroupName → Past → List AlertData
 alerts_in config name past = in_order alert_cmp (map (λ m. m.alert) (present_in config name past))
 
 -- each group that is shown after a history has the alerts that looking back finds
@@ -65,53 +65,58 @@ RowsAreFound config history =
     (name : GroupName) (integration : ℕ)
     → find (is_entry_of name integration) (replay config history).rows ≡ entry_in config name integration (past_of history)
 
+-- each row that is shown after a history is the one that looking back finds for its group and integration
+abbrev pub ShownRowsAreFound : Config → List Record → Type 0
+ShownRowsAreFound config history =
+    All (λ row. entry_in config row.group row.integration (past_of history) ≡ Some row) (row_views (replay config history))
+
 -- ---- logged only after delivery
 
--- whether an integration is among these notices, and had nothing to send or has this outcome, and it is delivered
-abbrev pub is_told : ℕ → Option Outcome → List NoticeData → Bool
-is_told integration outcome notices =
+-- whether one of these notices is the integration's, and it had nothing to send or this outcome is Delivered
+abbrev pub is_delivered_to : ℕ → Option Outcome → List NoticeData → Bool
+is_delivered_to integration outcome notices =
     list_any (λ n. (n.integration == integration) && (is_nothing n || is_delivered outcome)) notices
 
 -- whether the flush at the head is of this group, and asked an integration that had nothing to send or was delivered
-abbrev pub is_told_in : GroupName → ℕ → Option Outcome → List Record → Bool
-is_told_in name integration outcome [] = false
-is_told_in name integration outcome (r ∷ past) = is_flush_of name r.reply && is_told integration outcome (notices_in r.reply)
+abbrev pub is_delivered_in : GroupName → ℕ → Option Outcome → Past → Bool
+is_delivered_in name integration outcome [] = false
+is_delivered_in name integration outcome (r ∷ past) = is_flush_of name r.reply && is_delivered_to integration outcome (notices_in r.reply)
 
--- whether a finish or a note with this past tells that an integration's notice for a group was delivered, or had nothing to send
-abbrev pub tells : GroupName → ℕ → List Record → Call → Bool
-tells name integration past (Insert now alert) = false
-tells name integration past (Silence now id matchers start end) = false
-tells name integration past (Begin now) = false
-tells name integration past (Finish now number outcomes) =
-    is_told_in name integration (outcome_of outcomes integration) (begin_of number past)
-tells name integration past (Maintain now) = false
-tells name integration past (Note now number i outcome) = (i == integration) && is_told_in name integration outcome (begin_of number past)
+-- whether a finish or a note with this past reports that its flush's notice for an integration of a group was delivered, or had nothing to send
+abbrev pub reports_delivery : GroupName → ℕ → Past → Call → Bool
+reports_delivery name integration past (Insert now alert) = false
+reports_delivery name integration past (Silence now id matchers start end) = false
+reports_delivery name integration past (Begin now) = false
+reports_delivery name integration past (Finish now number outcomes) =
+    is_delivered_in name integration (outcome_of outcomes integration) (begin_of number past)
+reports_delivery name integration past (Maintain now) = false
+reports_delivery name integration past (Note now number i outcome) = (i == integration) && is_delivered_in name integration outcome (begin_of number past)
 
--- a record that logs an integration's success for a group tells that the notice of that flush was delivered, or had nothing to send
-abbrev pub IsLoggedAsTold : Record → List Record → Type 0
-IsLoggedAsTold r past =
-    (name : GroupName) (integration : ℕ) → logs name integration past r.call ≡ true → tells name integration past r.call ≡ true
+-- what a record logs was delivered: where it logs an integration's success for a group, it reports so of that flush's notice
+abbrev pub LogsDelivered : Record → Past → Type 0
+LogsDelivered r past =
+    (name : GroupName) (integration : ℕ) → logs name integration past r.call ≡ true → reports_delivery name integration past r.call ≡ true
 
--- whether the last record that logged a row's integration for its group did so at the row's moment, and told that its notice was delivered, or had nothing to send
-abbrev pub was_told : RowView → List Record → Bool
-was_told row [] = false
-was_told row (r ∷ past) =
+-- whether the last record that logged a row's integration for its group did so at the row's moment, and reported that its notice was delivered, or had nothing to send
+abbrev pub was_delivered : RowView → Past → Bool
+was_delivered row [] = false
+was_delivered row (r ∷ past) =
     if logs row.group row.integration past r.call
-    then (moment_at (r ∷ past) == row.moment) && tells row.group row.integration past r.call
-    else was_told row past
+    then (moment_at (r ∷ past) == row.moment) && reports_delivery row.group row.integration past r.call
+    else was_delivered row past
 
--- whatever a history logs was told delivered, or had nothing to send
-abbrev pub LogsAsTold : Config → List Record → Type 0
-LogsAsTold config history = AtEach IsLoggedAsTold (past_of history)
+-- whatever a history logs was delivered, or had nothing to send
+abbrev pub OnlyDeliveredIsLogged : Config → List Record → Type 0
+OnlyDeliveredIsLogged config history = AtEach LogsDelivered (past_of history)
 
--- each row of the log stands for a notice that was told delivered, or had nothing to send, at its moment
-abbrev pub RowsWereTold : Config → List Record → Type 0
-RowsWereTold config history = All (λ row. IsTrue (was_told row (past_of history))) (replay config history).rows
+-- each row of the log stands for a notice that was reported delivered, or had nothing to send, at its moment
+abbrev pub RowsWereDelivered : Config → List Record → Type 0
+RowsWereDelivered config history = All (λ row. IsTrue (was_delivered row (past_of history))) (replay config history).rows
 
 -- ---- a refiring alert stays
 
 -- the last insert of a label set after the begin of the flush of this number
-abbrev pub insert_during : ℕ → List Label → List Record → Option MemberState
+abbrev pub insert_during : ℕ → List Label → Past → Option MemberState
 insert_during number labels [] = None
 insert_during number labels (r ∷ past) =
     if is_flush number r.reply then None
@@ -119,7 +124,7 @@ insert_during number labels (r ∷ past) =
     else insert_during number labels past
 
 -- after a record that finishes a flush, each alert that was inserted into the group since the begin is in the group, as it was inserted last
-abbrev pub KeepsRefiring : Config → Record → List Record → Type 0
+abbrev pub KeepsRefiring : Config → Record → Past → Type 0
 KeepsRefiring config r past =
     (number : ℕ) → is_finish number r.call ≡ true
     → (name : GroupName) → begins_group name (begin_of number past) ≡ true
@@ -145,11 +150,11 @@ number_in (Maintained maintained) = 0
 number_in Noted = 0
 
 -- whether a flush of this group is open: it has begun, and isn't finished
-abbrev pub has_open : GroupName → List Record → Bool
+abbrev pub has_open : GroupName → Past → Bool
 has_open name past = list_any (λ r. is_flush_of name r.reply && not (has_finished (number_in r.reply) past)) past
 
 -- the moment of the last begin of a group, unless a maintenance since then found it without alerts
-abbrev pub begun_at : Config → GroupName → List Record → Option ℕ
+abbrev pub begun_at : Config → GroupName → Past → Option ℕ
 begun_at config name [] = None
 begun_at config name (r ∷ past) =
     if takes name r.reply then Some (moment_at (r ∷ past))
@@ -162,41 +167,41 @@ IsLater interval t None = Unit {0}
 IsLater interval t (Some last) = last + interval ≤ t
 
 -- a record begins only a flush that hasn't begun, finishes only one that has begun and isn't finished, and takes only a group that has no open flush and was begun an interval ago
-pub record IsOneOfEach (config : Config) (r : Record) (past : List Record) : Type 0 where
-  pub begins : (number : ℕ) → is_flush number r.reply ≡ true → has_begun number past ≡ false
-  pub begun : (number : ℕ) → is_finish number r.call ≡ true → has_begun number past ≡ true
-  pub finishes : (number : ℕ) → is_finish number r.call ≡ true → has_finished number past ≡ false
-  pub alone : (name : GroupName) → takes name r.reply ≡ true → has_open name past ≡ false
-  pub later : (name : GroupName) → takes name r.reply ≡ true → IsLater (route_of config name).group_interval (moment_at (r ∷ past)) (begun_at config name past)
+pub record IsOneFlushAtATime (config : Config) (r : Record) (past : Past) : Type 0 where
+  pub first_begin : (number : ℕ) → is_flush number r.reply ≡ true → has_begun number past ≡ false
+  pub begun_before : (number : ℕ) → is_finish number r.call ≡ true → has_begun number past ≡ true
+  pub first_finish : (number : ℕ) → is_finish number r.call ≡ true → has_finished number past ≡ false
+  pub none_open : (name : GroupName) → takes name r.reply ≡ true → has_open name past ≡ false
+  pub interval_over : (name : GroupName) → takes name r.reply ≡ true → IsLater (route_of config name).group_interval (moment_at (r ∷ past)) (begun_at config name past)
 
 -- each number has one begin and at most one finish; a group is taken only while none of its flushes is open, and an interval after its last begin
 abbrev pub FlushesEndOnce : Config → List Record → Type 0
-FlushesEndOnce config history = AtEach (IsOneOfEach config) (past_of history)
+FlushesEndOnce config history = AtEach (IsOneFlushAtATime config) (past_of history)
 
 -- ---- a begin asks exactly whom it should
 
 -- whether an integration needs an update about these label sets of a group at t, by the entry that looking back finds
-abbrev pub needs_by : Config → GroupName → ℕ → List Record → List (List Label) → List (List Label) → ℕ × Integration → Bool
-needs_by config name t past firing resolved i =
+abbrev pub needs_after : Config → GroupName → ℕ → Past → List (List Label) → List (List Label) → ℕ × Integration → Bool
+needs_after config name t past firing resolved i =
     needed same_label_set (option_map log_row (entry_in config name i.0 past)) firing resolved i.1.send_resolved
     (route_of config name).repeat_interval t
 
 -- the integrations that need an update about these label sets; none where nothing fires and nothing is resolved
-abbrev pub asked_about_by : Config → GroupName → ℕ → List Record → List (List Label) → List (List Label) → List ℕ
-asked_about_by config name t past firing resolved =
+abbrev pub asked_about_after : Config → GroupName → ℕ → Past → List (List Label) → List (List Label) → List ℕ
+asked_about_after config name t past firing resolved =
     if is_empty firing && is_empty resolved then []
-    else map (λ i. i.0) (filter (needs_by config name t past firing resolved) (integrations_of config name))
+    else map (λ i. i.0) (filter (needs_after config name t past firing resolved) (integrations_of config name))
 
 -- the integrations that a begin of a group at t is to ask
-abbrev pub asked_by_past : Config → GroupName → ℕ → List Record → List ℕ
-asked_by_past config name t past =
-    asked_about_by config name t past (firing_in config name t past) (resolved_in config name t past)
+abbrev pub asked_after : Config → GroupName → ℕ → Past → List ℕ
+asked_after config name t past =
+    asked_about_after config name t past (firing_in config name t past) (resolved_in config name t past)
 
 -- a begin that takes a group asks those that it is to ask, and no other
-abbrev pub IsAskedRightly : Config → Record → List Record → Type 0
+abbrev pub IsAskedRightly : Config → Record → Past → Type 0
 IsAskedRightly config r past =
     (name : GroupName) → takes name r.reply ≡ true
-    → map (λ n. n.integration) (notices_in r.reply) ≡ asked_by_past config name (moment_at (r ∷ past)) past
+    → map (λ n. n.integration) (notices_in r.reply) ≡ asked_after config name (moment_at (r ∷ past)) past
 
 -- each begin that takes a group asks those that it is to ask
 abbrev pub BeginsAskRightly : Config → List Record → Type 0
@@ -209,7 +214,7 @@ abbrev pub wants_resolved : Config → GroupName → ℕ → Bool
 wants_resolved config name integration = list_any (λ i. (integration == i.0) && i.1.send_resolved) (integrations_of config name)
 
 -- a notice of a group's flush at t lists the alerts that looking back finds: those that fire, and the resolved ones where its integration is sent them
-pub record IsNoticeFound (config : Config) (number : ℕ) (name : GroupName) (until t : ℕ) (past : List Record) (n : NoticeData) : Type 0 where
+pub record IsNoticeFound (config : Config) (number : ℕ) (name : GroupName) (until t : ℕ) (past : Past) (n : NoticeData) : Type 0 where
   pub ticket : n.ticket ≡ number
   pub group : n.group ≡ name
   pub deadline : n.deadline ≡ until
@@ -217,12 +222,12 @@ pub record IsNoticeFound (config : Config) (number : ℕ) (name : GroupName) (un
   pub resolved : n.resolved ≡ (if wants_resolved config name n.integration then resolved_alerts_in config name t past else [])
 
 -- a group's flush at t has its deadline a group interval later, but ten seconds at least, and its notices list what looking back finds
-pub record IsFlushFound (config : Config) (number : ℕ) (name : GroupName) (until t : ℕ) (past : List Record) (notices : List NoticeData) : Type 0 where
+pub record IsFlushFound (config : Config) (number : ℕ) (name : GroupName) (until t : ℕ) (past : Past) (notices : List NoticeData) : Type 0 where
   pub deadline : until ≡ t + max (route_of config name).group_interval LEAST_TIME
   pub listed : All (IsNoticeFound config number name until t past) notices
 
 -- the reply to a begin at t tells what looking back finds: a quiet one, how many alerts of the group are resolved, muted ones too
-abbrev pub IsToldRightly : Config → ℕ → List Record → Reply → Type 0
+abbrev pub IsToldRightly : Config → ℕ → Past → Reply → Type 0
 IsToldRightly config t past (Inserted inserted) = Unit {0}
 IsToldRightly config t past (Silenced silenced) = Unit {0}
 IsToldRightly config t past NothingDue = Unit {0}
@@ -238,14 +243,15 @@ BeginsTellWhatIsThere config history = AtEach (λ r past. IsToldRightly config (
 
 -- ---- all of it, of one history
 
--- what looking back says of a history: its alerts and its rows are found, and no two are of one key; what was logged was told; and at each record a refiring alert stays, flushes end once, and a begin asks those that it is to ask and tells what is there
+-- what looking back says of a history: its alerts and its rows are found, and no two are alike; only what was delivered is logged; and at each record a refiring alert stays, flushes end once, and a begin asks those that it is to ask and tells what is there
 pub record LooksBack (config : Config) (history : List Record) : Type 0 where
   pub consistent : IsConsistent (replay config history)
   pub alerts : AlertsAreFound config history
-  pub shown : ShownAlertsAreFound config history
+  pub shown_alerts : ShownAlertsAreFound config history
   pub rows : RowsAreFound config history
-  pub logged : LogsAsTold config history
-  pub told : RowsWereTold config history
+  pub shown_rows : ShownRowsAreFound config history
+  pub only_delivered : OnlyDeliveredIsLogged config history
+  pub delivered : RowsWereDelivered config history
   pub refiring : RefiringAlertsStay config history
   pub once : FlushesEndOnce config history
   pub asked : BeginsAskRightly config history

@@ -17,21 +17,25 @@ use Rattle.am_board.specs.Replay.{replay}
 use Rattle.am_board.specs.State.{State, same_name}
 use Rattle.am_board.specs.Ticket.{outcome_of, is_nothing}
 
+-- records with the latest first
+abbrev pub Past : Type 0
+Past = List Record
+
 -- a history with its latest record first
-abbrev pub past_of : List Record → List Record
+abbrev pub past_of : List Record → Past
 past_of history = reverse history
 
 -- the state after a past: the replay of its history
-abbrev pub replay_past : Config → List Record → State
+abbrev pub replay_past : Config → Past → State
 replay_past config past = replay config (reverse past)
 
 -- what holds of each record and the records before it
-abbrev pub AtEach : (Record → List Record → Type 0) → List Record → Type 0
+abbrev pub AtEach : (Record → Past → Type 0) → Past → Type 0
 AtEach P [] = Unit {0}
 AtEach P (r ∷ past) = P r past × AtEach P past
 
 -- the moment of the latest record: the greatest that was handed in so far, but none after the greatest there is
-abbrev pub moment_at : List Record → ℕ
+abbrev pub moment_at : Past → ℕ
 moment_at [] = 0
 moment_at (r ∷ past) = max (moment_at past) (min (now_of r.call) MAX_MOMENT)
 
@@ -110,24 +114,24 @@ is_maintenance (Finish now n outcomes) = false
 is_maintenance (Maintain now) = true
 is_maintenance (Note now n i outcome) = false
 
--- the begin of the flush of this number with what came before it; nothing, if it isn't there
-abbrev pub begin_of : ℕ → List Record → List Record
+-- the past that begins with the begin of the flush of this number; empty, if it isn't there
+abbrev pub begin_of : ℕ → Past → Past
 begin_of number [] = []
 begin_of number (r ∷ past) = if is_flush number r.reply then r ∷ past else begin_of number past
 
 -- whether the flush of this number has begun
-abbrev pub has_begun : ℕ → List Record → Bool
+abbrev pub has_begun : ℕ → Past → Bool
 has_begun number past = list_any (λ r. is_flush number r.reply) past
 
 -- whether the flush of this number is finished
-abbrev pub has_finished : ℕ → List Record → Bool
+abbrev pub has_finished : ℕ → Past → Bool
 has_finished number past = list_any (λ r. is_finish number r.call) past
 
 -- whether an integration was noted for the flush of this number
-abbrev pub was_noted : ℕ → ℕ → List Record → Bool
+abbrev pub was_noted : ℕ → ℕ → Past → Bool
 was_noted number integration past = list_any (λ r. is_note number integration r.call) past
 
 -- whether the integration of a notice succeeded in the flush of this number, whose finish has these outcomes and this past: it was noted, or had nothing to send, or is reported delivered
-abbrev pub succeeded : ℕ → List (ℕ × Outcome) → List Record → NoticeData → Bool
+abbrev pub succeeded : ℕ → List (ℕ × Outcome) → Past → NoticeData → Bool
 succeeded number outcomes past n =
     was_noted number n.integration past || is_nothing n || is_delivered (outcome_of outcomes n.integration)

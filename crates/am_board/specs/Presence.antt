@@ -13,10 +13,10 @@ use Rattle.am_board.specs.declared.record.Record.{Record}
 use Rattle.am_board.specs.declared.record.Reply.{Reply}
 use Rattle.am_board.specs.declared.record.Reply.TheVariants.{Inserted, Silenced, NothingDue, Quiet, Flush, Finished, Maintained, Noted}
 use Rattle.am_board.specs.Insert.{names_for}
-use Rattle.am_board.specs.Past.{moment_at, is_flush, is_flush_of, is_quiet, notices_in, begin_of, succeeded}
+use Rattle.am_board.specs.Past.{Past, moment_at, is_flush, is_flush_of, is_quiet, notices_in, begin_of, succeeded}
 use Rattle.am_board.specs.State.{MemberState, same_name}
 
--- whether one of the routes of a label set puts it into this group
+-- whether one of the routes of a label set leads to this group
 abbrev pub goes_to : Config → GroupName → List Label → Bool
 goes_to config name labels = list_any (same_name name) (names_for config labels)
 
@@ -50,12 +50,12 @@ inserted_by stamp (Maintain now) = None
 inserted_by stamp (Note now number integration outcome) = None
 
 -- the last insert of a label set: its alert, with its stamp
-abbrev pub last_insert : List Label → List Record → Option MemberState
+abbrev pub last_insert : List Label → Past → Option MemberState
 last_insert labels [] = None
 last_insert labels (r ∷ past) = if inserts labels r.call then inserted_by (stamp_told r.reply) r.call else last_insert labels past
 
--- the begin of the flush of this number with what came before it, if it stands after the last insert of a label set
-abbrev pub begin_since : List Label → ℕ → List Record → List Record
+-- the past that begins with the begin of the flush of this number, if that stands after the last insert of a label set; else empty
+abbrev pub begin_since : List Label → ℕ → Past → Past
 begin_since labels number [] = []
 begin_since labels number (r ∷ past) =
     if inserts labels r.call then []
@@ -63,41 +63,41 @@ begin_since labels number (r ∷ past) =
     else begin_since labels number past
 
 -- whether the begin at the head is of this group, and an alert was resolved at its moment
-abbrev pub resolved_at_begin : GroupName → AlertData → List Record → Bool
+abbrev pub resolved_at_begin : GroupName → AlertData → Past → Bool
 resolved_at_begin name a [] = false
 resolved_at_begin name a (r ∷ past) = is_flush_of name r.reply && is_resolved a (moment_at (r ∷ past))
 
 -- whether all that the flush at the head asked succeeded, where its finish has these outcomes and this past
-abbrev pub asked_with_success : ℕ → List (ℕ × Outcome) → List Record → List Record → Bool
-asked_with_success number outcomes before [] = false
-asked_with_success number outcomes before (r ∷ past) = list_all (succeeded number outcomes before) (notices_in r.reply)
+abbrev pub all_succeeded_at : ℕ → List (ℕ × Outcome) → Past → Past → Bool
+all_succeeded_at number outcomes finish_past [] = false
+all_succeeded_at number outcomes finish_past (r ∷ past) = list_all (succeeded number outcomes finish_past) (notices_in r.reply)
 
 -- whether a finish with this past takes an alert out of a group: its flush is of the group, began after the alert's last insert and had it resolved, and all that it asked succeeded
-abbrev pub finish_removes : GroupName → AlertData → List Record → Call → Bool
+abbrev pub finish_removes : GroupName → AlertData → Past → Call → Bool
 finish_removes name a past (Insert now alert) = false
 finish_removes name a past (Silence now id matchers start end) = false
 finish_removes name a past (Begin now) = false
 finish_removes name a past (Finish now number outcomes) =
-    resolved_at_begin name a (begin_since a.labels number past) && asked_with_success number outcomes past (begin_of number past)
+    resolved_at_begin name a (begin_since a.labels number past) && all_succeeded_at number outcomes past (begin_of number past)
 finish_removes name a past (Maintain now) = false
 finish_removes name a past (Note now number integration outcome) = false
 
 -- whether the latest record takes an alert out of a group: a quiet begin of the group at whose moment it is resolved, or a finish
-abbrev pub removes : GroupName → AlertData → Record → List Record → Bool
+abbrev pub removes : GroupName → AlertData → Record → Past → Bool
 removes name a r past =
     (is_quiet name r.reply && is_resolved a (moment_at (r ∷ past))) || finish_removes name a past r.call
 
 -- whether an alert was taken out of a group since its last insert
-abbrev pub has_left : GroupName → AlertData → List Record → Bool
+abbrev pub has_left : GroupName → AlertData → Past → Bool
 has_left name a [] = false
 has_left name a (r ∷ past) = if inserts a.labels r.call then false else removes name a r past || has_left name a past
 
 -- an insert whose alert wasn't taken out of a group since
-abbrev pub unless_left : GroupName → List Record → Option MemberState → Option MemberState
+abbrev pub unless_left : GroupName → Past → Option MemberState → Option MemberState
 unless_left name past None = None
 unless_left name past (Some m) = if has_left name m.alert past then None else Some m
 
--- presence: the alert of a label set in a group, with its stamp, if it is there: that of the last insert, if the group is one of its, and nothing took it out since
-abbrev pub presence : Config → GroupName → List Label → List Record → Option MemberState
+-- presence: the alert of a label set in a group, with its stamp, if it is there: that of the last insert, if one of the label set's routes leads to the group, and nothing took it out since
+abbrev pub presence : Config → GroupName → List Label → Past → Option MemberState
 presence config name labels past =
     if goes_to config name labels then unless_left name past (last_insert labels past) else None

@@ -14,7 +14,7 @@ use Rattle.am_board.specs.declared.record.Reply.{Reply}
 use Rattle.am_board.specs.declared.views.RowView.{RowView}
 use Rattle.am_board.specs.Configured.{route_of, integrations_of}
 use Rattle.am_board.specs.Entry.{firing_in, resolved_in, entry_in}
-use Rattle.am_board.specs.Past.{AtEach, past_of, moment_at, takes, notices_in}
+use Rattle.am_board.specs.Past.{Past, AtEach, past_of, moment_at, takes, notices_in}
 
 -- whether an integration is asked for a reason
 abbrev pub asks : Reason → Bool
@@ -38,13 +38,13 @@ reason_by (Some row) firing resolved send_resolved repeat t =
     else NotYet (row.moment + repeat + 1)
 
 -- the reason of an integration of a group about these label sets, by the entry that looking back finds
-abbrev pub reason_about : Config → GroupName → ℕ → List Record → List (List Label) → List (List Label) → ℕ × Integration → Reason
+abbrev pub reason_about : Config → GroupName → ℕ → Past → List (List Label) → List (List Label) → ℕ × Integration → Reason
 reason_about config name t past firing resolved i =
     if is_empty firing && is_empty resolved then NothingLeft
     else reason_by (entry_in config name i.0 past) firing resolved i.1.send_resolved (route_of config name).repeat_interval t
 
 -- why a begin of a group at t is to ask an integration of its receiver, or why not
-abbrev pub reason_in : Config → GroupName → ℕ → List Record → ℕ × Integration → Reason
+abbrev pub reason_in : Config → GroupName → ℕ → Past → ℕ × Integration → Reason
 reason_in config name t past i = reason_about config name t past (firing_in config name t past) (resolved_in config name t past) i
 
 -- some label set is among the first and not among the second
@@ -77,7 +77,7 @@ abbrev pub is_asked_in : ℕ → Reply → Bool
 is_asked_in integration reply = list_any (λ n. n.integration == integration) (notices_in reply)
 
 -- a record that takes a group asks each integration of its receiver exactly if there is a reason to ask it, in their order, and no other
-pub record AsksForReasons (config : Config) (r : Record) (past : List Record) : Type 0 where
+pub record AsksForReasons (config : Config) (r : Record) (past : Past) : Type 0 where
   pub each : (name : GroupName) → takes name r.reply ≡ true
       → All (λ i. is_asked_in i.0 r.reply ≡ asks (reason_in config name (moment_at (r ∷ past)) past i)) (integrations_of config name)
   pub only : (name : GroupName) → takes name r.reply ≡ true
@@ -91,7 +91,7 @@ BeginsHaveReasons config history = AtEach (AsksForReasons config) (past_of histo
 -- what the reason says is so: of the entry that looking back finds, and of the alerts that it finds firing and resolved
 abbrev pub ReasonsAreSo : Type 0
 ReasonsAreSo =
-    (config : Config) (name : GroupName) (t : ℕ) (past : List Record) (i : ℕ × Integration)
+    (config : Config) (name : GroupName) (t : ℕ) (past : Past) (i : ℕ × Integration)
     → Says (reason_in config name t past i) (entry_in config name i.0 past) (firing_in config name t past) (resolved_in config name t past)
     i.1.send_resolved (route_of config name).repeat_interval t
 

@@ -1,7 +1,9 @@
 //! Laws of histories.
 ghost use Rattle.am_board.specs.Laws.{ReplayAppends, LegalAppends, ClockIsMoment, LegalKeeps};
 ghost use Rattle.am_board.specs.Interval.{BeginsKeepTheInterval};
-ghost use Rattle.am_board.specs.LookBack.{EveryLegalHistory, AlertsAreFound, ShownAlertsAreFound, RowsAreFound, LogsAsTold, RowsWereTold, RefiringAlertsStay, FlushesEndOnce, BeginsAskRightly, BeginsTellWhatIsThere, LooksBack};
+ghost use Rattle.am_board.specs.LookBack.{EveryLegalHistory, AlertsAreFound, ShownAlertsAreFound, RowsAreFound, ShownRowsAreFound};
+ghost use Rattle.am_board.specs.LookBack.{OnlyDeliveredIsLogged, RowsWereDelivered, RefiringAlertsStay, FlushesEndOnce};
+ghost use Rattle.am_board.specs.LookBack.{BeginsAskRightly, BeginsTellWhatIsThere, LooksBack};
 ghost use Rattle.am_board.specs.Reasons.{BeginsHaveReasons, ReasonsAreSo, NotYetEnds};
 
 /// What the definitions of the sequential dispatcher say of a history with one record more: its
@@ -28,17 +30,19 @@ pub fn looking_back_finds_alerts()
     ensures shown { EveryLegalHistory ShownAlertsAreFound }
 {}
 
-/// Which rows the log has after a legal history, read off the history from its end.
+/// Which rows the log has after a legal history, read off the history from its end; and each row
+/// that is shown is the one that is found for its group and integration.
 pub fn looking_back_finds_rows()
-    ensures { EveryLegalHistory RowsAreFound }
+    ensures found { EveryLegalHistory RowsAreFound }
+    ensures shown { EveryLegalHistory ShownRowsAreFound }
 {}
 
-/// Each finish and each note of a legal history that logs an integration's success tells that this
+/// Each finish and each note of a legal history that logs an integration's success reports that this
 /// flush's notice was delivered, or it had nothing to send; and each row of the log stands for such
 /// a record, the last that logged under its key.
 pub fn logged_only_after_delivery()
-    ensures each_record { EveryLegalHistory LogsAsTold }
-    ensures rows { EveryLegalHistory RowsWereTold }
+    ensures each_record { EveryLegalHistory OnlyDeliveredIsLogged }
+    ensures rows { EveryLegalHistory RowsWereDelivered }
 {}
 
 /// An alert that fires again while a flush of its group is open is in the group after the finish.

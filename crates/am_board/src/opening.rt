@@ -3,7 +3,7 @@ ghost use Rattle.std.specs.Prelude.{◌≡◌, ◌<◌, ◌≤◌, IfOk, length,
 ghost use Rattle.std.specs.List.{IsDistinct};
 ghost use Rattle.am_board.specs.Begin.{asked_of};
 ghost use Rattle.am_board.specs.Configured.{HaveFewIntegrations};
-ghost use Rattle.am_board.specs.Found.{AreRising, IsFlushOf, IsFound, asked_asking, asking_of, notice_asking};
+ghost use Rattle.am_board.specs.Found.{AreRising, IsFlushAsking, IsFound, asked_asking, asking_of, notice_asking};
 ghost use Rattle.am_board.specs.Insert.{same_member};
 ghost use Rattle.am_board.specs.Kept.{state_of, group_state};
 ghost use Rattle.am_board.specs.Opening.{IsOpening, IsPlan};
@@ -131,7 +131,7 @@ fn flush_of(
     t: u64,
 ) -> Result<OpenFlush, AllocError>
     requires rising { AreRising found.now }
-    ensures { IfOk result (IsFlushOf number kept_for group.now found.now asked.now t) }
+    ensures { IfOk result (IsFlushAsking number kept_for group.now found.now asked.now t) }
 {
     Ok(OpenFlush {
         number,

@@ -1,8 +1,8 @@
-use Rattle.am_board.proofs.RowsTold.{logs_as_told, rows_were_told}
+use Rattle.am_board.proofs.RowsDelivered.{only_delivered_is_logged, rows_were_delivered}
 use Rattle.am_board.proofs.law.logged_only_after_delivery.Goals as goal
 
 pub returns-clause-each_record : goal.returns-clause-each_record
-returns-clause-each_record c = logs_as_told
+returns-clause-each_record c = only_delivered_is_logged
 
 pub returns-clause-rows : goal.returns-clause-rows
-returns-clause-rows c = rows_were_told
+returns-clause-rows c = rows_were_delivered

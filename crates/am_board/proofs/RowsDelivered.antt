@@ -1,10 +1,11 @@
 -- What is logged was told delivered, or had nothing to send, and each row of the log stands for such a notice.
 use Rattle.std.proofs.Common.{◌≡◌, ℕ, Bool, true, false, cond, not, ◌&&◌, ◌||◌, Option, Some, None, List, [], ◌∷◌, refl, sym, ap, ◌∙◌, subst}
 use Rattle.std.specs.Prelude.{All, IsTrue, find, ◌==◌}
-use Rattle.std.specs.List.{list_any}
+use Rattle.std.specs.List.{AllByRecursion, list_any}
 use Rattle.std.specs.Option.{option_or}
 use Rattle.std.proofs.lemmas.Bool.{false≢true, eqb-true}
 use Rattle.std.proofs.lemmas.Cmp.{nat_eq_equiv}
+use Rattle.std.proofs.lemmas.List.Sorted.{All-permutation}
 use Rattle.am_retry.specs.declared.outcome.Outcome.{Outcome}
 use Rattle.am_board.specs.declared.config.Config.{Config}
 use Rattle.am_board.specs.declared.group.GroupName.{GroupName}
@@ -15,20 +16,23 @@ use Rattle.am_board.specs.declared.record.Reply.{Reply}
 use Rattle.am_board.specs.declared.record.Reply.TheVariants as reply_is
 use Rattle.am_board.specs.declared.views.RowView.{RowView}
 use Rattle.am_board.specs.Data.{NoticeData}
-use Rattle.am_board.specs.Entry.{begins_group, asked_to_success, logs, begin_named, row_told, row_of_begin, unless_collected, entry_in}
+use Rattle.am_board.specs.Entry.{begins_group, asked_and_succeeded, logs, begin_named, row_of_flush, row_of_begin, unless_collected, entry_in}
 use Rattle.am_board.specs.Finish.{same_key, is_delivered}
 use Rattle.am_board.specs.History.{entry}
-use Rattle.am_board.specs.LookBack.{EveryLegalHistory, is_told, is_told_in, tells, IsLoggedAsTold, LogsAsTold, was_told, RowsWereTold}
+use Rattle.am_board.specs.LookBack.{EveryLegalHistory, ShownRowsAreFound, is_delivered_to, is_delivered_in, reports_delivery, LogsDelivered, OnlyDeliveredIsLogged, was_delivered, RowsWereDelivered}
+use Rattle.am_board.specs.Lists.{in_order}
 use Rattle.am_board.specs.Note.{is_ready, asked_by, may_be_noted, may_note}
 use Rattle.am_board.specs.Past.{AtEach, past_of, moment_at, is_flush_of, notices_in, begin_of, was_noted, succeeded}
 use Rattle.am_board.specs.State.{AskedState, FlushState, State, flush_numbered}
 use Rattle.am_board.specs.Ticket.{outcome_of, is_nothing}
 use Rattle.am_board.specs.Upkeep.{has_expired}
+use Rattle.am_board.specs.Views.{row_cmp, row_views}
 use Rattle.am_board.proofs.ConsistentGroups.{same_key_equiv}
 use Rattle.am_board.proofs.ConsistentLists.{all_from, all-find, all-weaker, find-passes}
 use Rattle.am_board.proofs.EachCall.{each_call}
 use Rattle.am_board.proofs.FoundAlerts.{steady_past, finds_past}
 use Rattle.am_board.proofs.FoundRows.{tells_past}
+use Rattle.am_board.proofs.ListWords.{in_order-moves}
 use Rattle.am_board.proofs.Opened.{notices_at, asked_as, IsOpened, Finds}
 use Rattle.am_board.proofs.Pasts.{state_after, IsLegalPast, at_each, legal_past, replay_is_past}
 use Rattle.am_board.proofs.RowSteps.{Tells}
@@ -60,18 +64,18 @@ any-of_found test also x (y ∷ ys) found h =
 -- ---- a record that logs
 
 -- the flush at the head is of the group, and one of its notices passes
-told_in : (name : GroupName) (i : ℕ) (outcome : Option Outcome) (begin : List Record) → begins_group name begin ≡ true
-    → list_any (λ n. (n.integration == i) && (is_nothing n || is_delivered outcome)) (notices_at begin) ≡ true → is_told_in name i outcome begin ≡ true
-told_in name i outcome [] e h = absurd (false≢true e)
-told_in name i outcome (q ∷ before) e h = ap (λ b. b && is_told i outcome (notices_in q.reply)) e ∙ h
+delivered_in : (name : GroupName) (i : ℕ) (outcome : Option Outcome) (begin : List Record) → begins_group name begin ≡ true
+    → list_any (λ n. (n.integration == i) && (is_nothing n || is_delivered outcome)) (notices_at begin) ≡ true → is_delivered_in name i outcome begin ≡ true
+delivered_in name i outcome [] e h = absurd (false≢true e)
+delivered_in name i outcome (q ∷ before) e h = ap (λ b. b && is_delivered_to i outcome (notices_in q.reply)) e ∙ h
 
 -- a finish logs those that succeeded and weren't noted
-finish_tells : (name : GroupName) (i now number : ℕ) (outcomes : List (ℕ × Outcome)) (past : List Record) → logs name i past (Finish now number outcomes) ≡ true → tells name i past (Finish now number outcomes) ≡ true
-finish_tells name i now number outcomes past h =
+finish_reports : (name : GroupName) (i now number : ℕ) (outcomes : List (ℕ × Outcome)) (past : List Record) → logs name i past (Finish now number outcomes) ≡ true → reports_delivery name i past (Finish now number outcomes) ≡ true
+finish_reports name i now number outcomes past h =
     let begin = begin_of number past in
-    let both = two (begins_group name begin) (asked_to_success number outcomes past i begin && not (was_noted number i past)) h in
-    let rest = two (asked_to_success number outcomes past i begin) (not (was_noted number i past)) both.1 in
-    told_in name i (outcome_of outcomes i) begin both.0 (asked begin (no (was_noted number i past) rest.1) rest.0)
+    let both = two (begins_group name begin) (asked_and_succeeded number outcomes past i begin && not (was_noted number i past)) h in
+    let rest = two (asked_and_succeeded number outcomes past i begin) (not (was_noted number i past)) both.1 in
+    delivered_in name i (outcome_of outcomes i) begin both.0 (asked begin (no (was_noted number i past) rest.1) rest.0)
   where
     one : (n : NoticeData) (b : Bool) → (n.integration == i) ≡ b → was_noted number i past ≡ false → (b && succeeded number outcomes past n) ≡ (b && (is_nothing n || is_delivered (outcome_of outcomes i)))
     one n true e unnoted =
@@ -79,48 +83,48 @@ finish_tells name i now number outcomes past h =
         ∙ ap (λ b. (b || is_nothing n) || is_delivered (outcome_of outcomes i)) unnoted
     one n false e unnoted = refl
 
-    asked : (begin : List Record) → was_noted number i past ≡ false → asked_to_success number outcomes past i begin ≡ true → list_any (λ n. (n.integration == i) && (is_nothing n || is_delivered (outcome_of outcomes i))) (notices_at begin) ≡ true
+    asked : (begin : List Record) → was_noted number i past ≡ false → asked_and_succeeded number outcomes past i begin ≡ true → list_any (λ n. (n.integration == i) && (is_nothing n || is_delivered (outcome_of outcomes i))) (notices_at begin) ≡ true
     asked [] unnoted h = absurd (false≢true h)
     asked (q ∷ before) unnoted h =
         sym (any-alike (λ n. (n.integration == i) && succeeded number outcomes past n) (λ n. (n.integration == i) && (is_nothing n || is_delivered (outcome_of outcomes i))) (λ n. one n (n.integration == i) refl unnoted) (notices_in q.reply)) ∙ h
 
 -- a note is allowed only where it had nothing to send, or is told delivered
-note_tells : (config : Config) (s : State) (past : List Record) → Finds config s past → Tells config s past
+note_reports : (config : Config) (s : State) (past : List Record) → Finds config s past → Tells config s past
     → (now number i : ℕ) (outcome : Option Outcome) (f : FlushState) → flush_numbered s.flushes number ≡ Some f → may_note i outcome f ≡ true
-    → (name : GroupName) (j : ℕ) → logs name j past (Note now number i outcome) ≡ true → tells name j past (Note now number i outcome) ≡ true
-note_tells config s past k l now number i outcome f is may name j h =
+    → (name : GroupName) (j : ℕ) → logs name j past (Note now number i outcome) ≡ true → reports_delivery name j past (Note now number i outcome) ≡ true
+note_reports config s past k l now number i outcome f is may name j h =
     let same : f.number ≡ number = eqb-true f.number number (find-passes (λ (h : FlushState). h.number == number) f s.flushes is) in
     let o = all-find (IsOpened config s.inserts past) (λ h. h.number == number) f s.flushes k.opened is in
     let both = two (begins_group name (begin_of number past)) (i == j) h in
     let test : AskedState → Bool = λ a. (a.integration == i) && (a.nothing || is_delivered outcome) in
     let asked : list_any (λ n. (n.integration == i) && (is_nothing n || is_delivered outcome)) (notices_at (begin_of f.number past)) ≡ true =
     sym (any-map test (asked_as f.number past) (notices_at (begin_of f.number past))) ∙ ap (list_any test) (sym o.asked) ∙ ready (asked_by f i) refl may in
-    ap (λ b. b && is_told_in name j outcome (begin_of number past)) both.1
-    ∙ ap (λ m. is_told_in name m outcome (begin_of number past)) (sym (eqb-true i j both.1))
-    ∙ told_in name i outcome (begin_of number past) both.0 (ap (λ n. list_any (λ x. (x.integration == i) && (is_nothing x || is_delivered outcome)) (notices_at (begin_of n past))) (sym same) ∙ asked)
+    ap (λ b. b && is_delivered_in name j outcome (begin_of number past)) both.1
+    ∙ ap (λ m. is_delivered_in name m outcome (begin_of number past)) (sym (eqb-true i j both.1))
+    ∙ delivered_in name i outcome (begin_of number past) both.0 (ap (λ n. list_any (λ x. (x.integration == i) && (is_nothing x || is_delivered outcome)) (notices_at (begin_of n past))) (sym same) ∙ asked)
   where
     ready : (a : Option AskedState) → asked_by f i ≡ a → may_be_noted outcome a ≡ true → list_any (λ (x : AskedState). (x.integration == i) && (x.nothing || is_delivered outcome)) f.asked ≡ true
     ready None found e = absurd (false≢true e)
     ready (Some a) found e = any-of_found (λ (x : AskedState). x.integration == i) (λ x. x.nothing || is_delivered outcome) a f.asked found (two (is_ready outcome a) (not a.noted) e).0
 
-logged_as_told : (config : Config) (id : ℕ) (past : List Record) → IsLegalPast config id past → AtEach IsLoggedAsTold past
-logged_as_told config id =
-    at_each config id IsLoggedAsTold
+logged_delivered : (config : Config) (id : ℕ) (past : List Record) → IsLegalPast config id past → AtEach LogsDelivered past
+logged_delivered config id =
+    at_each config id LogsDelivered
     (λ r past before told.
     let s = state_after config past in
-    each_call config id s (λ c new p. IsLoggedAsTold (entry r.pass c p) past)
+    each_call config id s (λ c new p. LogsDelivered (entry r.pass c p) past)
     (record {
       insert = λ now a name i e. absurd (false≢true e);
       silence = λ now number matchers start end name i e. absurd (false≢true e);
       nothing = λ now name i e. absurd (false≢true e);
       begin = λ now g taken asked are name i e. absurd (false≢true e);
-      finish = λ now number outcomes f is name i e. finish_tells name i now number outcomes past e;
+      finish = λ now number outcomes f is name i e. finish_reports name i now number outcomes past e;
       maintain = λ now name i e. absurd (false≢true e);
-      note = λ now number i outcome f is may name j e. note_tells config s past (finds_past config id past before) (tells_past config id past before) now number i outcome f is may name j e;
+      note = λ now number i outcome f is may name j e. note_reports config s past (finds_past config id past before) (tells_past config id past before) now number i outcome f is may name j e;
     }) r.call r.reply told)
 
-pub logs_as_told : EveryLegalHistory LogsAsTold
-logs_as_told config id history legal = logged_as_told config id (past_of history) (legal_past config id history legal)
+pub only_delivered_is_logged : EveryLegalHistory OnlyDeliveredIsLogged
+only_delivered_is_logged config id history legal = logged_delivered config id (past_of history) (legal_past config id history legal)
 
 -- ---- the row that is found
 
@@ -129,7 +133,7 @@ row_moment : (config : Config) (t i : ℕ) (row : RowView) (begin : List Record)
 row_moment config t i row [] e = absurd (cc)
 row_moment config t i row (q ∷ before) e = by (moment_at (q ∷ before)) q.reply e
   where
-    by : (begun : ℕ) (p : Reply) → row_told config t i begun before p ≡ Some row → row.moment ≡ t
+    by : (begun : ℕ) (p : Reply) → row_of_flush config t i begun before p ≡ Some row → row.moment ≡ t
     by begun (reply_is.Inserted inserted) e = absurd (cc)
     by begun (reply_is.Silenced silenced) e = absurd (cc)
     by begun reply_is.NothingDue e = absurd (cc)
@@ -148,7 +152,7 @@ row_there : (config : Config) (t i : ℕ) (name : GroupName) (begin : List Recor
 row_there config t i name [] e none = false≢true e
 row_there config t i name (q ∷ before) e none = by (moment_at (q ∷ before)) q.reply e none
   where
-    by : (begun : ℕ) (p : Reply) → is_flush_of name p ≡ true → row_told config t i begun before p ≡ None → ⊥
+    by : (begun : ℕ) (p : Reply) → is_flush_of name p ≡ true → row_of_flush config t i begun before p ≡ None → ⊥
     by begun (reply_is.Inserted inserted) e none = false≢true e
     by begun (reply_is.Silenced silenced) e none = false≢true e
     by begun reply_is.NothingDue e none = false≢true e
@@ -163,7 +167,7 @@ logs_begin name i past (Insert now alert) e = absurd (false≢true e)
 logs_begin name i past (Silence now id matchers start end) e = absurd (false≢true e)
 logs_begin name i past (Begin now) e = absurd (false≢true e)
 logs_begin name i past (Finish now number outcomes) e =
-    (two (begins_group name (begin_of number past)) (asked_to_success number outcomes past i (begin_of number past) && not (was_noted number i past)) e).0
+    (two (begins_group name (begin_of number past)) (asked_and_succeeded number outcomes past i (begin_of number past) && not (was_noted number i past)) e).0
 logs_begin name i past (Maintain now) e = absurd (false≢true e)
 logs_begin name i past (Note now number j outcome) e = (two (begins_group name (begin_of number past)) (j == i) e).0
 
@@ -178,32 +182,45 @@ left_there t (Maintain now) row (Some x) e = elim (has_expired t x) as (λ b. co
 left_there t (Note now number integration outcome) row o e = e
 
 -- the record that logged it told its success, at its moment
-found_told : (config : Config) (row : RowView) (past : List Record) → AtEach IsLoggedAsTold past → entry_in config row.group row.integration past ≡ Some row → was_told row past ≡ true
-found_told config row [] each e = absurd (cc)
-found_told config row (r ∷ past) each e = by (logs row.group row.integration past r.call) refl (λ there. found_told config row past each.1 there) e
+found_delivered : (config : Config) (row : RowView) (past : List Record) → AtEach LogsDelivered past → entry_in config row.group row.integration past ≡ Some row → was_delivered row past ≡ true
+found_delivered config row [] each e = absurd (cc)
+found_delivered config row (r ∷ past) each e = by (logs row.group row.integration past r.call) refl (λ there. found_delivered config row past each.1 there) e
   where
-    by : (b : Bool) → logs row.group row.integration past r.call ≡ b → (entry_in config row.group row.integration past ≡ Some row → was_told row past ≡ true) → option_or (cond b (row_of_begin config (moment_at (r ∷ past)) row.integration (begin_named past r.call)) None) (unless_collected (moment_at (r ∷ past)) r.call (entry_in config row.group row.integration past)) ≡ Some row
-        → cond b ((moment_at (r ∷ past) == row.moment) && tells row.group row.integration past r.call) (was_told row past) ≡ true
+    by : (b : Bool) → logs row.group row.integration past r.call ≡ b → (entry_in config row.group row.integration past ≡ Some row → was_delivered row past ≡ true) → option_or (cond b (row_of_begin config (moment_at (r ∷ past)) row.integration (begin_named past r.call)) None) (unless_collected (moment_at (r ∷ past)) r.call (entry_in config row.group row.integration past)) ≡ Some row
+        → cond b ((moment_at (r ∷ past) == row.moment) && reports_delivery row.group row.integration past r.call) (was_delivered row past) ≡ true
     by true logged before e = now (row_of_begin config (moment_at (r ∷ past)) row.integration (begin_named past r.call)) refl e
       where
         now : (o : Option RowView) → row_of_begin config (moment_at (r ∷ past)) row.integration (begin_named past r.call) ≡ o → option_or o (unless_collected (moment_at (r ∷ past)) r.call (entry_in config row.group row.integration past)) ≡ Some row
-            → ((moment_at (r ∷ past) == row.moment) && tells row.group row.integration past r.call) ≡ true
+            → ((moment_at (r ∷ past) == row.moment) && reports_delivery row.group row.integration past r.call) ≡ true
         now None none e = absurd (row_there config (moment_at (r ∷ past)) row.integration row.group (begin_named past r.call) (logs_begin row.group row.integration past r.call logged) none)
         now (Some x) is e =
-            ap (λ m. (moment_at (r ∷ past) == m) && tells row.group row.integration past r.call) (row_moment config (moment_at (r ∷ past)) row.integration row (begin_named past r.call) (is ∙ e))
-            ∙ ap (λ b. b && tells row.group row.integration past r.call) (nat_eq_equiv.refl (moment_at (r ∷ past)))
+            ap (λ m. (moment_at (r ∷ past) == m) && reports_delivery row.group row.integration past r.call) (row_moment config (moment_at (r ∷ past)) row.integration row (begin_named past r.call) (is ∙ e))
+            ∙ ap (λ b. b && reports_delivery row.group row.integration past r.call) (nat_eq_equiv.refl (moment_at (r ∷ past)))
             ∙ each.0 row.group row.integration logged
     by false logged before e = before (left_there (moment_at (r ∷ past)) r.call row (entry_in config row.group row.integration past) e)
 
-pub rows_were_told : EveryLegalHistory RowsWereTold
-rows_were_told config id history legal =
-    let past = past_of history in
+rows_found : (config : Config) (id : ℕ) (past : List Record) → IsLegalPast config id past → AllByRecursion (λ row. entry_in config row.group row.integration past ≡ Some row) (state_after config past).rows
+rows_found config id past legal =
     let s = state_after config past in
+    let l = tells_past config id past legal in
+    all-weaker (λ row. find (same_key row) s.rows ≡ Some row) (λ row. entry_in config row.group row.integration past ≡ Some row) (λ row e. sym (l.rows row.group row.integration) ∙ e) s.rows
+    (each-found same_key same_key_equiv s.rows (steady_past config past).rows)
+
+-- each row of the log is found
+pub shown_rows_are_found : EveryLegalHistory ShownRowsAreFound
+shown_rows_are_found config id history legal =
+    let past = past_of history in
+    let rows = (state_after config past).rows in
+    let P : RowView → Type 0 = λ row. entry_in config row.group row.integration past ≡ Some row in
+    subst (λ (s : State). All P (row_views s)) (sym (replay_is_past config history))
+    (All-permutation P rows (in_order row_cmp rows) (in_order-moves row_cmp rows) (all_from P rows (rows_found config id past (legal_past config id history legal))))
+
+pub rows_were_delivered : EveryLegalHistory RowsWereDelivered
+rows_were_delivered config id history legal =
+    let past = past_of history in
+    let rows = (state_after config past).rows in
     let legal_back = legal_past config id history legal in
-    let l = tells_past config id past legal_back in
-    let each = logged_as_told config id past legal_back in
-    let P : RowView → Type 0 = λ row. IsTrue (was_told row past) in
+    let P : RowView → Type 0 = λ row. IsTrue (was_delivered row past) in
     subst (λ (s : State). All P s.rows) (sym (replay_is_past config history))
-    (all_from P s.rows
-    (all-weaker (λ row. find (same_key row) s.rows ≡ Some row) P (λ row e. found_told config row past each (sym (l.rows row.group row.integration) ∙ e)) s.rows
-    (each-found same_key same_key_equiv s.rows (steady_past config past).rows)))
+    (all_from P rows
+    (all-weaker (λ row. entry_in config row.group row.integration past ≡ Some row) P (λ row e. found_delivered config row past (logged_delivered config id past legal_back) e) rows (rows_found config id past legal_back)))

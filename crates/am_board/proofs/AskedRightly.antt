@@ -142,7 +142,7 @@ module _ (config : Config) (id : ℕ) (s : State) (past : List Record) (pass : �
       record {
         insert = λ now a name e. absurd (false≢true e);
         silence = λ now number matchers start end name e. absurd (false≢true e);
-        nothing = λ now name e. absurd (false≢true e);
+        nothing = λ now none name e. absurd (false≢true e);
         begin = λ now g is asked are.
             asking now g asked (after_asking config s (moment s now) g asked) (ap (map (λ i. i.0)) (sym are) ∙ asked-found (moment s now) g is);
         finish = λ now number outcomes f is name e. absurd (false≢true e);
@@ -155,7 +155,7 @@ module _ (config : Config) (id : ℕ) (s : State) (past : List Record) (pass : �
       record {
         insert = λ now a. tt;
         silence = λ now number matchers start end. tt;
-        nothing = λ now. tt;
+        nothing = λ now none. tt;
         begin = λ now g is asked are. telling now g is asked are (after_asking config s (moment s now) g asked);
         finish = λ now number outcomes f is. tt;
         maintain = λ now. tt;

@@ -28,7 +28,7 @@ pub record HoldsOfEach (config : Config) (id : ℕ) (s : State) (P : Call → St
   pub insert : (now : ℕ) (a : AlertData) → P (Insert now a) (after_insert config s (moment s now) a) (reply_is.Inserted (inserted config s a))
   pub silence : (now number : ℕ) (matchers : List MatcherParts) (start end : ℕ)
       → P (Silence now number matchers start end) (after_silence s (moment s now) (silence_of number matchers start end)) (reply_is.Silenced (silenced s (silence_of number matchers start end)))
-  pub nothing : (now : ℕ) → P (Begin now) (at_moment s (moment s now)) reply_is.NothingDue
+  pub nothing : (now : ℕ) → taken s (moment s now) ≡ None → P (Begin now) (at_moment s (moment s now)) reply_is.NothingDue
   pub begin : (now : ℕ) (g : GroupState) → taken s (moment s now) ≡ Some g → (asked : List (ℕ × Integration)) → asked_of config s (moment s now) g ≡ asked
       → P (Begin now) (after_asking config s (moment s now) g asked) (reply_asking config id s (moment s now) g asked)
   pub finish : (now number : ℕ) (outcomes : List (ℕ × Outcome)) (f : FlushState) → flush_numbered s.flushes number ≡ Some f
@@ -40,7 +40,7 @@ pub record HoldsOfEach (config : Config) (id : ℕ) (s : State) (P : Call → St
 -- so it holds of any that was told its reply
 module _ (config : Config) (id : ℕ) (s : State) (P : Call → State → Reply → Type 0) (each : HoldsOfEach config id s P) where
   begins : (now : ℕ) (o : Option GroupState) → taken s (moment s now) ≡ o → P (Begin now) (after_taking config s (moment s now) o) (reply_taking config id s (moment s now) o)
-  begins now None e = each.nothing now
+  begins now None e = each.nothing now e
   begins now (Some g) e = each.begin now g e (asked_of config s (moment s now) g) refl
 
   finishes : (now number : ℕ) (outcomes : List (ℕ × Outcome)) (o : Option FlushState) (p : Reply) → flush_numbered s.flushes number ≡ o → option_map (λ f. reply_is.Finished (finished s outcomes f)) o ≡ Some p

@@ -33,22 +33,22 @@ use Rattle.am_board.specs.History.{entry}
 use Rattle.am_board.specs.Insert.{inserted}
 use Rattle.am_board.specs.Laws.{last_begin_after, IsBegunAt}
 use Rattle.am_board.specs.LookBack.{member_with, EveryLegalHistory, number_in, has_open, begun_at, IsLater, IsOneFlushAtATime, FlushesEndOnce}
-use Rattle.am_board.specs.Note.{with_note, may_note, after_note, after_note_of, noted}
-use Rattle.am_board.specs.Past.{AtEach, past_of, moment_at, is_flush, is_flush_of, is_finish, takes, has_begun, has_finished}
-use Rattle.am_board.specs.Replay.{reply, after_call}
-use Rattle.am_board.specs.State.{MemberState, GroupState, FlushState, State, at_moment, moment, same_name, is_flushing, members_in, flush_numbered}
+use Rattle.am_board.specs.Note.{with_note, may_note, after_note, noted}
+use Rattle.am_board.specs.Past.{past_of, moment_at, is_flush, is_flush_of, is_finish, takes, has_begun, has_finished}
+use Rattle.am_board.specs.Replay.{reply, after, after_call}
+use Rattle.am_board.specs.State.{MemberState, GroupState, FlushState, State, moment, same_name, is_flushing, members_in, flush_numbered}
 use Rattle.am_board.specs.Upkeep.{silenced, maintained}
 use Rattle.am_board.proofs.Begins.{Keeps, keeps-call, opening_keeps}
 use Rattle.am_board.proofs.ConsistentBegin.{taken-is}
 use Rattle.am_board.proofs.ConsistentGroups.{members_of, members_of-in}
 use Rattle.am_board.proofs.ConsistentLists.{all-find, all-filter, all-least, all-passes, all-both, find-passes}
 use Rattle.am_board.proofs.ConsistentState.{IsOpen, IsSteady}
-use Rattle.am_board.proofs.EachCall.{inside}
+use Rattle.am_board.proofs.EachCall.{HoldsOfEach, each_call}
 use Rattle.am_board.proofs.FoundAlerts.{steady_past, finds_past}
 use Rattle.am_board.proofs.FoundSteps.{clock-step}
 use Rattle.am_board.proofs.LogRows.{same_name-is}
 use Rattle.am_board.proofs.Opened.{Finds}
-use Rattle.am_board.proofs.Pasts.{state_after, IsLegalPast, legal_past}
+use Rattle.am_board.proofs.Pasts.{state_after, IsLegalPast, at_each, legal_past}
 use Rattle.am_board.proofs.PastWords.{has_labels}
 use Rattle.am_board.proofs.SetWords.{any-filter, any-alike, any-and, any-map, passes}
 use Rattle.am_board.proofs.ToldSets.{present-passes}
@@ -291,14 +291,19 @@ module _ (config : Config) (id : ℕ) (s : State) (past : List Record) (pass : �
       turn false true = refl
       turn false false = refl
 
-  begin : (now : ℕ) (o : Option GroupState) → taken s (moment s now) ≡ o
+  -- the last begins after a begin are kept
+  keeps-begin : (now : ℕ) (o : Option GroupState) → taken s (moment s now) ≡ o
       → Keeps config (after_taking config s (moment s now) o).groups (λ name. begun_at config name (entry pass (Begin now) (reply_taking config id s (moment s now) o) ∷ past))
-      → Holds (Begin now) (after_taking config s (moment s now) o) (reply_taking config id s (moment s now) o)
-  begin now None e keeps = (
-    none-begun (Begin now) NothingDue (λ m. refl) (λ m. refl) (λ name. refl),
-    record { opens = n.opens; begun = n.begun; ended = n.ended; keeps = keeps },
-  )
-  begin now (Some g) e keeps = asking now g (asked_of config s (moment s now) g) e keeps
+  keeps-begin now o e =
+      subst (λ o. Keeps config (after_taking config s (moment s now) o).groups (λ name. begun_at config name (entry pass (Begin now) (reply_taking config id s (moment s now) o) ∷ past))) e
+      (keeps-after (Begin now) (begin_is.begun config id s (moment s now)) refl (begins-taking now (taken s (moment s now))))
+
+  begin : (now : ℕ) (g : GroupState) → taken s (moment s now) ≡ Some g → (asked : List (ℕ × Integration)) → asked_of config s (moment s now) g ≡ asked
+      → Holds (Begin now) (after_asking config s (moment s now) g asked) (reply_asking config id s (moment s now) g asked)
+  begin now g is asked are =
+      asking now g asked is
+      (subst (λ asked. Keeps config (after_asking config s (moment s now) g asked).groups (λ name. begun_at config name (entry pass (Begin now) (reply_asking config id s (moment s now) g asked) ∷ past))) are
+      (keeps-begin now (Some g) is))
 
   finish : (now m : ℕ) (outcomes : List (ℕ × Outcome)) (f : FlushState) → flush_numbered s.flushes m ≡ Some f → Holds (Finish now m outcomes) (after_finish_of config s (moment s now) outcomes (Some f)) (Finished (finished s outcomes f))
   finish now m outcomes f is =
@@ -355,44 +360,37 @@ module _ (config : Config) (id : ℕ) (s : State) (past : List Record) (pass : �
       kept test h true = refl
       kept test h false = refl
 
-  finish_of : (now m : ℕ) (outcomes : List (ℕ × Outcome)) (o : Option FlushState) (p : Reply) → flush_numbered s.flushes m ≡ o → option_map (λ f. reply_is.Finished (finished s outcomes f)) o ≡ Some p → Holds (Finish now m outcomes) (after_finish_of config s (moment s now) outcomes o) p
-  finish_of now m outcomes None p is e = absurd (cc)
-  finish_of now m outcomes (Some f) p is e = subst (Holds (Finish now m outcomes) (after_finish_of config s (moment s now) outcomes (Some f))) (inside (reply_is.Finished (finished s outcomes f)) p e) (finish now m outcomes f is)
-
-  note_of : (now m i : ℕ) (outcome : Option Outcome) (o : Option FlushState) (p : Reply) → flush_numbered s.flushes m ≡ o → noted i outcome o ≡ Some p → Holds (Note now m i outcome) (after_note_of config s (moment s now) i outcome o) p
-  note_of now m i outcome None p is e = absurd (cc)
-  note_of now m i outcome (Some f) p is e =
-      elim (may_note i outcome f) as (λ b. may_note i outcome f ≡ b → (if b then Some reply_is.Noted else None) ≡ Some p → Holds (Note now m i outcome) (if b then after_note config s (moment s now) i f else at_moment s (moment s now)) p) [
-        | true ↦ λ may told. subst (Holds (Note now m i outcome) (after_note config s (moment s now) i f)) (inside reply_is.Noted p told) (note now m i outcome f is may)
-        | false ↦ λ may told. absurd (cc)
-      ] refl e
-
-  one_call : (c : Call) (p : Reply) → reply config id s c ≡ Some p → Holds c (after_call config s c) p
-  one_call (Insert now a) p e = subst (Holds (Insert now a) (after_call config s (Insert now a))) (inside (reply_is.Inserted (inserted config s a)) p e) (insert now a)
-  one_call (Silence now number matchers start end) p e =
-      subst (Holds (Silence now number matchers start end) (after_call config s (Silence now number matchers start end))) (inside (reply_is.Silenced (silenced s (silence_of number matchers start end))) p e) (silence now number matchers start end)
-  one_call (Begin now) p e =
-      let o = taken s (moment s now) in
-      subst (Holds (Begin now) (after_call config s (Begin now))) (inside (begin_is.begun config id s (moment s now)) p e)
-      (begin now o refl (keeps-after (Begin now) (begin_is.begun config id s (moment s now)) refl (begins-taking now o)))
-  one_call (Finish now m outcomes) p e = finish_of now m outcomes (flush_numbered s.flushes m) p refl e
-  one_call (Maintain now) p e = subst (Holds (Maintain now) (after_call config s (Maintain now))) (inside (reply_is.Maintained (maintained s (moment s now))) p e) (maintain now)
-  one_call (Note now m i outcome) p e = note_of now m i outcome (flush_numbered s.flushes m) p refl e
+  each : HoldsOfEach config id s Holds
+  each =
+      record {
+        insert = insert;
+        silence = silence;
+        nothing = λ now none. (
+          none-begun (Begin now) NothingDue (λ m. refl) (λ m. refl) (λ name. refl),
+          record { opens = n.opens; begun = n.begun; ended = n.ended; keeps = keeps-begin now None none },
+        );
+        begin = begin;
+        finish = finish;
+        maintain = maintain;
+        note = note;
+      }
 
 -- ---- each legal past
+
+-- what holds of a record after a legal past, and what is counted after it
+one_record : (config : Config) (id : ℕ) (r : Record) (past : List Record) → IsLegalPast config id past → reply config id (state_after config past) r.call ≡ Some r.reply → Counts config (state_after config past) past
+    → IsOneFlushAtATime config r past × Counts config (after config (state_after config past) r) (r ∷ past)
+one_record config id r past legal told n =
+    let s = state_after config past in
+    let holds = each config id s past r.pass (steady_past config past) (finds_past config id past legal) n in
+    each_call config id s (λ c new p. IsOneFlushAtATime config (entry r.pass c p) past × Counts config new (entry r.pass c p ∷ past)) holds r.call r.reply told
 
 counts_past : (config : Config) (id : ℕ) (past : List Record) → IsLegalPast config id past → Counts config (state_after config past) past
 counts_past config id [] legal =
     record { opens = λ test. refl; begun = λ m h. refl; ended = λ m h. refl; keeps = opening_keeps config }
-counts_past config id (r ∷ past) legal =
-    (one_call config id (state_after config past) past r.pass (steady_past config past) (finds_past config id past legal.1) (counts_past config id past legal.1) r.call r.reply legal.0).1
-
-pub each_past : (config : Config) (id : ℕ) (past : List Record) → IsLegalPast config id past → AtEach (IsOneFlushAtATime config) past
-each_past config id [] legal = tt
-each_past config id (r ∷ past) legal = (
-  (one_call config id (state_after config past) past r.pass (steady_past config past) (finds_past config id past legal.1) (counts_past config id past legal.1) r.call r.reply legal.0).0,
-  each_past config id past legal.1,
-)
+counts_past config id (r ∷ past) legal = (one_record config id r past legal.1 legal.0 (counts_past config id past legal.1)).1
 
 pub flushes_end_once : EveryLegalHistory FlushesEndOnce
-flushes_end_once config id history legal = each_past config id (past_of history) (legal_past config id history legal)
+flushes_end_once config id history legal =
+    at_each config id (IsOneFlushAtATime config) (λ r past before told. (one_record config id r past before told (counts_past config id past before)).0)
+    (past_of history) (legal_past config id history legal)

@@ -43,7 +43,7 @@ module _ (config : Config) (id : ℕ) (s : State) (past : List Record) (pass : �
         silence = λ now number matchers start end.
             finds-still config s past k (after_silence s (moment s now) (silence_of number matchers start end)) (entry pass (Silence now number matchers start end) (reply_is.Silenced (silenced s (silence_of number matchers start end)))) now refl refl refl refl refl refl
             (λ labels. refl) (λ name m. refl) (λ n. refl) (λ n i. refl);
-        nothing = λ now.
+        nothing = λ now none.
             finds-still config s past k (at_moment s (moment s now)) (entry pass (Begin now) reply_is.NothingDue) now refl refl refl refl refl refl (λ labels. refl) (λ name m. refl) (λ number. refl) (λ number i. refl);
         begin = λ now g is asked are. asking now g (taken-is s (moment s now) g steady.groups is) asked;
         finish = λ now number outcomes f is. finds-finish config s past k pass now number outcomes f steady is;

@@ -35,7 +35,7 @@ module _ (config : Config) (id : ℕ) (s : State) (past : List Record) (pass : �
       record {
         insert = λ now a. tells-insert config s past k l pass now a steady;
         silence = λ now number matchers start end. tells-silence config s past k l pass now number matchers start end steady;
-        nothing = λ now. tells-begin config s past k l (at_moment s (moment s now)) pass now reply_is.NothingDue refl refl refl refl (λ n. refl);
+        nothing = λ now none. tells-begin config s past k l (at_moment s (moment s now)) pass now reply_is.NothingDue refl refl refl refl (λ n. refl);
         begin = λ now g is asked are. asking now g (taken-is s (moment s now) g steady.groups is) asked;
         finish = λ now number outcomes f is. tells-finish config s past k l pass now number outcomes f is;
         maintain = λ now. tells-maintain config s past k l pass now steady;

@@ -116,7 +116,7 @@ logged_delivered config id =
     (record {
       insert = λ now a name i e. absurd (false≢true e);
       silence = λ now number matchers start end name i e. absurd (false≢true e);
-      nothing = λ now name i e. absurd (false≢true e);
+      nothing = λ now none name i e. absurd (false≢true e);
       begin = λ now g taken asked are name i e. absurd (false≢true e);
       finish = λ now number outcomes f is name i e. finish_reports name i now number outcomes past e;
       maintain = λ now name i e. absurd (false≢true e);

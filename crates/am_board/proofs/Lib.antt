@@ -79,4 +79,5 @@ pub mod TakenOut
 pub mod ToldSets
 pub mod WorkedEntries
 pub mod WorkedFlushes
+pub mod WorkedLaws
 pub mod WorkedReasons

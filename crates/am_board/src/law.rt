@@ -15,10 +15,10 @@ pub fn histories_go_record_by_record()
     ensures clock { ClockIsMoment }
 {}
 
-/// What holds after every legal history: no two known alerts, groups, members of a group, rows or
-/// open flushes are alike; a group with an open flush has alerts, so no maintenance removes it; and
-/// a group that was begun since it was made is there, flushed, and due one group interval after its
-/// last begin.
+/// What holds after every legal history: no two known alerts, silences, groups, members of a group,
+/// rows or open flushes are alike; a group with an open flush has alerts, so no maintenance removes
+/// it; and a group that was begun since it was made is there, flushed, and due one group interval
+/// after its last begin.
 pub fn legal_histories_are_consistent()
     ensures { LegalKeeps }
 {}

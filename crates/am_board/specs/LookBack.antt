@@ -243,7 +243,7 @@ BeginsTellWhatIsThere config history = AtEach (λ r past. IsToldRightly config (
 
 -- ---- all of it, of one history
 
--- what looking back says of a history: its alerts and its rows are found, and no two are alike; only what was delivered is logged; and at each record a refiring alert stays, flushes end once, and a begin asks those that it is to ask and tells what is there
+-- what looking back says of a history: its alerts and its rows are found, and no two are alike; only what was delivered is logged; and at each record a refiring alert stays, flushes end once, and a begin is an interval after any other of its group, asks those that it has a reason to ask, and tells what is there
 pub record LooksBack (config : Config) (history : List Record) : Type 0 where
   pub consistent : IsConsistent (replay config history)
   pub alerts : AlertsAreFound config history

@@ -5,6 +5,7 @@ pub mod AskedRightly
 pub mod Askings
 pub mod BeginCauses
 pub mod BeginEnds
+pub mod BeginIntervals
 pub mod Begins
 pub mod Bounded
 pub mod BoundedAlerts
@@ -52,6 +53,8 @@ pub mod PastWords
 pub mod Pasts
 pub mod Places
 pub mod Placing
+pub mod ReasonsDecide
+pub mod ReasonsSay
 pub mod Receivers
 pub mod Refiring
 pub mod ReservedRows
@@ -74,3 +77,7 @@ pub mod Sound
 pub mod Staying
 pub mod TakenOut
 pub mod ToldSets
+pub mod WorkedEntries
+pub mod WorkedFlushes
+pub mod WorkedLaws
+pub mod WorkedReasons

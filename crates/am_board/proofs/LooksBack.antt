@@ -2,10 +2,12 @@
 use Rattle.am_board.specs.LookBack.{EveryLegalHistory, LooksBack}
 use Rattle.am_board.proofs.AlertsShown.{shown_alerts_are_found}
 use Rattle.am_board.proofs.AskedRightly.{begins_ask_rightly, begins_tell_what_is_there}
+use Rattle.am_board.proofs.BeginIntervals.{begins_keep_the_interval}
 use Rattle.am_board.proofs.Consistent.{consistent}
 use Rattle.am_board.proofs.FlushesOnce.{flushes_end_once}
 use Rattle.am_board.proofs.FoundAlerts.{alerts_are_found}
 use Rattle.am_board.proofs.FoundRows.{rows_are_found}
+use Rattle.am_board.proofs.ReasonsDecide.{begins_have_reasons}
 use Rattle.am_board.proofs.Refiring.{refiring_alerts_stay}
 use Rattle.am_board.proofs.RowsDelivered.{shown_rows_are_found, only_delivered_is_logged, rows_were_delivered}
 
@@ -23,4 +25,6 @@ histories_look_back config id history legal =
       once = flushes_end_once config id history legal;
       asked = begins_ask_rightly config id history legal;
       tells = begins_tell_what_is_there config id history legal;
+      interval = begins_keep_the_interval config id history legal;
+      reasons = begins_have_reasons config id history legal;
     }

@@ -14,6 +14,7 @@ pub mod GroupList
 pub mod Groups
 pub mod History
 pub mod Insert
+pub mod Interval
 pub mod Kept
 pub mod Keyed
 pub mod Known
@@ -28,6 +29,7 @@ pub mod Opening
 pub mod Past
 pub mod Placement
 pub mod Presence
+pub mod Reasons
 pub mod Replay
 pub mod State
 pub mod Step

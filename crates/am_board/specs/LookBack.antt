@@ -23,10 +23,12 @@ use Rattle.am_board.specs.Configured.{route_of, integrations_of}
 use Rattle.am_board.specs.Data.{NoticeData}
 use Rattle.am_board.specs.Entry.{begins_group, logs, present_in, firing_alerts_in, resolved_alerts_in, firing_in, resolved_in, entry_in}
 use Rattle.am_board.specs.Finish.{is_delivered}
+use Rattle.am_board.specs.Interval.{found_empty, BeginsKeepTheInterval}
 use Rattle.am_board.specs.Laws.{IsConsistent}
 use Rattle.am_board.specs.Lists.{in_order}
-use Rattle.am_board.specs.Past.{Past, AtEach, past_of, replay_past, moment_at, is_flush, is_flush_of, is_finish, is_maintenance, takes, notices_in, begin_of, has_begun, has_finished}
+use Rattle.am_board.specs.Past.{Past, AtEach, past_of, replay_past, moment_at, is_flush, is_flush_of, is_finish, takes, notices_in, begin_of, has_begun, has_finished}
 use Rattle.am_board.specs.Presence.{goes_to, inserts, inserted_by, stamp_told, presence}
+use Rattle.am_board.specs.Reasons.{BeginsHaveReasons}
 use Rattle.am_board.specs.Replay.{replay, IsLegal}
 use Rattle.am_board.specs.State.{MemberState, members_in}
 use Rattle.am_board.specs.Ticket.{outcome_of, is_nothing}
@@ -156,7 +158,7 @@ abbrev pub begun_at : Config → GroupName → Past → Option ℕ
 begun_at config name [] = None
 begun_at config name (r ∷ past) =
     if takes name r.reply then Some (moment_at (r ∷ past))
-    else if is_maintenance r.call && is_empty (present_in config name past) then None
+    else if found_empty config name r past then None
     else begun_at config name past
 
 -- t is an interval after the last begin, if there was one
@@ -241,7 +243,7 @@ BeginsTellWhatIsThere config history = AtEach (λ r past. IsToldRightly config (
 
 -- ---- all of it, of one history
 
--- what looking back says of a history: its alerts and its rows are found, and no two are alike; only what was delivered is logged; and at each record a refiring alert stays, flushes end once, and a begin asks those that it is to ask and tells what is there
+-- what looking back says of a history: its alerts and its rows are found, and no two are alike; only what was delivered is logged; and at each record a refiring alert stays, flushes end once, and a begin is an interval after any other of its group, asks those that it has a reason to ask, and tells what is there
 pub record LooksBack (config : Config) (history : List Record) : Type 0 where
   pub consistent : IsConsistent (replay config history)
   pub alerts : AlertsAreFound config history
@@ -254,3 +256,5 @@ pub record LooksBack (config : Config) (history : List Record) : Type 0 where
   pub once : FlushesEndOnce config history
   pub asked : BeginsAskRightly config history
   pub tells : BeginsTellWhatIsThere config history
+  pub interval : BeginsKeepTheInterval config history
+  pub reasons : BeginsHaveReasons config history

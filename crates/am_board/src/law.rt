@@ -1,8 +1,10 @@
 //! Laws of histories.
 ghost use Rattle.am_board.specs.Laws.{ReplayAppends, LegalAppends, ClockIsMoment, LegalKeeps};
+ghost use Rattle.am_board.specs.Interval.{BeginsKeepTheInterval};
 ghost use Rattle.am_board.specs.LookBack.{EveryLegalHistory, AlertsAreFound, ShownAlertsAreFound, RowsAreFound, ShownRowsAreFound};
 ghost use Rattle.am_board.specs.LookBack.{OnlyDeliveredIsLogged, RowsWereDelivered, RefiringAlertsStay, FlushesEndOnce};
 ghost use Rattle.am_board.specs.LookBack.{BeginsAskRightly, BeginsTellWhatIsThere, LooksBack};
+ghost use Rattle.am_board.specs.Reasons.{BeginsHaveReasons, ReasonsAreSo, NotYetEnds};
 
 /// What the definitions of the sequential dispatcher say of a history with one record more: its
 /// state is the one after that record, it is legal where the history before is and the record's
@@ -64,6 +66,21 @@ pub fn begins_ask_rightly()
 /// is more; and a quiet begin counts the alerts that looking back finds resolved, muted ones too.
 pub fn begins_tell_what_is_there()
     ensures { EveryLegalHistory BeginsTellWhatIsThere }
+{}
+
+/// Of any two begins of a group, with no maintenance between them that found it without alerts, the
+/// later is at least the route's `group_interval` later.
+pub fn begins_keep_the_interval()
+    ensures { EveryLegalHistory BeginsKeepTheInterval }
+{}
+
+/// A begin that takes a group asks an integration of its receiver exactly if the case of needs-update
+/// that applies, by the history before it, is a reason to. What a reason says is so; and a notice
+/// that isn't repeated yet is from the moment on that its reason names.
+pub fn reasons_decide()
+    ensures asked { EveryLegalHistory BeginsHaveReasons }
+    ensures so { ReasonsAreSo }
+    ensures waits { NotYetEnds }
 {}
 
 /// What looking back says of every legal history, all of it.

@@ -19,6 +19,7 @@ mod maintain;
 mod note;
 pub mod notice;
 mod opening;
+pub mod reason;
 pub mod record;
 mod silence;
 mod state;

@@ -10,6 +10,7 @@ pub mod Begins
 pub mod Bounded
 pub mod BoundedAlerts
 pub mod Calls
+pub mod Causes
 pub mod Closing
 pub mod Consistent
 pub mod ConsistentBegin

@@ -4,6 +4,7 @@ use Rattle.std.specs.Ordering.{ordering_then, nat_cmp}
 use Rattle.std.specs.declared.cmp.Ordering.{Ordering}
 use Rattle.am_board.specs.declared.record.Record.{Record}
 use Rattle.am_board.specs.declared.config.Config.{Config}
+use Rattle.am_board.specs.declared.views.Glance.{Glance}
 use Rattle.am_board.specs.declared.views.GroupView.{GroupView}
 use Rattle.am_board.specs.declared.views.RowView.{RowView}
 use Rattle.am_board.specs.declared.views.Summary.{Summary}
@@ -59,3 +60,11 @@ summary_at calls s =
 -- summary: how much there is after a history
 abbrev pub summary : Config → List Record → SummaryData
 summary config history = summary_at (length history) (replay config history)
+
+-- the glance of so many records that led to a state: no alerts and no rows
+abbrev pub glance_at : ℕ → State → Glance
+glance_at calls s = record { calls = calls; groups = length s.groups; flushes = length s.flushes }
+
+-- glance: how many accepted calls, groups and open flushes there are after a history
+abbrev pub glance : Config → List Record → Glance
+glance config history = glance_at (length history) (replay config history)

@@ -2,13 +2,13 @@
 ghost use Rattle.std.specs.Prelude.{◌≡◌, ◌*◌, ◌≤◌, ◌++◌, [], ◌∷◌, All, IfOk, OnOk, length, map, sum_by, vec_len};
 ghost use Rattle.std.specs.List.{IsDistinct};
 ghost use Rattle.std.specs.Option.{option_copied};
-ghost use Rattle.am_board.specs.declared.config.TheConstants.{MAX_HISTORY};
+ghost use Rattle.am_board.specs.declared.config.TheConstants.{MAX_GROUPS, MAX_FLUSHES, MAX_HISTORY};
 ghost use Rattle.am_board.specs.History.{state_at};
 ghost use Rattle.am_board.specs.Insert.{same_member};
 ghost use Rattle.am_board.specs.Kept.{state_of, group_state};
 ghost use Rattle.am_board.specs.LogRows.{row_under, log_rows};
 ghost use Rattle.am_board.specs.Laws.{IsConsistent};
-ghost use Rattle.am_board.specs.Views.{row_views, group_view, group_views, summary, summary_at, summary_data};
+ghost use Rattle.am_board.specs.Views.{row_views, group_view, group_views, summary, summary_at, summary_data, glance, glance_at};
 
 use crate::board::Board;
 use crate::found::by_labels;
@@ -56,7 +56,28 @@ pub struct Summary {
     pub entries: usize,
 }
 
+/// How much there is on a board, without its alerts and rows.
+#[derive(Clone, Copy, Debug, PartialEq, Eq)]
+pub struct Glance {
+    /// Accepted calls.
+    pub calls: usize,
+    pub groups: usize,
+    /// Open flushes.
+    pub flushes: usize,
+}
+
 impl Board {
+    /// How much there is, without alerts and rows. It reads three lengths, and takes no memory.
+    pub fn glance(&self) -> Glance
+        ensures glance { result ≡ glance self.now.config self.now.history }
+        ensures within { (result.calls ≤ self.now.config.limits.history)
+            × (result.groups ≤ self.now.config.limits.groups)
+            × (result.flushes ≤ self.now.config.limits.flushes) }
+        ensures bounds { (result.calls ≤ MAX_HISTORY) × (result.groups ≤ MAX_GROUPS) × (result.flushes ≤ MAX_FLUSHES) }
+    {
+        glance_of(&self.state)
+    }
+
     /// How much there is. Takes no memory.
     pub fn summary(&self) -> Summary
         ensures summary { summary_data result ≡ summary self.now.config self.now.history }
@@ -77,6 +98,17 @@ impl Board {
         ensures { IfOk result (λ groups. groups.items ≡ group_views (state_at self.now)) }
     {
         groups_of(alloc, &self.state)
+    }
+}
+
+/// How much there is in a state, without alerts and rows.
+fn glance_of(state: &State) -> Glance
+    ensures { result ≡ glance_at (vec_len state.now.history) (state_of state.now) }
+{
+    Glance {
+        calls: state.history.len(),
+        groups: state.groups.len(),
+        flushes: state.flushes.len(),
     }
 }
 

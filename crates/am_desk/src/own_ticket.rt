@@ -1,0 +1,106 @@
+//! Tickets of which it is known that this desk gave them.
+ghost use Rattle.std.specs.Prelude.{◌≡◌, None, Some, IfOk, OnErr, MatchResult};
+ghost use Rattle.am_board.specs.History.{entry};
+ghost use Rattle.am_board.specs.Ticket.{report_fault, recorded};
+ghost use Rattle.am_board.specs.declared.record.Call.TheVariants as call;
+ghost use Rattle.am_board.specs.declared.record.Reply.TheVariants as reply;
+ghost use Rattle.am_desk.specs.Calls.{Called, NoOpenFlush};
+ghost use Rattle.am_desk.specs.Known.{Looks};
+
+use crate::desk::Desk;
+use crate::name::Name;
+use crate::pass::Pass;
+use am_board::fault::{FinishFault, ReportFault};
+use am_board::notice::Report;
+use am_board::record::Finished;
+use am_board::ticket::Ticket;
+use std::marker::{Model, PhantomData};
+use std::sync::Wait;
+use thiserror::Error;
+
+/// A ticket that names this desk. It can be kept beside others, in a vector or in another thread, and
+/// its desk never answers that it is of another. As a ticket it must be spent: `Desk::finish_own`
+/// alone finishes it. Contracts see the ticket.
+pub struct OwnTicket<N: Name> {
+    ticket: Ticket,
+    of: PhantomData<N>,
+}
+
+/// No open flush has the ticket's number. The ticket is spent.
+#[derive(Clone, Copy, Debug, PartialEq, Eq, Error)]
+#[error("no open flush has the ticket's number")]
+pub struct NotOpen;
+
+impl<N: Name> Model for OwnTicket<N> {
+    ghost use Rattle.std.specs.Prelude.{◌≡◌};
+    ghost use Rattle.am_board.specs.Data.{TicketData};
+
+    ghost Value = { TicketData };
+
+    ghost view = { λ own. own.ticket };
+
+    ghost invariant = { λ own. own.ticket.desk ≡ N.terms.id };
+}
+
+impl<N: Name> OwnTicket<N> {
+    /// The ticket of a flush that this desk's `begin` gave, of which that call tells that it names the
+    /// desk.
+    pub fn new(ticket: Ticket) -> OwnTicket<N>
+        requires { ticket.desk ≡ N.terms.id }
+        ensures { result ≡ ticket }
+    {
+        OwnTicket {
+            ticket,
+            of: PhantomData,
+        }
+    }
+
+    /// The ticket, to be read or noted.
+    pub fn ticket(&self) -> &Ticket
+        ensures ticket { result.now ≡ self.now }
+        ensures ours { result.now.desk ≡ N.terms.id }
+    {
+        &self.ticket
+    }
+
+    /// Records a report on one of the notices, as `Ticket::record` does.
+    pub fn record(&mut self, report: Report) -> Result<(), ReportFault>
+        ensures { MatchResult result
+            (λ _. (report_fault self.old report ≡ None) × (self.new ≡ recorded self.old report))
+            (λ fault. (report_fault self.old report ≡ Some fault) × (self.new ≡ self.old)) }
+    {
+        self.ticket.record(report)
+    }
+
+    /// The ticket, to be spent otherwise.
+    pub fn into_ticket(self) -> Ticket
+        ensures ticket { result ≡ self }
+        ensures ours { result.desk ≡ N.terms.id }
+    {
+        let OwnTicket { ticket, of: _ } = self;
+        ticket
+    }
+}
+
+impl<N: Name> Desk<N> {
+    /// Finishes the flush of an own ticket, as `finish` does. Takes no memory.
+    ///
+    /// Refused by `NotOpen` alone: the pass has then seen a history with no open flush of its number.
+    pub fn finish_own<R: Wait>(
+        &self,
+        rt: &R,
+        pass: &mut Pass<N>,
+        own: OwnTicket<N>,
+        now: u64,
+    ) -> Result<Finished, NotOpen>
+        ensures done { IfOk result (λ finished. Called N.terms pass.old (λ h. NoOpenFlush N.terms own.number h → ⊥)
+            (entry pass.old.number (call.Finish now own.number own.outcomes) (reply.Finished finished)) pass.new) }
+        ensures not_open { OnErr result (Looks N.terms pass.old pass.new × NoOpenFlush N.terms own.number pass.new.log) }
+    {
+        match self.finish(rt, pass, own.into_ticket(), now) {
+            Ok(finished) => Ok(finished),
+            Err(FinishFault::NotOpen) => Err(NotOpen),
+            Err(FinishFault::Foreign(_ticket)) => unreachable!(),
+        }
+    }
+}

@@ -1,7 +1,6 @@
 -- How a begin ends: what is told and what is kept, from what it did to the kept state.
 use Rattle.std.proofs.Common.{◌≡◌, ◌≢◌, ℕ, ◌+◌, ◌*◌, ◌<◌, ◌≤◌, min, true, List, [], ◌∷◌, ◌++◌, length, map, get_or, Some, All, IsTrue, vec_len, vec_capacity, refl, sym, ap, subst, ◌∙◌, arith}
 use Rattle.std.specs.Cmp.{on_equiv}
-use Rattle.std.specs.Vec.{with_item}
 use Rattle.std.proofs.Math.ListN.{set}
 use Rattle.std.proofs.lemmas.List.{get_or-map, length-map, map-set, map-append}
 use Rattle.std.proofs.lemmas.List.Elements.{All-append, All-cons, All-nil}

@@ -1,5 +1,5 @@
 -- What a caller learns from the fault that a call answered.
-use Rattle.std.proofs.Common.{◌≡◌, ◌≢◌, ◌⊎◌, Option, Some, None, refl, sym, ap, ⊎_elim}
+use Rattle.std.proofs.Common.{◌≡◌, ◌≢◌, ◌⊎◌, Option, Some, None, sym, ap, ⊎_elim}
 use Rattle.am_board.specs.Step.{IsAnswer, IsNoteAnswer}
 use Rattle.am_board.specs.declared.fault.Fault.{Fault}
 use Rattle.am_board.specs.declared.fault.Fault.TheVariants.{NoMemory, TooManyNames, TooManyGroups, TooManySilences, TooManyOpen, HistoryFull}

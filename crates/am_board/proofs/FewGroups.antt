@@ -1,6 +1,6 @@
 -- An insert makes no more groups than it tells, and no other call makes any.
-use Rattle.std.proofs.Common.{◌≡◌, ℕ, suc, ◌+◌, ◌≤◌, Bool, true, false, cond, not, ◌||◌, nat_le, Option, Some, None, List, [], ◌∷◌, length, refl, sym, ap, ◌∙◌, subst, arith, if◌then◌else◌}
-use Rattle.std.specs.Prelude.{find, fold, filter, count_by, unwrap_or, nat_lt}
+use Rattle.std.proofs.Common.{◌≡◌, ℕ, suc, ◌+◌, ◌≤◌, Bool, true, false, cond, not, ◌||◌, Option, Some, None, List, [], ◌∷◌, length, refl, sym, ap, ◌∙◌, subst, arith, if◌then◌else◌}
+use Rattle.std.specs.Prelude.{fold, count_by}
 use Rattle.std.specs.List.{list_any}
 use Rattle.std.proofs.lemmas.Bool.{false≢true}
 use Rattle.std.proofs.lemmas.Bool.Decides.{nat_tests}
@@ -10,7 +10,6 @@ use Rattle.am_alerts.specs.AlertData.{AlertData}
 use Rattle.am_retry.specs.declared.outcome.Outcome.{Outcome}
 use Rattle.am_board.specs.declared.config.Config.{Config}
 use Rattle.am_board.specs.declared.config.Integration.{Integration}
-use Rattle.am_board.specs.declared.fault.Fault.{Fault}
 use Rattle.am_board.specs.declared.fault.Fault.TheVariants.{TooManyNames, TooManyGroups}
 use Rattle.am_board.specs.declared.group.GroupName.{GroupName}
 use Rattle.am_board.specs.declared.record.Call.{Call}
@@ -18,7 +17,7 @@ use Rattle.am_board.specs.declared.record.Call.TheVariants.{Insert, Silence, Beg
 use Rattle.am_board.specs.Begin.{taken, asked_of, after_asking, after_taking, begun_group, without_resolved}
 use Rattle.am_board.specs.Causes.{makes_too_many}
 use Rattle.am_board.specs.Finish.{after_finish_of, finished_group}
-use Rattle.am_board.specs.Insert.{same_group, names_for, new_group, group_or_new, group_with, put_into_group, inserted, after_insert, next_stamp}
+use Rattle.am_board.specs.Insert.{same_group, names_for, group_or_new, group_with, put_into_group, inserted, after_insert, next_stamp}
 use Rattle.am_board.specs.Lists.{put_in, changed_where}
 use Rattle.am_board.specs.Note.{after_note, after_note_of, may_note}
 use Rattle.am_board.specs.Replay.{after_call}

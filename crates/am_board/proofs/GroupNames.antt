@@ -1,5 +1,5 @@
 -- The names of groups, and the room in them, stay through what is done to one of them.
-use Rattle.std.proofs.Common.{◌≡◌, ◌≢◌, ℕ, ◌+◌, ◌<◌, ◌≤◌, true, false, eqb, List, [], ◌∷◌, ◌++◌, length, map, get_or, take, refl, sym, inl, inr, ap, ◌∙◌, subst, arith, eqb-true, get_or-set_same, get_or-set_other}
+use Rattle.std.proofs.Common.{◌≡◌, ◌≢◌, ℕ, ◌<◌, ◌≤◌, true, false, eqb, List, [], ◌∷◌, ◌++◌, length, map, get_or, take, refl, sym, inl, inr, ap, ◌∙◌, subst, arith, eqb-true, get_or-set_same, get_or-set_other}
 use Rattle.std.proofs.lemmas.Bool.{eqb-false}
 use Rattle.std.proofs.Math.ListN.{set, length-set}
 use Rattle.std.proofs.Math.Seq.{map-set_same, take-append_seam}
@@ -9,7 +9,7 @@ use Rattle.am_board.specs.declared.group.GroupName.{GroupName}
 use Rattle.std.proofs.lemmas.List.Elements.{All-append, All-cons, All-nil}
 use Rattle.am_alerts.specs.RoutingTree.{RoutingTree}
 use Rattle.am_board.specs.Kept.{group_state}
-use Rattle.am_board.specs.Group.{names_of, AreRouted, AddsAtMost, HasRoom, Fits, IsReserved}
+use Rattle.am_board.specs.Group.{names_of, AreRouted, AddsAtMost, HasRoom, Fits}
 
 -- one group is replaced by one of its name
 pub names_set : (gs : List Group) (i : ℕ) (g d : Group) → g.name ≡ (get_or gs i d).name → names_of (set gs i g) ≡ names_of gs

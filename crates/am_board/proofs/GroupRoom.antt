@@ -1,5 +1,5 @@
 -- The groups as they are kept: a change of one, and room in the one of a name.
-use Rattle.std.proofs.Common.{◌≡◌, ℕ, zero, suc, ◌<◌, Bool, true, false, true≢false, ◌&&◌, eqb-true, Some, None, List, [], ◌∷◌, length, map, get_or, get_or-set_same, slice_get, set, refl, sym, ap, ◌∙◌, subst, arith}
+use Rattle.std.proofs.Common.{◌≡◌, ℕ, zero, suc, ◌<◌, Bool, true, false, true≢false, ◌&&◌, eqb-true, Some, None, List, [], ◌∷◌, length, get_or, get_or-set_same, slice_get, set, refl, sym, ap, ◌∙◌, subst}
 use Rattle.std.specs.Prelude.{◌==◌}
 use Rattle.std.specs.List.{position, AllByRecursion, IsDistinct}
 use Rattle.std.specs.Map.{values_of}

@@ -1,5 +1,5 @@
 -- A note that did its parts is the note of the definitions.
-use Rattle.std.proofs.Common.{◌≡◌, ℕ, ◌+◌, ◌<◌, ◌≤◌, ◌*◌, ◌==◌, Vec, Global, min, max, Bool, true, false, not, ◌&&◌, Option, Some, None, is_none, List, [], ◌∷◌, ◌++◌, length, map, get_or, set, refl, sym, ap, ◌∙◌, subst, arith, eqb-true, vec_len, vec_capacity, if◌then◌else◌}
+use Rattle.std.proofs.Common.{◌≡◌, ℕ, ◌+◌, ◌<◌, ◌≤◌, ◌*◌, ◌==◌, min, max, Bool, true, false, not, ◌&&◌, Option, Some, None, is_none, List, [], ◌∷◌, ◌++◌, length, map, get_or, set, refl, sym, ap, ◌∙◌, subst, arith, eqb-true, vec_len, vec_capacity, if◌then◌else◌}
 use Rattle.std.specs.Prelude.{All, IsPermutation, Result, Ok, Err, is_err, OnOk, IsErr, IfErr, MatchResult, IsSome, IfSome, position, slice_get}
 use Rattle.std.specs.Cmp.{IsEquivalence}
 use Rattle.std.specs.List.{IsDistinct}
@@ -34,7 +34,6 @@ use Rattle.am_board.specs.declared.fault.NoteFault.{NoteFault}
 use Rattle.am_board.specs.declared.fault.NoteFault.TheVariants as note
 use Rattle.am_board.specs.declared.flush.Asked.{Asked}
 use Rattle.am_board.specs.declared.flush.OpenFlush.{OpenFlush}
-use Rattle.am_board.specs.declared.group.Group.{Group}
 use Rattle.am_board.specs.declared.group.GroupName.{GroupName}
 use Rattle.am_board.specs.declared.note.Noting.{Noting}
 use Rattle.am_board.specs.declared.record.Call.TheVariants.{Note}

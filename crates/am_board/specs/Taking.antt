@@ -1,5 +1,5 @@
 -- What a begin goes by: the group that it takes, and how it may end.
-use Rattle.std.specs.Prelude.{◌≡◌, ℕ, ◌+◌, ◌<◌, Bool, not, ◌&&◌, nat_le, List, filter, length, slice_index_or, Option, Some, None, Result, Ok, Err, vec_len}
+use Rattle.std.specs.Prelude.{◌≡◌, ℕ, ◌+◌, ◌<◌, Bool, not, ◌&&◌, nat_le, List, filter, length, slice_index_or, Option, Some, None, Result, Ok, Err}
 use Rattle.am_board.specs.declared.begin.Begun.{Begun}
 use Rattle.am_board.specs.declared.begin.Taking.{Taking}
 use Rattle.am_board.specs.declared.config.Config.{Config}

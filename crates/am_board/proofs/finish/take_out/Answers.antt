@@ -4,7 +4,7 @@ use Rattle.std.specs.List.{list_all}
 use Rattle.am_board.specs.Finish.{has_succeeded, leaves_by, finished_group, is_leaving}
 use Rattle.am_board.specs.Group.{names_of}
 use Rattle.am_board.specs.Kept.{asked_state_of, member_state, group_state, flush_state, stamped}
-use Rattle.am_board.specs.State.{GroupState, same_name, members_in}
+use Rattle.am_board.specs.State.{same_name, members_in}
 use Rattle.am_board.specs.Lists.{without}
 use Rattle.am_board.specs.declared.flush.Leaving.{Leaving}
 use Rattle.am_board.specs.declared.group.Group.{Group}

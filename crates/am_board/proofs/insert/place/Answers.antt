@@ -1,4 +1,4 @@
-use Rattle.std.proofs.Common.{◌≡◌, ◌∙◌, ◌+◌, ◌<◌, false, ◌++◌, ◌∷◌, [], List, Some, None, length, map, get_or, inl, inr, refl, sym, ap, subst, arith, suc}
+use Rattle.std.proofs.Common.{◌≡◌, ◌∙◌, ◌+◌, false, ◌++◌, ◌∷◌, [], List, Some, None, map, get_or, inl, inr, refl, sym, ap, subst, arith, suc}
 use Rattle.am_board.specs.declared.group.GroupName.{GroupName}
 use Rattle.am_board.specs.Insert.{wait_of, new_group, group_with}
 use Rattle.am_board.specs.Kept.{group_state}

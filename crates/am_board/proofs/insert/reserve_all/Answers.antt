@@ -1,11 +1,9 @@
-use Rattle.std.proofs.Common.{◌≡◌, ◌≢◌, ◌∙◌, ◌++◌, List, eqb, true, false, eqb-true, length, map, get_or, take, drop, refl, sym, ap, subst, arith}
+use Rattle.std.proofs.Common.{◌≡◌, ◌≢◌, ◌∙◌, List, eqb, true, false, eqb-true, length, get_or, refl, sym, ap, subst, arith}
 use Rattle.std.proofs.lemmas.Bool.{eqb-false}
 use Rattle.std.proofs.lemmas.List.{get_or_default}
 use Rattle.am_board.specs.declared.group.Group.{Group}
 use Rattle.am_board.specs.declared.insert.Placement.{Placement}
-use Rattle.am_board.specs.Kept.{group_state}
-use Rattle.am_board.specs.Group.{names_of, HasRoom}
-use Rattle.am_board.proofs.GroupNames.{whole_again}
+use Rattle.am_board.specs.Group.{HasRoom}
 use Rattle.am_board.proofs.insert.reserve_all.Goals as goal
 
 pub loop-placement-preserved : goal.loop-placement-preserved

@@ -1,4 +1,4 @@
-use Rattle.std.proofs.Common.{◌≤◌, ◌∙◌, ap, arith}
+use Rattle.std.proofs.Common.{◌∙◌, ap, arith}
 use Rattle.am_board.specs.History.{BoardData}
 use Rattle.am_board.specs.Views.{SummaryData}
 use Rattle.am_board.proofs.Calls.{summary_then}

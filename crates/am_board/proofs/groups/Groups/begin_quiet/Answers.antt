@@ -1,10 +1,10 @@
-use Rattle.std.proofs.Common.{◌≡◌, true, map, ap, sym, subst, ◌∙◌}
+use Rattle.std.proofs.Common.{◌≡◌, true, ap, ◌∙◌}
 use Rattle.indexmap.specs.IndexMap.{spare}
 use Rattle.am_board.specs.GroupList.{name_of}
 use Rattle.am_board.specs.Kept.{group_state}
 use Rattle.am_board.specs.State.{GroupState, same_name}
 use Rattle.am_board.specs.declared.group.Group.{Group}
-use Rattle.am_board.proofs.GroupRoom.{changes_at, lent_as, written_at}
+use Rattle.am_board.proofs.GroupRoom.{changes_at, lent_as}
 use Rattle.am_board.proofs.Keyed.{AreKeyed-set}
 use Rattle.am_board.specs.Begin.{count_resolved, without_resolved}
 use Rattle.am_board.proofs.groups.Groups.begin_quiet.Goals as goal

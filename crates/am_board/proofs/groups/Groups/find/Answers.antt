@@ -1,4 +1,4 @@
-use Rattle.std.proofs.Common.{◌≡◌, ap, ◌∙◌, subst}
+use Rattle.std.proofs.Common.{ap, ◌∙◌, subst}
 use Rattle.std.specs.List.{position, IsDistinct}
 use Rattle.am_board.specs.Group.{names_of}
 use Rattle.am_board.specs.GroupList.{GroupList, name_of}

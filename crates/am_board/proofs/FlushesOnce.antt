@@ -1,5 +1,5 @@
--- Each flush has one begin and at most one finish, and its group isn't taken before.
-use Rattle.std.proofs.Common.{◌≡◌, ℕ, ◌≤◌, Bool, true, false, cond, not, ◌&&◌, ◌||◌, Option, Some, None, List, [], ◌∷◌, refl, sym, ap, ◌∙◌, subst, arith, if◌then◌else◌}
+-- Each flush has one begin and at most one finish, notes each integration at most once between them, and its group isn't taken before.
+use Rattle.std.proofs.Common.{◌≡◌, ℕ, ◌≤◌, Bool, true, false, cond, not, ◌&&◌, ◌||◌, Option, Some, None, List, [], ◌∷◌, map, refl, sym, ap, ◌∙◌, subst, arith, if◌then◌else◌}
 use Rattle.std.specs.Prelude.{find, filter, ◌==◌, nat_le}
 use Rattle.std.specs.List.{AllByRecursion, list_any}
 use Rattle.std.specs.Option.{option_map}
@@ -27,16 +27,17 @@ use Rattle.am_board.specs.declared.record.Reply.TheVariants.{Inserted, Silenced,
 use Rattle.am_board.specs.Begin.{due_cmp, may_begin, taken, asked_of, after_asking, after_taking, reply_asking, reply_taking, flush_asking}
 use Rattle.am_board.specs.Begin as begin_is
 use Rattle.am_board.specs.Configured.{route_of}
+use Rattle.am_board.specs.Data.{NoticeData}
 use Rattle.am_board.specs.Entry.{present_in}
 use Rattle.am_board.specs.Finish.{finished, after_finish_of}
 use Rattle.am_board.specs.History.{entry}
 use Rattle.am_board.specs.Insert.{inserted}
 use Rattle.am_board.specs.Laws.{last_begin_after, IsBegunAt}
 use Rattle.am_board.specs.LookBack.{member_with, EveryLegalHistory, number_in, has_open, begun_at, IsLater, IsOneFlushAtATime, FlushesEndOnce}
-use Rattle.am_board.specs.Note.{with_note, may_note, after_note, noted}
-use Rattle.am_board.specs.Past.{past_of, moment_at, is_flush, is_flush_of, is_finish, takes, has_begun, has_finished}
+use Rattle.am_board.specs.Note.{is_ready, asked_by, may_be_noted, with_note, may_note, after_note, noted}
+use Rattle.am_board.specs.Past.{past_of, moment_at, is_flush, is_flush_of, is_finish, is_note, takes, begin_of, has_begun, has_finished, was_noted}
 use Rattle.am_board.specs.Replay.{reply, after, after_call}
-use Rattle.am_board.specs.State.{MemberState, GroupState, FlushState, State, moment, same_name, is_flushing, members_in, flush_numbered}
+use Rattle.am_board.specs.State.{MemberState, GroupState, AskedState, FlushState, State, moment, same_name, is_flushing, members_in, flush_numbered}
 use Rattle.am_board.specs.Upkeep.{silenced, maintained}
 use Rattle.am_board.proofs.Begins.{Keeps, keeps-call, opening_keeps}
 use Rattle.am_board.proofs.ConsistentBegin.{taken-is}
@@ -47,7 +48,7 @@ use Rattle.am_board.proofs.EachCall.{HoldsOfEach, each_call}
 use Rattle.am_board.proofs.FoundAlerts.{steady_past, finds_past}
 use Rattle.am_board.proofs.FoundSteps.{clock-step}
 use Rattle.am_board.proofs.LogRows.{same_name-is}
-use Rattle.am_board.proofs.Opened.{Finds}
+use Rattle.am_board.proofs.Opened.{notices_at, asked_as, IsOpened, Finds}
 use Rattle.am_board.proofs.Pasts.{state_after, IsLegalPast, at_each, legal_past}
 use Rattle.am_board.proofs.PastWords.{has_labels}
 use Rattle.am_board.proofs.SetWords.{any-filter, any-alike, any-and, any-map, passes}
@@ -85,6 +86,32 @@ any_some : {X : Type 0} (test : X → Bool) (x : X) (xs : List X) → find test 
 any_some test x [] e = absurd (cc)
 any_some test x (y ∷ ys) found =
     elim (test y) as (λ b. cond b (Some y) (find test ys) ≡ Some x → (b || list_any test ys) ≡ true) [ true ↦ λ e. refl | false ↦ λ e. any_some test x ys e ] found
+
+two : (a b : Bool) → (a && not b) ≡ true → (a ≡ true) × (b ≡ false)
+two true true h = absurd (false≢true h)
+two true false h = (refl, refl)
+two false b h = absurd (false≢true h)
+
+-- an integration is noted in an open flush exactly if a note stands in the past
+noted_past : (number i : ℕ) (past : List Record) (a : AskedState) (ns : List NoticeData) → find (λ (x : AskedState). x.integration == i) (map (asked_as number past) ns) ≡ Some a → was_noted number i past ≡ a.noted
+noted_past number i past a [] found = absurd (cc)
+noted_past number i past a (n ∷ ns) found =
+    elim (n.integration == i) as (λ b. (n.integration == i) ≡ b → cond b (Some (asked_as number past n)) (find (λ (x : AskedState). x.integration == i) (map (asked_as number past) ns)) ≡ Some a → was_noted number i past ≡ a.noted) [
+      | true ↦ λ same e.
+          let own : asked_as number past n ≡ a = cc in
+          ap (λ m. was_noted number m past) (sym (eqb-true n.integration i same)) ∙ ap (λ (x : AskedState). x.noted) own
+      | false ↦ λ other e. noted_past number i past a ns e
+    ] refl found
+
+-- one that may be noted wasn't noted
+unnoted_past : (config : Config) (inserts i : ℕ) (outcome : Option Outcome) (past : List Record) (f : FlushState) → IsOpened config inserts past f → may_note i outcome f ≡ true → was_noted f.number i past ≡ false
+unnoted_past config inserts i outcome past f o may = by (asked_by f i) refl may
+  where
+    by : (a : Option AskedState) → asked_by f i ≡ a → may_be_noted outcome a ≡ true → was_noted f.number i past ≡ false
+    by None found e = absurd (false≢true e)
+    by (Some a) found e =
+        noted_past f.number i past a (notices_at (begin_of f.number past)) (sym (ap (find (λ (x : AskedState). x.integration == i)) o.asked) ∙ found)
+        ∙ (two (is_ready outcome a) a.noted e).1
 
 -- a flush of a number, and one of a group
 of_number : (number : ℕ) (past : List Record) (p : Reply) → (flush_passes (λ g n. n == number) p && not (has_finished (number_in p) past)) ≡ (is_flush number p && not (has_finished number past))
@@ -197,19 +224,21 @@ module _ (config : Config) (id : ℕ) (s : State) (past : List Record) (pass : �
           let come : h.due ≤ t = leb-true h.due t (first (nat_le h.due t) (not (is_flushing s.flushes h.name)) passes) in
           subst (λ d. d ≤ t) is.1 come
 
-  none-begun : (c : Call) (p : Reply) → ((number : ℕ) → is_flush number p ≡ false) → ((number : ℕ) → is_finish number c ≡ false) → ((name : GroupName) → takes name p ≡ false) → IsOneFlushAtATime config (entry pass c p) past
-  none-begun c p a b d =
+  none-begun : (c : Call) (p : Reply) → ((number : ℕ) → is_flush number p ≡ false) → ((number : ℕ) → is_finish number c ≡ false) → ((number i : ℕ) → is_note number i c ≡ false) → ((name : GroupName) → takes name p ≡ false) → IsOneFlushAtATime config (entry pass c p) past
+  none-begun c p a b unnoted d =
       record {
         first_begin = λ number e. absurd (false≢true (sym (a number) ∙ e));
         begun_before = λ number e. absurd (false≢true (sym (b number) ∙ e));
         first_finish = λ number e. absurd (false≢true (sym (b number) ∙ e));
+        note_open = λ number i e. absurd (false≢true (sym (unnoted number i) ∙ e));
+        note_once = λ number i e. absurd (false≢true (sym (unnoted number i) ∙ e));
         none_open = λ name e. absurd (false≢true (sym (d name) ∙ e));
         interval_over = λ name e. absurd (false≢true (sym (d name) ∙ e));
       }
 
   insert : (now : ℕ) (a : AlertData) → Holds (Insert now a) (after_call config s (Insert now a)) (Inserted (inserted config s a))
   insert now a = (
-    none-begun (Insert now a) (Inserted (inserted config s a)) (λ m. refl) (λ m. refl) (λ name. refl),
+    none-begun (Insert now a) (Inserted (inserted config s a)) (λ m. refl) (λ m. refl) (λ m i. refl) (λ name. refl),
     record { opens = n.opens; begun = n.begun; ended = n.ended; keeps = keeps-after (Insert now a) (Inserted (inserted config s a)) refl (λ name. refl) },
   )
 
@@ -217,14 +246,14 @@ module _ (config : Config) (id : ℕ) (s : State) (past : List Record) (pass : �
   silence now number matchers start end =
       let c = call_is.Silence now number matchers start end in
       let p = reply_is.Silenced (silenced s (silence_of number matchers start end)) in (
-        none-begun c p (λ m. refl) (λ m. refl) (λ name. refl),
+        none-begun c p (λ m. refl) (λ m. refl) (λ m i. refl) (λ name. refl),
         record { opens = n.opens; begun = n.begun; ended = n.ended; keeps = keeps-after c p refl (λ name. refl) },
       )
 
   maintain : (now : ℕ) → Holds (Maintain now) (after_call config s (Maintain now)) (Maintained (maintained s (moment s now)))
   maintain now =
       let p = reply_is.Maintained (maintained s (moment s now)) in (
-        none-begun (Maintain now) p (λ m. refl) (λ m. refl) (λ name. refl),
+        none-begun (Maintain now) p (λ m. refl) (λ m. refl) (λ m i. refl) (λ name. refl),
         record {
           opens = n.opens;
           begun = n.begun;
@@ -241,6 +270,8 @@ module _ (config : Config) (id : ℕ) (s : State) (past : List Record) (pass : �
         first_begin = first;
         begun_before = λ number h. absurd (false≢true h);
         first_finish = λ number h. absurd (false≢true h);
+        note_open = λ number i h. absurd (false≢true h);
+        note_once = λ number i h. absurd (false≢true h);
         none_open = λ name h.
             let own : name ≡ g.name = same_name-is name g.name (sym (is name) ∙ h) in
             open-group config s past n name ∙ ap (is_flushing s.flushes) own ∙ any_none (λ f. same_name g.name f.group) s.flushes (taken-is s (moment s now) g steady.groups e).free;
@@ -317,6 +348,8 @@ module _ (config : Config) (id : ℕ) (s : State) (past : List Record) (pass : �
           first_begin = λ number h. absurd (false≢true h);
           begun_before = λ number h. subst (λ x. has_begun x past ≡ true) (eqb-true m number h) (two (has_begun m past) (has_finished m past) is_open).0;
           first_finish = λ number h. subst (λ x. has_finished x past ≡ false) (eqb-true m number h) (two (has_begun m past) (has_finished m past) is_open).1;
+          note_open = λ number i h. absurd (false≢true h);
+          note_once = λ number i h. absurd (false≢true h);
           none_open = λ name h. absurd (false≢true h);
           interval_over = λ name h. absurd (false≢true h);
         },
@@ -334,17 +367,27 @@ module _ (config : Config) (id : ℕ) (s : State) (past : List Record) (pass : �
               (keeps-after c p told (λ name. refl));
         },
       )
-    where
-      two : (a b : Bool) → (a && not b) ≡ true → (a ≡ true) × (b ≡ false)
-      two true true h = absurd (false≢true h)
-      two true false h = (refl, refl)
-      two false b h = absurd (false≢true h)
 
   note : (now m i : ℕ) (outcome : Option Outcome) (f : FlushState) → flush_numbered s.flushes m ≡ Some f → may_note i outcome f ≡ true → Holds (Note now m i outcome) (after_note config s (moment s now) i f) Noted
   note now m i outcome f is may =
       let c = call_is.Note now m i outcome in
-      let told : noted i outcome (flush_numbered s.flushes m) ≡ Some reply_is.Noted = ap (noted i outcome) is ∙ ap (λ b. if b then Some reply_is.Noted else None) may in (
-        none-begun c Noted (λ x. refl) (λ x. refl) (λ name. refl),
+      let told : noted i outcome (flush_numbered s.flushes m) ≡ Some reply_is.Noted = ap (noted i outcome) is ∙ ap (λ b. if b then Some reply_is.Noted else None) may in
+      let same : f.number ≡ m = eqb-true f.number m (find-passes (λ (h : FlushState). h.number == m) f s.flushes is) in
+      let is_open : (has_begun m past && not (has_finished m past)) ≡ true = open-number config s past n m ∙ any_some (λ (h : FlushState). h.number == m) f s.flushes is in
+      let o = all-find (IsOpened config s.inserts past) (λ h. h.number == m) f s.flushes k.opened is in
+      let unnoted : was_noted m i past ≡ false = ap (λ x. was_noted x i past) (sym same) ∙ unnoted_past config s.inserts i outcome past f o may in (
+        record {
+          first_begin = λ number h. absurd (false≢true h);
+          begun_before = λ number h. absurd (false≢true h);
+          first_finish = λ number h. absurd (false≢true h);
+          note_open = λ number j h.
+              subst (λ x. (has_begun x past ≡ true) × (has_finished x past ≡ false)) (eqb-true m number (both (m == number) (i == j) h).0) (two (has_begun m past) (has_finished m past) is_open);
+          note_once = λ number j h.
+              let are = both (m == number) (i == j) h in
+              subst (λ x. was_noted number x past ≡ false) (eqb-true i j are.1) (subst (λ x. was_noted x i past ≡ false) (eqb-true m number are.0) unnoted);
+          none_open = λ name h. absurd (false≢true h);
+          interval_over = λ name h. absurd (false≢true h);
+        },
         record {
           opens = λ test.
               n.opens test
@@ -360,13 +403,17 @@ module _ (config : Config) (id : ℕ) (s : State) (past : List Record) (pass : �
       kept test h true = refl
       kept test h false = refl
 
+      both : (a b : Bool) → (a && b) ≡ true → (a ≡ true) × (b ≡ true)
+      both true b h = (refl, h)
+      both false b h = absurd (false≢true h)
+
   each : HoldsOfEach config id s Holds
   each =
       record {
         insert = insert;
         silence = silence;
         nothing = λ now none. (
-          none-begun (Begin now) NothingDue (λ m. refl) (λ m. refl) (λ name. refl),
+          none-begun (Begin now) NothingDue (λ m. refl) (λ m. refl) (λ m i. refl) (λ name. refl),
           record { opens = n.opens; begun = n.begun; ended = n.ended; keeps = keeps-begin now None none },
         );
         begin = begin;

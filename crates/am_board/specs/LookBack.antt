@@ -26,7 +26,7 @@ use Rattle.am_board.specs.Finish.{is_delivered}
 use Rattle.am_board.specs.Interval.{found_empty, BeginsKeepTheInterval}
 use Rattle.am_board.specs.Laws.{IsConsistent}
 use Rattle.am_board.specs.Lists.{in_order}
-use Rattle.am_board.specs.Past.{Past, AtEach, past_of, replay_past, moment_at, is_flush, is_flush_of, is_finish, takes, notices_in, begin_of, has_begun, has_finished}
+use Rattle.am_board.specs.Past.{Past, AtEach, past_of, replay_past, moment_at, is_flush, is_flush_of, is_finish, is_note, takes, notices_in, begin_of, has_begun, has_finished, was_noted}
 use Rattle.am_board.specs.Presence.{goes_to, inserts, inserted_by, stamp_told, presence}
 use Rattle.am_board.specs.Reasons.{BeginsHaveReasons}
 use Rattle.am_board.specs.Replay.{replay, IsLegal}
@@ -166,15 +166,17 @@ abbrev pub IsLater : ℕ → ℕ → Option ℕ → Type 0
 IsLater interval t None = Unit {0}
 IsLater interval t (Some last) = last + interval ≤ t
 
--- a record begins only a flush that hasn't begun, finishes only one that has begun and isn't finished, and takes only a group that has no open flush and was begun an interval ago
+-- a record begins only a flush that hasn't begun, finishes only one that has begun and isn't finished, notes only for such a one an integration that it hasn't noted, and takes only a group that has no open flush and was begun at least an interval ago
 pub record IsOneFlushAtATime (config : Config) (r : Record) (past : Past) : Type 0 where
   pub first_begin : (number : ℕ) → is_flush number r.reply ≡ true → has_begun number past ≡ false
   pub begun_before : (number : ℕ) → is_finish number r.call ≡ true → has_begun number past ≡ true
   pub first_finish : (number : ℕ) → is_finish number r.call ≡ true → has_finished number past ≡ false
+  pub note_open : (number integration : ℕ) → is_note number integration r.call ≡ true → (has_begun number past ≡ true) × (has_finished number past ≡ false)
+  pub note_once : (number integration : ℕ) → is_note number integration r.call ≡ true → was_noted number integration past ≡ false
   pub none_open : (name : GroupName) → takes name r.reply ≡ true → has_open name past ≡ false
   pub interval_over : (name : GroupName) → takes name r.reply ≡ true → IsLater (route_of config name).group_interval (moment_at (r ∷ past)) (begun_at config name past)
 
--- each number has one begin and at most one finish; a group is taken only while none of its flushes is open, and an interval after its last begin
+-- each number has one begin and at most one finish, and between them at most one note of each integration; a group is taken only while none of its flushes is open, and at least an interval after its last begin
 abbrev pub FlushesEndOnce : Config → List Record → Type 0
 FlushesEndOnce config history = AtEach (IsOneFlushAtATime config) (past_of history)
 

@@ -135,7 +135,7 @@ module _ (config : Config) (id : ℕ) (s : State) (past : List Record) (pass : �
   telling now g is (i ∷ more) are new =
       let p = reply_asking config id s (moment s now) g (i ∷ more) in
       subst (λ t. IsToldRightly config t past p) (clock-step config s past k now (entry pass (Begin now) p) refl)
-      (record { deadline = refl; listed = notices-found (moment s now) g is (i ∷ more) are })
+      (record { asks = refl; deadline = refl; listed = notices-found (moment s now) g is (i ∷ more) are })
 
   asks_each : HoldsOfEach config id s Asks
   asks_each =

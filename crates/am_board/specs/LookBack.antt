@@ -223,8 +223,9 @@ pub record IsNoticeFound (config : Config) (number : ℕ) (name : GroupName) (un
   pub firing : n.firing ≡ firing_alerts_in config name t past
   pub resolved : n.resolved ≡ (if wants_resolved config name n.integration then resolved_alerts_in config name t past else [])
 
--- a group's flush at t has its deadline a group interval later, but ten seconds at least, and its notices list what looking back finds
+-- a group's flush at t asks somebody, has its deadline a group interval later, but ten seconds at least, and its notices list what looking back finds
 pub record IsFlushFound (config : Config) (number : ℕ) (name : GroupName) (until t : ℕ) (past : Past) (notices : List NoticeData) : Type 0 where
+  pub asks : is_empty notices ≡ false
   pub deadline : until ≡ t + max (route_of config name).group_interval LEAST_TIME
   pub listed : All (IsNoticeFound config number name until t past) notices
 

@@ -62,10 +62,11 @@ pub fn begins_ask_rightly()
     ensures { EveryLegalHistory BeginsAskRightly }
 {}
 
-/// What a begin tells is there: each notice of a flush lists the alerts that looking back finds in
-/// the group, not muted, those that fire without an end, and the resolved ones where its integration
-/// is sent them; the deadline is the begin's moment plus the group interval or ten seconds, whichever
-/// is more; and a quiet begin counts the alerts that looking back finds resolved, muted ones too.
+/// What a begin tells is there: a flush asks somebody, and each of its notices lists the alerts that
+/// looking back finds in the group, not muted, those that fire without an end, and the resolved ones
+/// where its integration is sent them; the deadline is the begin's moment plus the group interval or
+/// ten seconds, whichever is more; and a quiet begin counts the alerts that looking back finds
+/// resolved, muted ones too.
 pub fn begins_tell_what_is_there()
     ensures { EveryLegalHistory BeginsTellWhatIsThere }
 {}

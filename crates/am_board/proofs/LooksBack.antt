@@ -9,7 +9,7 @@ use Rattle.am_board.proofs.FoundAlerts.{alerts_are_found}
 use Rattle.am_board.proofs.FoundRows.{rows_are_found}
 use Rattle.am_board.proofs.ReasonsDecide.{begins_have_reasons}
 use Rattle.am_board.proofs.Refiring.{refiring_alerts_stay}
-use Rattle.am_board.proofs.RowsDelivered.{shown_rows_are_found, only_delivered_is_logged, rows_were_delivered}
+use Rattle.am_board.proofs.RowsDelivered.{shown_rows_are_found, only_delivered_is_logged, rows_come_by_delivery, rows_were_delivered}
 
 pub histories_look_back : EveryLegalHistory LooksBack
 histories_look_back config id history legal =
@@ -20,6 +20,7 @@ histories_look_back config id history legal =
       rows = rows_are_found config id history legal;
       shown_rows = shown_rows_are_found config id history legal;
       only_delivered = only_delivered_is_logged config id history legal;
+      new_rows = rows_come_by_delivery config id history legal;
       delivered = rows_were_delivered config id history legal;
       refiring = refiring_alerts_stay config id history legal;
       once = flushes_end_once config id history legal;

@@ -1,5 +1,5 @@
 -- What is logged was told delivered, or had nothing to send, and each row of the log stands for such a notice.
-use Rattle.std.proofs.Common.{◌≡◌, ℕ, Bool, true, false, cond, not, ◌&&◌, ◌||◌, Option, Some, None, List, [], ◌∷◌, refl, sym, ap, ◌∙◌, subst}
+use Rattle.std.proofs.Common.{◌≡◌, ℕ, Bool, true, false, cond, not, ◌&&◌, ◌||◌, Option, Some, None, ◌⊎◌, inl, inr, List, [], ◌∷◌, refl, sym, ap, ◌∙◌, subst}
 use Rattle.std.specs.Prelude.{All, IsTrue, find, ◌==◌}
 use Rattle.std.specs.List.{AllByRecursion, list_any}
 use Rattle.std.specs.Option.{option_or}
@@ -16,13 +16,14 @@ use Rattle.am_board.specs.declared.record.Reply.{Reply}
 use Rattle.am_board.specs.declared.record.Reply.TheVariants as reply_is
 use Rattle.am_board.specs.declared.views.RowView.{RowView}
 use Rattle.am_board.specs.Data.{NoticeData}
+use Rattle.am_board.specs.Begin.{is_entry_of}
 use Rattle.am_board.specs.Entry.{begins_group, asked_and_succeeded, logs, begin_named, row_of_flush, row_of_begin, unless_collected, entry_in}
 use Rattle.am_board.specs.Finish.{same_key, is_delivered}
 use Rattle.am_board.specs.History.{entry}
-use Rattle.am_board.specs.LookBack.{EveryLegalHistory, ShownRowsAreFound, is_delivered_to, is_delivered_in, reports_delivery, LogsDelivered, OnlyDeliveredIsLogged, was_delivered, RowsWereDelivered}
+use Rattle.am_board.specs.LookBack.{EveryLegalHistory, ShownRowsAreFound, is_delivered_to, is_delivered_in, reports_delivery, LogsDelivered, OnlyDeliveredIsLogged, NewRowsAreDelivered, RowsComeByDelivery, was_delivered, RowsWereDelivered}
 use Rattle.am_board.specs.Lists.{in_order}
 use Rattle.am_board.specs.Note.{is_ready, asked_by, may_be_noted, may_note}
-use Rattle.am_board.specs.Past.{AtEach, past_of, moment_at, is_flush_of, notices_in, begin_of, was_noted, succeeded}
+use Rattle.am_board.specs.Past.{AtEach, past_of, replay_past, moment_at, is_flush_of, notices_in, begin_of, was_noted, succeeded}
 use Rattle.am_board.specs.State.{AskedState, FlushState, State, flush_numbered}
 use Rattle.am_board.specs.Ticket.{outcome_of, is_nothing}
 use Rattle.am_board.specs.Upkeep.{has_expired}
@@ -34,7 +35,7 @@ use Rattle.am_board.proofs.FoundAlerts.{steady_past, finds_past}
 use Rattle.am_board.proofs.FoundRows.{tells_past}
 use Rattle.am_board.proofs.ListWords.{in_order-moves}
 use Rattle.am_board.proofs.Opened.{notices_at, asked_as, IsOpened, Finds}
-use Rattle.am_board.proofs.Pasts.{state_after, IsLegalPast, at_each, legal_past, replay_is_past}
+use Rattle.am_board.proofs.Pasts.{state_after, IsLegalPast, replay_of_past, at_each, legal_past, replay_is_past}
 use Rattle.am_board.proofs.RowSteps.{Tells}
 use Rattle.am_board.proofs.SetWords.{any-alike, any-map, each-found}
 
@@ -181,6 +182,26 @@ left_there t (Maintain now) row None e = e
 left_there t (Maintain now) row (Some x) e = elim (has_expired t x) as (λ b. cond b None (Some x) ≡ Some row → Some x ≡ Some row) [ true ↦ λ e. absurd (cc) | false ↦ λ e. e ] e
 left_there t (Note now number integration outcome) row o e = e
 
+-- the row that a record logs is of its moment
+logged_moment : (config : Config) (name : GroupName) (i : ℕ) (r : Record) (past : List Record) (row : RowView) (rest : Option RowView) → logs name i past r.call ≡ true
+    → option_or (row_of_begin config (moment_at (r ∷ past)) i (begin_named past r.call)) rest ≡ Some row → row.moment ≡ moment_at (r ∷ past)
+logged_moment config name i r past row rest logged e = by (row_of_begin config (moment_at (r ∷ past)) i (begin_named past r.call)) refl e
+  where
+    by : (o : Option RowView) → row_of_begin config (moment_at (r ∷ past)) i (begin_named past r.call) ≡ o → option_or o rest ≡ Some row → row.moment ≡ moment_at (r ∷ past)
+    by None none e = absurd (row_there config (moment_at (r ∷ past)) i name (begin_named past r.call) (logs_begin name i past r.call logged) none)
+    by (Some x) is e = row_moment config (moment_at (r ∷ past)) i row (begin_named past r.call) (is ∙ e)
+
+-- what is found after a record was found before, or the record logged it
+new_entry : (config : Config) (name : GroupName) (i : ℕ) (row : RowView) (r : Record) (past : List Record) → entry_in config name i (r ∷ past) ≡ Some row
+    → (entry_in config name i past ≡ Some row) ⊎ ((row.moment ≡ moment_at (r ∷ past)) × (logs name i past r.call ≡ true))
+new_entry config name i row r past e = by (logs name i past r.call) refl e
+  where
+    by : (b : Bool) → logs name i past r.call ≡ b
+        → option_or (cond b (row_of_begin config (moment_at (r ∷ past)) i (begin_named past r.call)) None) (unless_collected (moment_at (r ∷ past)) r.call (entry_in config name i past)) ≡ Some row
+        → (entry_in config name i past ≡ Some row) ⊎ ((row.moment ≡ moment_at (r ∷ past)) × (logs name i past r.call ≡ true))
+    by true logged e = inr (logged_moment config name i r past row (unless_collected (moment_at (r ∷ past)) r.call (entry_in config name i past)) logged e, logged)
+    by false logged e = inl (left_there (moment_at (r ∷ past)) r.call row (entry_in config name i past) e)
+
 -- the record that logged it told its success, at its moment
 found_delivered : (config : Config) (row : RowView) (past : List Record) → AtEach LogsDelivered past → entry_in config row.group row.integration past ≡ Some row → was_delivered row past ≡ true
 found_delivered config row [] each e = absurd (cc)
@@ -188,16 +209,32 @@ found_delivered config row (r ∷ past) each e = by (logs row.group row.integrat
   where
     by : (b : Bool) → logs row.group row.integration past r.call ≡ b → (entry_in config row.group row.integration past ≡ Some row → was_delivered row past ≡ true) → option_or (cond b (row_of_begin config (moment_at (r ∷ past)) row.integration (begin_named past r.call)) None) (unless_collected (moment_at (r ∷ past)) r.call (entry_in config row.group row.integration past)) ≡ Some row
         → cond b ((moment_at (r ∷ past) == row.moment) && reports_delivery row.group row.integration past r.call) (was_delivered row past) ≡ true
-    by true logged before e = now (row_of_begin config (moment_at (r ∷ past)) row.integration (begin_named past r.call)) refl e
-      where
-        now : (o : Option RowView) → row_of_begin config (moment_at (r ∷ past)) row.integration (begin_named past r.call) ≡ o → option_or o (unless_collected (moment_at (r ∷ past)) r.call (entry_in config row.group row.integration past)) ≡ Some row
-            → ((moment_at (r ∷ past) == row.moment) && reports_delivery row.group row.integration past r.call) ≡ true
-        now None none e = absurd (row_there config (moment_at (r ∷ past)) row.integration row.group (begin_named past r.call) (logs_begin row.group row.integration past r.call logged) none)
-        now (Some x) is e =
-            ap (λ m. (moment_at (r ∷ past) == m) && reports_delivery row.group row.integration past r.call) (row_moment config (moment_at (r ∷ past)) row.integration row (begin_named past r.call) (is ∙ e))
-            ∙ ap (λ b. b && reports_delivery row.group row.integration past r.call) (nat_eq_equiv.refl (moment_at (r ∷ past)))
-            ∙ each.0 row.group row.integration logged
+    by true logged before e =
+        ap (λ m. (moment_at (r ∷ past) == m) && reports_delivery row.group row.integration past r.call) (logged_moment config row.group row.integration r past row (unless_collected (moment_at (r ∷ past)) r.call (entry_in config row.group row.integration past)) logged e)
+        ∙ ap (λ b. b && reports_delivery row.group row.integration past r.call) (nat_eq_equiv.refl (moment_at (r ∷ past)))
+        ∙ each.0 row.group row.integration logged
     by false logged before e = before (left_there (moment_at (r ∷ past)) r.call row (entry_in config row.group row.integration past) e)
+
+-- the rows of a state are what is found
+entry_past : (config : Config) (id : ℕ) (past : List Record) → IsLegalPast config id past → (name : GroupName) (i : ℕ) → find (is_entry_of name i) (replay_past config past).rows ≡ entry_in config name i past
+entry_past config id past legal name i = ap (λ s. find (is_entry_of name i) s.rows) (replay_of_past config past) ∙ (tells_past config id past legal).rows name i
+
+new_row : (config : Config) (id : ℕ) (r : Record) (past : List Record) → IsLegalPast config id (r ∷ past) → LogsDelivered r past → NewRowsAreDelivered config r past
+new_row config id r past legal delivered name i row there =
+    by (new_entry config name i row r past (sym (entry_past config id (r ∷ past) legal name i) ∙ there))
+  where
+    by : (entry_in config name i past ≡ Some row) ⊎ ((row.moment ≡ moment_at (r ∷ past)) × (logs name i past r.call ≡ true))
+        → (find (is_entry_of name i) (replay_past config past).rows ≡ Some row) ⊎ ((row.moment ≡ moment_at (r ∷ past)) × (reports_delivery name i past r.call ≡ true))
+    by (inl before) = inl (entry_past config id past legal.1 name i ∙ before)
+    by (inr now) = inr (now.0, delivered name i now.1)
+
+new_rows : (config : Config) (id : ℕ) (past : List Record) → IsLegalPast config id past → AtEach LogsDelivered past → AtEach (NewRowsAreDelivered config) past
+new_rows config id [] legal each = tt
+new_rows config id (r ∷ past) legal each = (new_row config id r past legal each.0, new_rows config id past legal.1 each.1)
+
+pub rows_come_by_delivery : EveryLegalHistory RowsComeByDelivery
+rows_come_by_delivery config id history legal =
+    let back = legal_past config id history legal in new_rows config id (past_of history) back (logged_delivered config id (past_of history) back)
 
 rows_found : (config : Config) (id : ℕ) (past : List Record) → IsLegalPast config id past → AllByRecursion (λ row. entry_in config row.group row.integration past ≡ Some row) (state_after config past).rows
 rows_found config id past legal =

@@ -1,5 +1,5 @@
 -- Look-back: what was done and why, told from a history alone, with any number of flushes open.
-use Rattle.std.specs.Prelude.{◌≡◌, ℕ, ◌+◌, ◌≤◌, Bool, true, false, IsTrue, not, ◌&&◌, ◌||◌, ◌==◌, max, All, List, [], ◌∷◌, map, filter, find, count_by, Option, Some, None, if◌then◌else◌}
+use Rattle.std.specs.Prelude.{◌≡◌, ℕ, ◌+◌, ◌≤◌, Bool, true, false, IsTrue, not, ◌&&◌, ◌||◌, ◌==◌, ◌⊎◌, max, All, List, [], ◌∷◌, map, filter, find, count_by, Option, Some, None, if◌then◌else◌}
 use Rattle.std.specs.List.{list_any}
 use Rattle.std.specs.Option.{option_map}
 use Rattle.am_alerts.specs.AlertData.{AlertData, is_resolved}
@@ -108,6 +108,18 @@ was_delivered row (r ∷ past) =
 -- whatever a history logs was delivered, or had nothing to send
 abbrev pub OnlyDeliveredIsLogged : Config → List Record → Type 0
 OnlyDeliveredIsLogged config history = AtEach LogsDelivered (past_of history)
+
+-- a row that comes into the log by a record was delivered: any that stands there after it stood there before, or is of its moment, and it reports so of that flush's notice
+abbrev pub NewRowsAreDelivered : Config → Record → Past → Type 0
+NewRowsAreDelivered config r past =
+    (name : GroupName) (integration : ℕ) (row : RowView)
+    → find (is_entry_of name integration) (replay_past config (r ∷ past)).rows ≡ Some row
+    → (find (is_entry_of name integration) (replay_past config past).rows ≡ Some row)
+    ⊎ ((row.moment ≡ moment_at (r ∷ past)) × (reports_delivery name integration past r.call ≡ true))
+
+-- at each record, the rows that come into the log were delivered, or had nothing to send
+abbrev pub RowsComeByDelivery : Config → List Record → Type 0
+RowsComeByDelivery config history = AtEach (NewRowsAreDelivered config) (past_of history)
 
 -- each row of the log stands for a notice that was reported delivered, or had nothing to send, at its moment
 abbrev pub RowsWereDelivered : Config → List Record → Type 0
@@ -254,6 +266,7 @@ pub record LooksBack (config : Config) (history : List Record) : Type 0 where
   pub rows : RowsAreFound config history
   pub shown_rows : ShownRowsAreFound config history
   pub only_delivered : OnlyDeliveredIsLogged config history
+  pub new_rows : RowsComeByDelivery config history
   pub delivered : RowsWereDelivered config history
   pub refiring : RefiringAlertsStay config history
   pub once : FlushesEndOnce config history

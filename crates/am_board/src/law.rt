@@ -2,7 +2,7 @@
 ghost use Rattle.am_board.specs.Laws.{ReplayAppends, LegalAppends, ClockIsMoment, LegalKeeps};
 ghost use Rattle.am_board.specs.Interval.{BeginsKeepTheInterval};
 ghost use Rattle.am_board.specs.LookBack.{EveryLegalHistory, AlertsAreFound, ShownAlertsAreFound, RowsAreFound, ShownRowsAreFound};
-ghost use Rattle.am_board.specs.LookBack.{OnlyDeliveredIsLogged, RowsWereDelivered, RefiringAlertsStay, FlushesEndOnce};
+ghost use Rattle.am_board.specs.LookBack.{OnlyDeliveredIsLogged, RowsComeByDelivery, RowsWereDelivered, RefiringAlertsStay, FlushesEndOnce};
 ghost use Rattle.am_board.specs.LookBack.{BeginsAskRightly, BeginsTellWhatIsThere, LooksBack};
 ghost use Rattle.am_board.specs.Reasons.{BeginsHaveReasons, ReasonsAreSo, NotYetEnds};
 
@@ -38,10 +38,12 @@ pub fn looking_back_finds_rows()
 {}
 
 /// Each finish and each note of a legal history that logs an integration's success reports that this
-/// flush's notice was delivered, or it had nothing to send; and each row of the log stands for such
-/// a record, the last that logged under its key.
+/// flush's notice was delivered, or it had nothing to send; a row that stands in the log after a
+/// record stood there before it, or is of its moment, and the record reports so; and each row of the
+/// log stands for such a record, the last that logged under its key.
 pub fn logged_only_after_delivery()
     ensures each_record { EveryLegalHistory OnlyDeliveredIsLogged }
+    ensures new_rows { EveryLegalHistory RowsComeByDelivery }
     ensures rows { EveryLegalHistory RowsWereDelivered }
 {}
 

@@ -12,6 +12,8 @@ mod journal;
 mod law;
 mod limits;
 mod pool;
+#[cfg(test)]
+mod pool_tests;
 mod queue;
 #[cfg(test)]
 mod tests;

@@ -1,5 +1,6 @@
 -- Each step of the queue of job numbers keeps the rule.
-use Rattle.std.proofs.Common.{◌≡◌, ◌≢◌, ℕ, zero, suc, ◌+◌, ◌-◌, ◌<◌, ◌≤◌, List, [], ◌∷◌, ◌++◌, length, set, refl, sym, ap, ◌∙◌, subst, ⊎_elim, arith, length-append, ◌==◌, if◌then◌else◌}
+use Rattle.std.proofs.Common.{◌≡◌, ◌≢◌, ℕ, zero, suc, ◌+◌, ◌-◌, ◌<◌, ◌≤◌, List, [], ◌∷◌, ◌++◌, length, set, refl, sym, ap, ◌∙◌, subst}
+use Rattle.std.proofs.Common.{⊎_elim, arith, length-append, ◌==◌, if◌then◌else◌}
 use mathlib.Core.Option.{some, some-ne-none, some-injective}
 use lib.ListN.{get_elem?}
 use Rattle.crossbeam_queue.specs.Fifo.{Pushes, Pops, Forks, Merges, Learns}
@@ -7,13 +8,15 @@ use Rattle.crossbeam_queue.proofs.Lists.{at_set, at_snoc}
 use Rattle.am_pool.specs.declared.limits.TheConstants.{ALL_PARTS}
 use Rattle.am_pool.specs.declared.queue.Hand.{Hand}
 use Rattle.am_pool.specs.Dealt.{hand, weigh, total, numbers, Dealt, IsTake, Told, DealsEachOnce}
-use Rattle.am_pool.proofs.Weights.{weigh-append, weigh-one, numbers-length, numbers-snoc, weigh_next, total_set, total-snoc, total_at, total_two, total_alone, weigh-pieces, times-numbers}
+use Rattle.am_pool.proofs.Weights.{weigh-append, weigh-one, numbers-length, numbers-snoc, weigh_next, total_set, total-snoc, total_at}
+use Rattle.am_pool.proofs.Weights.{total_two, total_alone, weigh-pieces, times-numbers}
 
 -- what holds of each hand
 abbrev Each : (Hand → Type 0) → List Hand → Type 0
 Each F views = (pass : ℕ) (v : Hand) → get_elem? views pass ≡ some v → F v
 
-each_set : (F : Hand → Type 0) (views : List Hand) (port : ℕ) (w : Hand) → F w → ((j : ℕ) (u : Hand) → j ≢ port → get_elem? views j ≡ some u → F u) → Each F (set views port w)
+each_set : (F : Hand → Type 0) (views : List Hand) (port : ℕ) (w : Hand) → F w
+    → ((j : ℕ) (u : Hand) → j ≢ port → get_elem? views j ≡ some u → F u) → Each F (set views port w)
 each_set F views port w mine others j u e =
     ⊎_elim
     (λ (x : (j ≡ port) × (w ≡ u)). subst F x.1 mine)
@@ -39,7 +42,8 @@ begins =
     only F mine zero u e = subst F (some-injective _ u e) mine
     only F mine (suc j) u e = absurd (some-ne-none u (sym e))
 
-pub puts : (n port : ℕ) (v : Hand) (x : ℕ) → v.parts ≡ ALL_PARTS → v.put ≡ x → Pushes Dealt n port v x (λ w. w ≡ hand v.parts (v.put + 1) v.taken)
+pub puts : (n port : ℕ) (v : Hand) (x : ℕ) → v.parts ≡ ALL_PARTS → v.put ≡ x
+    → Pushes Dealt n port v x (λ w. w ≡ hand v.parts (v.put + 1) v.taken)
 puts n port v x all next items views room d at =
     let w = hand v.parts (v.put + 1) v.taken in
     let here : v.put ≡ d.gone + length items = d.put port v at (omega (arith, all)) in
@@ -58,7 +62,9 @@ puts n port v x all next items views room d at =
         put = each_set (λ u. 0 < u.parts → u.put ≡ d.gone + length (items ++ x ∷ [])) views port w
             (λ _. omega (arith, here, longer))
             (λ j u ne e h. absurd (omega (arith, total_two (λ y. y.parts) views j port u v ne e at, d.parts, all, h)));
-        idle = each_set (λ u. u.parts ≡ 0 → u.taken ≡ []) views port w (λ none. absurd (omega (arith, all, none))) (λ j u ne e. d.idle j u e);
+        idle = each_set (λ u. u.parts ≡ 0 → u.taken ≡ []) views port w
+            (λ none. absurd (omega (arith, all, none)))
+            (λ j u ne e. d.idle j u e);
       },
       refl,
     )
@@ -73,17 +79,23 @@ takes port v more x items views d at =
     let split : x ∷ items ≡ numbers d.gone (suc (length items)) = d.left in
     let first : x ≡ d.gone = cc (split) in
     let rest : items ≡ numbers (d.gone + 1) (length items) = cc (split) in
-    let few : length v.taken ≤ d.gone = omega (arith, sym (weigh-one v.taken), total_at (λ u. weigh (λ _. 1) u.taken) views port v at, d.taken (λ _. 1), weigh-one (numbers 0 d.gone), numbers-length 0 d.gone) in (
+    let own = total_at (λ u. weigh (λ _. 1) u.taken) views port v at in
+    let few : length v.taken ≤ d.gone =
+    omega (arith, sym (weigh-one v.taken), own, d.taken (λ _. 1), weigh-one (numbers 0 d.gone), numbers-length 0 d.gone) in (
       w,
       record {
         gone = d.gone + 1;
         left = rest;
         parts = omega (arith, total_set (λ u. u.parts) views port v w at, d.parts);
-        taken = λ h. omega (arith, total_set (λ u. weigh h u.taken) views port v w at, d.taken h, weigh-append h v.taken (x ∷ []), weigh_next h d.gone, ap h first);
+        taken = λ h.
+            let changed = total_set (λ u. weigh h u.taken) views port v w at in
+            omega (arith, changed, d.taken h, weigh-append h v.taken (x ∷ []), weigh_next h d.gone, ap h first);
         put = each_set (λ u. 0 < u.parts → u.put ≡ d.gone + 1 + length items) views port w
             (λ _. omega (arith, here))
             (λ j u ne e h. omega (arith, d.put j u e h));
-        idle = each_set (λ u. u.parts ≡ 0 → u.taken ≡ []) views port w (λ none. absurd (omega (arith, more, none))) (λ j u ne e. d.idle j u e);
+        idle = each_set (λ u. u.parts ≡ 0 → u.taken ≡ []) views port w
+            (λ none. absurd (omega (arith, more, none)))
+            (λ j u ne e. d.idle j u e);
       },
       (refl, omega (arith, here, first), omega (arith, here, few)),
     )
@@ -106,29 +118,44 @@ forks port v more items views d at =
       gone = d.gone;
       left = d.left;
       parts = omega (arith, total-snoc (λ u. u.parts) (set views port l) r, total_set (λ u. u.parts) views port v l at, d.parts, more);
-      taken = λ h. omega (arith, total-snoc (λ u. weigh h u.taken) (set views port l) r, total_set (λ u. weigh h u.taken) views port v l at, d.taken h);
+      taken = λ h.
+          let changed = total_set (λ u. weigh h u.taken) views port v l at in
+          omega (arith, total-snoc (λ u. weigh h u.taken) (set views port l) r, changed, d.taken h);
       put = each_snoc (λ u. 0 < u.parts → u.put ≡ d.gone + length items) (set views port l) r (λ _. here)
           (each_set (λ u. 0 < u.parts → u.put ≡ d.gone + length items) views port l (λ _. here) (λ j u ne e. d.put j u e));
       idle = each_snoc (λ u. u.parts ≡ 0 → u.taken ≡ []) (set views port l) r (λ _. refl)
           (each_set (λ u. u.parts ≡ 0 → u.taken ≡ []) views port l (λ none. absurd (omega (arith, more, none))) (λ j u ne e. d.idle j u e));
     }
 
-pub merges : (port : ℕ) (v : Hand) (other : ℕ) (u : Hand) → 0 < v.parts → 0 < u.parts → Merges Dealt port v other u (hand (v.parts + u.parts) v.put (v.taken ++ u.taken)) (hand 0 0 [])
+pub merges : (port : ℕ) (v : Hand) (other : ℕ) (u : Hand) → 0 < v.parts → 0 < u.parts
+    → Merges Dealt port v other u (hand (v.parts + u.parts) v.put (v.taken ++ u.taken)) (hand 0 0 [])
 merges port v other u mine theirs items views d at apart there =
     let b = hand (v.parts + u.parts) v.put (v.taken ++ u.taken) in
     let spent = hand 0 0 [] in
     let vs = set views port b in
     let here : v.put ≡ d.gone + length items = d.put port v at mine in
-    let was : get_elem? views other ≡ some u = ⊎_elim (λ (x : (other ≡ port) × (b ≡ u)). absurd (apart x.0)) (λ (x : (other ≢ port) × (get_elem? views other ≡ some u)). x.1) (at_set views port other b u there) in
+    let was : get_elem? views other ≡ some u =
+    ⊎_elim
+    (λ (x : (other ≡ port) × (b ≡ u)). absurd (apart x.0))
+    (λ (x : (other ≢ port) × (get_elem? views other ≡ some u)). x.1)
+    (at_set views port other b u there) in
     record {
       gone = d.gone;
       left = d.left;
       parts = omega (arith, total_set (λ y. y.parts) vs other u spent there, total_set (λ y. y.parts) views port v b at, d.parts);
-      taken = λ h. omega (arith, total_set (λ y. weigh h y.taken) vs other u spent there, total_set (λ y. weigh h y.taken) views port v b at, d.taken h, weigh-append h v.taken u.taken);
+      taken = λ h.
+          let emptied = total_set (λ y. weigh h y.taken) vs other u spent there in
+          let changed = total_set (λ y. weigh h y.taken) views port v b at in
+          omega (arith, emptied, changed, d.taken h, weigh-append h v.taken u.taken);
       put = each_set (λ y. 0 < y.parts → y.put ≡ d.gone + length items) vs other spent (λ h. absurd (omega (arith, h)))
-          (λ j y ne e. each_set (λ y. 0 < y.parts → y.put ≡ d.gone + length items) views port b (λ _. here) (λ i z _ e'. d.put i z e') j y e);
+          (λ j y ne e.
+          each_set (λ y. 0 < y.parts → y.put ≡ d.gone + length items) views port b (λ _. here) (λ i z _ e'. d.put i z e') j y e);
       idle = each_set (λ y. y.parts ≡ 0 → y.taken ≡ []) vs other spent (λ _. refl)
-          (λ j y ne e. each_set (λ y. y.parts ≡ 0 → y.taken ≡ []) views port b (λ none. absurd (omega (arith, mine, none))) (λ i z _ e'. d.idle i z e') j y e);
+          (λ j y ne e.
+          each_set (λ y. y.parts ≡ 0 → y.taken ≡ []) views port b
+          (λ none. absurd (omega (arith, mine, none)))
+          (λ i z _ e'. d.idle i z e')
+          j y e);
     }
 
 -- what all hands took and what is left is what was put, each number once

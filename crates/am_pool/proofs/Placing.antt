@@ -43,7 +43,9 @@ kept rs (run ∷ runs) k none =
     kept (set rs run.0 run.1) runs k n.1 ∙ get_set_other rs run.0 k run.1 n.0
 
 -- the report beside each number stands in its place, where no number stands twice
-pub placed_once : (rs : List Report) (runs : List Run) (all : List Report) → all ≡ placed rs runs → ((k : ℕ) → times k (numbers_of runs) ≤ 1) → AllByRecursion (λ (run : Run). run.0 < length rs) runs → AllByRecursion (λ (run : Run). slice_get all run.0 ≡ Some run.1) runs
+pub placed_once : (rs : List Report) (runs : List Run) (all : List Report) → all ≡ placed rs runs
+    → ((k : ℕ) → times k (numbers_of runs) ≤ 1) → AllByRecursion (λ (run : Run). run.0 < length rs) runs
+    → AllByRecursion (λ (run : Run). slice_get all run.0 ≡ Some run.1) runs
 placed_once rs [] all e once below = tt
 placed_once rs (run ∷ runs) all e once below =
     let rest = numbers_of runs in

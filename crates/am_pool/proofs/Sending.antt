@@ -1,5 +1,6 @@
 -- What was sent, from what each worker did.
-use Rattle.std.proofs.Common.{◌≡◌, ℕ, zero, suc, ◌+◌, ◌<◌, ◌≤◌, ◌==◌, if◌then◌else◌, cond, Option, Some, None, List, [], ◌∷◌, ◌++◌, map, length, refl, sym, ap, ◌∙◌, subst, arith}
+use Rattle.std.proofs.Common.{◌≡◌, ℕ, zero, suc, ◌+◌, ◌<◌, ◌≤◌, ◌==◌, if◌then◌else◌, cond, Option, Some, None, List, [], ◌∷◌, ◌++◌, map}
+use Rattle.std.proofs.Common.{length, refl, sym, ap, ◌∙◌, subst, arith}
 use Rattle.std.specs.Prelude.{slice_get}
 use Rattle.std.specs.List.{AllByRecursion}
 use Rattle.std.proofs.lemmas.List.{map-append}
@@ -17,7 +18,8 @@ use Rattle.am_pool.specs.declared.worker.Job.{Job}
 use Rattle.am_pool.specs.declared.worker.Worker.{Worker}
 use Rattle.am_pool.specs.Dealt.{hand, weigh, numbers, times, once_below}
 use Rattle.am_pool.specs.Work.{Run, RanAll, DidWork, IsFresh, numbers_of}
-use Rattle.am_pool.specs.Gathered.{AllWorked, FirstWorked, AreBelow, placed, runs_back, parts_of, weigh_taken, all_runs, IsBeside, AllRan, Shared}
+use Rattle.am_pool.specs.Gathered.{AllWorked, FirstWorked, AreBelow, placed, runs_back, parts_of, weigh_taken, all_runs, IsBeside, AllRan}
+use Rattle.am_pool.specs.Gathered.{Shared}
 use Rattle.am_pool.specs.Sent.{IsReportOf, AreReportsOf, AreRuns, EachRan, times_in, AreSent, all_refusals, count_starved}
 use Rattle.am_pool.proofs.Weights.{weigh-append, times-numbers}
 use Rattle.am_pool.proofs.Gatherings.{placed-append}
@@ -180,14 +182,16 @@ times_took k [] = refl
 times_took k (r ∷ rs) = omega (arith, times_took k rs, weigh-runs (λ y. if y == k then 1 else 0) r (all_runs rs))
 
 module _ {E : Type 0} (jobs : List Job) (tries : E → List Tried) (refusals : E → ℕ) where
-  ran_below : (runs : List (List Run)) (old new : List E) → AllRan jobs tries refusals runs old new → AllByRecursion (IsBelow jobs) (all_runs runs)
+  ran_below : (runs : List (List Run)) (old new : List E) → AllRan jobs tries refusals runs old new
+      → AllByRecursion (IsBelow jobs) (all_runs runs)
   ran_below [] old new all = tt
   ran_below (r ∷ rs) (c ∷ cs) (d ∷ ds) all =
       each-append (IsBelow jobs) r (all_runs rs) (runs_below jobs r _ _ _ _ all.0) (ran_below rs cs ds all.1)
   ran_below (r ∷ rs) [] ds all = absurd all
   ran_below (r ∷ rs) (c ∷ cs) [] all = absurd all
 
-  ran_of_jobs : (runs : List (List Run)) (old new : List E) → AllRan jobs tries refusals runs old new → AllByRecursion (IsOfJob jobs) (all_runs runs)
+  ran_of_jobs : (runs : List (List Run)) (old new : List E) → AllRan jobs tries refusals runs old new
+      → AllByRecursion (IsOfJob jobs) (all_runs runs)
   ran_of_jobs [] old new all = tt
   ran_of_jobs (r ∷ rs) (c ∷ cs) (d ∷ ds) all =
       each-append (IsOfJob jobs) r (all_runs rs) (runs_of_jobs jobs r _ _ _ _ all.0) (ran_of_jobs rs cs ds all.1)
@@ -226,7 +230,8 @@ module _ {E : Type 0} (jobs : List Job) (tries : E → List Tried) (refusals : E
   each_ran reports (r ∷ rs) [] ds all beside = absurd all
   each_ran reports (r ∷ rs) (c ∷ cs) [] all beside = absurd all
 
-  pub are_sent : (reports : List Report) (old new : List E) → Shared jobs tries refusals reports old new → AreSent jobs reports tries refusals old new
+  pub are_sent : (reports : List Report) (old new : List E) → Shared jobs tries refusals reports old new
+      → AreSent jobs reports tries refusals old new
   are_sent reports old new s =
       record {
         took = took_of s.runs;
@@ -398,7 +403,8 @@ module _ {E : Type 0} (jobs : List Job) (tries : E → List Tried) (refusals : E
       → Gathers news blanks reports old mid last gone → FirstWorked jobs tries refusals last gone mid new
       → Shared jobs tries refusals reports old new
   all_shared news blanks reports old (m ∷ ms) (d ∷ ds) last gone e w =
-      subst (λ (l : List E). Shared jobs tries refusals reports old (d ∷ l)) (sym w.1) (shared_by news blanks reports old m d ms last gone e w.0)
+      subst (λ (l : List E). Shared jobs tries refusals reports old (d ∷ l)) (sym w.1)
+      (shared_by news blanks reports old m d ms last gone e w.0)
   all_shared news blanks reports old [] new last gone e w = absurd w
   all_shared news blanks reports old (m ∷ ms) [] last gone e w = absurd w
 

@@ -1,5 +1,6 @@
 -- What a pool sends, and when it sends nothing.
-use Rattle.std.specs.Prelude.{◌≡◌, ◌+◌, ◌==◌, ℕ, ◌||◌, nat_lt, List, [], ◌∷◌, ◌++◌, ⊤, length, Option, None, Some, slice_get, sum_by, count_by, if◌then◌else◌}
+use Rattle.std.specs.Prelude.{◌≡◌, ◌+◌, ◌==◌, ℕ, ◌||◌, nat_lt, List, [], ◌∷◌, ◌++◌, ⊤, length, Option, None, Some, slice_get, sum_by}
+use Rattle.std.specs.Prelude.{count_by, if◌then◌else◌}
 use Rattle.am_board.specs.declared.notice.Report.{Report}
 use Rattle.am_retry.specs.Attempts.{Told, end_after}
 use Rattle.am_retry.specs.Outcome.{HasOutcome}
@@ -11,7 +12,8 @@ use Rattle.am_pool.specs.declared.fault.PoolFault.{PoolFault}
 use Rattle.am_pool.specs.declared.fault.PoolFault.TheVariants.{NoMemory, TooManyJobs, BadWorkers}
 use Rattle.am_pool.specs.declared.worker.Job.{Job}
 
--- a report of a job: it names the desk, the flush and the integration of the job's notice, and tells the outcome, the number and the end of answers to its attempts
+-- a report of a job: it names the desk, the flush and the integration of the job's notice, and tells the outcome,
+-- the number and the end of answers to its attempts
 pub record IsReportOf (job : Job) (report : Report) : Type 0 where
   pub names : IsReportOn job.notice.now report
   pub told : List Told

@@ -57,7 +57,8 @@ pub record DidWork (jobs : List Job) (old new : Worker) (tries : List Tried) (re
 abbrev pub HasRoom : Worker → Type 0
 HasRoom w = (vec_len w.done ≤ length (view w.pass).taken) × ((view w.pass).put ≤ vec_capacity w.done)
 
--- a worker may begin: its pass is of the queue with this table, has a part, and knows of so many jobs at most; there is room for their reports
+-- a worker may begin: its pass is of the queue with this table, has a part, and knows of so many jobs at most;
+-- there is room for their reports
 pub record MayWork (queue : TableId) (jobs : ℕ) (w : Worker) : Type 0 where
   pub pass : (w.pass.table_id ≡ queue) × (w.pass.me.1 ≡ [])
   pub parts : 0 < (view w.pass).parts

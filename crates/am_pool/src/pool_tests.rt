@@ -88,10 +88,7 @@ fn flags(alloc: Global, workers: usize, set: bool) -> Result<Vec<AtomicCell<u64>
 }
 
 /// A courier for each flag.
-fn couriers_for<'f>(
-    alloc: Global,
-    flags: &'f [AtomicCell<u64>],
-) -> Result<Vec<Meeting<'f>>, Fail> {
+fn couriers_for<'f>(alloc: Global, flags: &'f [AtomicCell<u64>]) -> Result<Vec<Meeting<'f>>, Fail> {
     let mut couriers = Vec::new(alloc);
     for own in 0..flags.len() {
         couriers.push(Meeting {

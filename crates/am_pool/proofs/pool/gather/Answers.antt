@@ -25,7 +25,10 @@ loop-worker-preserved c =
       (All-pop (λ (s : Worker). AreBelow (length c.args.reports.now.items) s.done.items) _ _ (Some s) e i.2).0,
       omega (arith, parts, i.3, ap parts_of e, parts-snoc rest s),
       ap (λ (v : Hand). v.put) both ∙ i.4,
-      λ h. omega (arith, ap (λ (v : Hand). weigh h v.taken) both, weigh-append h (view c.loop-worker.whole).taken (view s.pass).taken, i.5 h, ap (weigh_taken h) e, taken-snoc h rest s),
+      λ h.
+          let taken = ap (λ (v : Hand). weigh h v.taken) both in
+          let longer = weigh-append h (view c.loop-worker.whole).taken (view s.pass).taken in
+          omega (arith, taken, longer, i.5 h, ap (weigh_taken h) e, taken-snoc h rest s),
       c.place.ensures.count ∙ i.6,
       ap (λ (l : List Report). placed l (runs_back rest)) put
           ∙ sym (placed-append was s.done.items (runs_back rest))

@@ -13,7 +13,8 @@ invariant-loop-worker l =
     × All (λ (s : Worker). AreBelow (length i.reports.items) s.done.items) l.workers.items
     × ((view l.whole).parts + parts_of l.workers.items ≡ (view i.whole).parts + parts_of i.workers.items)
     × ((view l.whole).put ≡ (view i.whole).put)
-    × ((h : ℕ → ℕ) → weigh h (view l.whole).taken + weigh_taken h l.workers.items ≡ weigh h (view i.whole).taken + weigh_taken h i.workers.items)
+    × ((h : ℕ → ℕ)
+    → weigh h (view l.whole).taken + weigh_taken h l.workers.items ≡ weigh h (view i.whole).taken + weigh_taken h i.workers.items)
     × (length l.reports.items ≡ length i.reports.items)
     × (placed l.reports.items (runs_back l.workers.items) ≡ placed i.reports.items (runs_back i.workers.items))
 

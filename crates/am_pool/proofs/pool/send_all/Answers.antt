@@ -13,20 +13,23 @@ use Rattle.am_pool.proofs.pool.send_all.Goals as goal
 pub gather-requires-clause-passes : goal.gather-requires-clause-passes
 gather-requires-clause-passes g c =
     let news = c.work_staff.new.workers.items in
-    let all = together c.args.jobs.now g.C.Courier.tries g.C.Courier.refusals _ _ _ news _ _ c.work_staff.ensures.work (recursion_from_All _ _ c.in_ok-workers.ensures.fresh) in
+    let fresh = recursion_from_All _ _ c.in_ok-workers.ensures.fresh in
+    let all = together c.args.jobs.now g.C.Courier.tries g.C.Courier.refusals _ _ _ news _ _ c.work_staff.ensures.work fresh in
     λ k d in'. (c.work_staff.ensures.passes k d in', All-from_recursion (λ (s : Worker). 0 < (view s.pass).parts) news all.each k d in')
 
 pub gather-requires-clause-numbers : goal.gather-requires-clause-numbers
 gather-requires-clause-numbers g c =
     let news = c.work_staff.new.workers.items in
-    let all = together c.args.jobs.now g.C.Courier.tries g.C.Courier.refusals _ _ _ news _ _ c.work_staff.ensures.work (recursion_from_All _ _ c.in_ok-workers.ensures.fresh) in
+    let fresh = recursion_from_All _ _ c.in_ok-workers.ensures.fresh in
+    let all = together c.args.jobs.now g.C.Courier.tries g.C.Courier.refusals _ _ _ news _ _ c.work_staff.ensures.work fresh in
     subst (λ (n : ℕ). All (λ (s : Worker). AreBelow n s.done.items) news)
     (sym c.in_ok-reports.ensures)
     (All-from_recursion (λ (s : Worker). AreBelow (length c.args.jobs.now) s.done.items) news all.below)
 
 pub place-requires : goal.place-requires
 place-requires g c =
-    let below = first_below c.args.jobs.now g.C.Courier.tries g.C.Courier.refusals _ _ _ _ c.in_ok-done.ensures.empty c.work_first.ensures.work in
+    let empty = c.in_ok-done.ensures.empty in
+    let below = first_below c.args.jobs.now g.C.Courier.tries g.C.Courier.refusals _ _ _ _ empty c.work_first.ensures.work in
     record {
       numbers =
           subst (λ (n : ℕ). AreBelow n c.as_slice.result.now)
@@ -37,14 +40,19 @@ place-requires g c =
 pub returns-clause-shared : goal.returns-clause-shared
 returns-clause-shared g c =
     let news = c.work_staff.new.workers.items in
-    let all = together c.args.jobs.now g.C.Courier.tries g.C.Courier.refusals _ _ _ news _ _ c.work_staff.ensures.work (recursion_from_All _ _ c.in_ok-workers.ensures.fresh) in
+    let fresh = recursion_from_All _ _ c.in_ok-workers.ensures.fresh in
+    let all = together c.args.jobs.now g.C.Courier.tries g.C.Courier.refusals _ _ _ news _ _ c.work_staff.ensures.work fresh in
     let left = c.in_ok-workers.ensures.pass.1 in
     let last : Worker = record { pass = c.gather.new.whole; done = c.in_ok-done.done } in
-    all_shared c.args.jobs.now g.C.Courier.tries g.C.Courier.refusals news c.in_ok-reports.reports.items c.place.new.reports.items _ _ _ last _
+    let blanks = c.in_ok-reports.reports.items in
+    all_shared c.args.jobs.now g.C.Courier.tries g.C.Courier.refusals news blanks c.place.new.reports.items _ _ _ last _
     record {
       all = all;
       done = c.in_ok-done.ensures.empty;
-      parts = omega (arith, c.gather.ensures.parts, all.parts, c.work_staff.ensures.lengths.0, c.in_ok-workers.ensures.size, ap (λ (v : Hand). v.parts) left, c.requires.workers.1);
+      parts =
+          let one = ap (λ (v : Hand). v.parts) left in
+          let lengths = c.work_staff.ensures.lengths.0 in
+          omega (arith, c.gather.ensures.parts, all.parts, lengths, c.in_ok-workers.ensures.size, one, c.requires.workers.1);
       put = c.gather.ensures.put ∙ ap (λ (v : Hand). v.put) left;
       taken = λ h. omega (arith, c.gather.ensures.taken h, ap (λ (v : Hand). weigh h v.taken) left);
       blank = c.in_ok-reports.ensures;

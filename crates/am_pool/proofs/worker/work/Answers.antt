@@ -15,10 +15,12 @@ loop-preserved g c =
     let ran = c.run.ensures.run in
     let run : Run = (k, ran.0) in
     let taken = ap (λ (v : Hand). length v.taken) some.0 in
-    let puts = ap (λ (v : Hand). v.put) some.0 in (
+    let puts = ap (λ (v : Hand). v.put) some.0 in
+    let longer = length-append c.loop.worker.done.items (run ∷ []) in
+    let more = length-append (view c.loop.worker.pass).taken (k ∷ []) in (
       c.in-Some-take.ensures.pass,
       (
-        omega (arith, c.run.new.done.ok.0, c.loop.worker.done.ok.0, ap length ran.1, length-append c.loop.worker.done.items (run ∷ []), taken, length-append (view c.loop.worker.pass).taken (k ∷ []), i.1.0),
+        omega (arith, c.run.new.done.ok.0, c.loop.worker.done.ok.0, ap length ran.1, longer, taken, more, i.1.0),
         omega (arith, puts, i.1.1, c.run.ensures.capacity),
       ),
       (

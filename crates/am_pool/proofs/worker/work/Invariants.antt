@@ -7,7 +7,9 @@ use Rattle.am_pool.proofs.worker.work.Given as goal
 abbrev pub invariant-loop : goal.invariant-loop
 invariant-loop g l =
     let old = l.initial.worker in
+    let tries = g.C.Courier.tries in
+    let refusals = g.C.Courier.refusals in
     IsPassOf l.queue l.worker.pass × HasRoom l.worker
     × ((runs : List Run) × (l.worker.done.items ≡ old.done.items ++ runs)
     × (view l.worker.pass ≡ hand (view old.pass).parts (view old.pass).put ((view old.pass).taken ++ numbers_of runs))
-    × RanAll l.jobs runs (g.C.Courier.tries l.initial.courier) (g.C.Courier.refusals l.initial.courier) (g.C.Courier.tries l.courier) (g.C.Courier.refusals l.courier))
+    × RanAll l.jobs runs (tries l.initial.courier) (refusals l.initial.courier) (tries l.courier) (refusals l.courier))

@@ -1,5 +1,5 @@
 -- What was sent, from what each worker did.
-use Rattle.std.proofs.Common.{◌≡◌, ℕ, zero, suc, ◌+◌, ◌<◌, ◌≤◌, ◌==◌, if◌then◌else◌, cond, Option, Some, None, List, [], ◌∷◌, ◌++◌, map}
+use Rattle.std.proofs.Common.{◌≡◌, ℕ, suc, ◌+◌, ◌<◌, ◌≤◌, ◌==◌, if◌then◌else◌, cond, Option, Some, None, List, [], ◌∷◌, ◌++◌, map}
 use Rattle.std.proofs.Common.{length, refl, sym, ap, ◌∙◌, subst, arith}
 use Rattle.std.specs.Prelude.{slice_get}
 use Rattle.std.specs.List.{AllByRecursion}
@@ -9,7 +9,7 @@ use Rattle.std.proofs.lemmas.List.Elements.{All-from_recursion}
 use Rattle.std.proofs.lemmas.Option.{slice_get_within}
 use Rattle.atomic_table.specs.Seated.{TableId}
 use Rattle.am_board.specs.declared.notice.Report.{Report}
-use Rattle.am_pool.specs.Delivery.{IsReportOn, is_starved}
+use Rattle.am_pool.specs.Delivery.{is_starved}
 use Rattle.am_pool.specs.declared.courier.Tried.{Tried}
 use Rattle.crossbeam_queue.specs.Passes.{view}
 use Rattle.am_pool.specs.declared.limits.TheConstants.{ALL_PARTS}

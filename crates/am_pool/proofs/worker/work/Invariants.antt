@@ -1,4 +1,4 @@
-use Rattle.std.proofs.Common.{◌≡◌, ℕ, ◌++◌, List}
+use Rattle.std.proofs.Common.{◌≡◌, ◌++◌, List}
 use Rattle.crossbeam_queue.specs.Passes.{view, IsPassOf}
 use Rattle.am_pool.specs.Dealt.{hand}
 use Rattle.am_pool.specs.Work.{Run, RanAll, HasRoom, numbers_of}

@@ -1,2 +1,8 @@
 pub mod Appended
 pub mod JournalWalks
+pub mod Weights
+pub mod Dealings
+pub mod Working
+pub mod Gatherings
+pub mod Placing
+pub mod Sending

@@ -1,4 +1,5 @@
-//! The sending of notices: what a courier is, and how one notice is delivered by it.
+//! The sending of notices: what a courier is, how one notice is delivered by it, and how workers in
+//! threads share many.
 //!
 //! A courier makes the attempts; when there is another one, and how they end, is the retry machine's
 //! to say. All moments are in milliseconds.
@@ -6,10 +7,24 @@
 
 mod courier;
 mod delivery;
+mod fault;
 mod journal;
+mod law;
+mod limits;
+mod pool;
+#[cfg(test)]
+mod pool_tests;
+mod queue;
 #[cfg(test)]
 mod tests;
+mod worker;
 
 pub use courier::{Courier, Sent, Tried};
 pub use delivery::deliver;
+pub use fault::PoolFault;
 pub use journal::Journal;
+pub use law::queue_deals_each_number_once;
+pub use limits::{MAX_JOBS, MAX_WORKERS};
+pub use pool::run_jobs;
+pub use queue::Hand;
+pub use worker::Job;

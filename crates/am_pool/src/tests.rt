@@ -54,13 +54,13 @@ impl Courier for Planned {
     }
 }
 
-/// A notice of one alert, with the deadline 330,000.
-fn notice(alloc: Global) -> Result<Notice, Fail> {
+/// A notice of one alert for a flush, with the deadline 330,000.
+pub(crate) fn notice(alloc: Global, ticket: u64) -> Result<Notice, Fail> {
     let mut firing = Vec::new(alloc);
     firing.push(Alert::new(Labels::read(alloc, &[("alertname", "A")])?, 0, None)?)?;
     Ok(Notice {
         desk: 7,
-        ticket: 1,
+        ticket,
         deadline: 330_000,
         group: GroupName {
             route: 0,
@@ -81,7 +81,7 @@ fn check(
     wanted: (Outcome, u64, u64),
     sent: u64,
 ) -> Result<(), Fail> {
-    let notice = notice(alloc)?;
+    let notice = notice(alloc, 1)?;
     assert!(rt; !notice.nothing());
     let mut courier = Planned::new(plan.0, plan.1);
     let Report {

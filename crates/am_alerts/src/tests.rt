@@ -1,7 +1,7 @@
 //! Worked label sets, alerts, matchers, routes and texts.
 use crate::alert::Alert;
 use crate::labels::{LabelFault, Labels, is_label_name, label_sets_are_ordered};
-use crate::matcher::{Matcher, MatcherParts, Operator, all_match};
+use crate::matcher::{Matcher, MatcherFault, MatcherParts, Operator, all_match};
 use crate::route::{Child, GroupBy, Route, Routes};
 use crate::sequence::{Copied, Sequence};
 use crate::text::Text;
@@ -9,13 +9,13 @@ use std::alloc::{AllocError, Global};
 use std::process::Abort;
 use std::test::Fail;
 
-/// A text of `count` bytes `x`.
-fn long(alloc: Global, count: usize) -> Result<String, AllocError> {
-    let mut text = String::new(alloc);
+/// A text, so often.
+fn repeated(alloc: Global, text: &str, count: usize) -> Result<String, AllocError> {
+    let mut long = String::new(alloc);
     for _ in 0..count {
-        text.push('x')?;
+        long.push_str(text)?;
     }
-    Ok(text)
+    Ok(long)
 }
 
 /// The label set of a text such as `a=1,b=2`.
@@ -63,8 +63,8 @@ fn reads_label_sets(rt: HostRuntime) -> Result<(), Fail> {
 
 /// What is read of a name and a value of so many bytes, and a second name.
 fn long_pair(alloc: Global, name: usize, value: usize, second: &str) -> Result<&'static str, Fail> {
-    let name = long(alloc, name)?;
-    let value = long(alloc, value)?;
+    let name = repeated(alloc, "x", name)?;
+    let value = repeated(alloc, "x", value)?;
     let text = format!(in alloc; "{name}={value},{second}=")?;
     Ok(match read(alloc, text.as_str()) {
         Ok(_) => "read",
@@ -235,27 +235,31 @@ fn matches_patterns(rt: HostRuntime) -> Result<(), Fail> {
     Ok(())
 }
 
-fn matcher_fault(alloc: Global, name: &str, bytes: usize) -> Result<String, Fail> {
-    let value = long(alloc, bytes)?;
-    let made = Matcher::new(alloc, parts(alloc, name, Operator::Equal, value.as_str())?);
-    Ok(format!(in alloc; "{:?}", made.err())?)
+/// Why parts whose value is `a(`, so often, make no matcher.
+fn matcher_fault(
+    alloc: Global,
+    name: &str,
+    op: Operator,
+    count: usize,
+) -> Result<Option<MatcherFault>, Fail> {
+    let value = repeated(alloc, "a(", count)?;
+    let made = Matcher::new(alloc, parts(alloc, name, op, value.as_str())?);
+    Ok(made.err())
 }
 
 #[test]
 fn refuses_matchers(rt: HostRuntime) -> Result<(), Fail> {
-    for (name, bytes, wanted) in [
-        ("1a", 1_025, "Some(BadName)"),
-        ("a", 1_025, "Some(TooLong)"),
-        ("a", 1_024, "None"),
+    for (name, op, count, wanted) in [
+        ("1a", Operator::Equal, 513, Some(MatcherFault::BadName)),
+        ("a", Operator::Equal, 513, Some(MatcherFault::TooLong)),
+        ("a", Operator::Equal, 512, None),
+        ("1a", Operator::Like, 513, Some(MatcherFault::BadName)),
+        ("a", Operator::Like, 513, Some(MatcherFault::TooLong)),
+        ("a", Operator::Like, 512, Some(MatcherFault::BadPattern)),
+        ("a", Operator::NotLike, 1, Some(MatcherFault::BadPattern)),
     ] {
-        assert_eq!(rt; matcher_fault(rt.alloc(), name, bytes)?.as_str(), wanted);
+        assert_eq!(rt; matcher_fault(rt.alloc(), name, op, count)?, wanted);
     }
-    let alloc = rt.alloc();
-    let made = Matcher::new(alloc, parts(alloc, "a", Operator::NotLike, "a(")?);
-    assert_eq!(rt;
-        format!(in alloc; "{:?}", made.err())?.as_str(),
-        "Some(BadPattern)"
-    );
     Ok(())
 }
 

@@ -21,7 +21,7 @@ use Rattle.am_board.specs.Config.{kind_at}
 use Rattle.am_board.specs.Configured.{route_of, integrations_named}
 use Rattle.am_board.specs.Data.{NoticeData}
 use Rattle.am_board.specs.Replay.{replay, IsLegal}
-use Rattle.am_board.specs.Ticket.{outcome_of}
+use Rattle.am_board.specs.Ticket.{is_nothing, outcome_of}
 use Rattle.am_board.specs.Views.{row_views, group_views}
 
 -- the label set of an alert
@@ -54,19 +54,23 @@ integration_text config name position =
 abbrev pub target_text : Config → GroupName → ℕ → List ℕ
 target_text config name position = group_text config name ++ codes " " ++ integration_text config name position
 
--- what the sending of a notice came to; where nothing was reported there was nothing to send
-abbrev pub outcome_text : Option Outcome → List ℕ
-outcome_text None = codes "nothing"
-outcome_text (Some Delivered) = codes "delivered"
-outcome_text (Some Refused) = codes "refused"
-outcome_text (Some Expired) = codes "expired"
-outcome_text (Some Starved) = codes "starved"
+-- what was reported of the sending of a notice, if anything was
+abbrev pub reported_text : Option Outcome → List ℕ
+reported_text None = codes "unreported"
+reported_text (Some Delivered) = codes "delivered"
+reported_text (Some Refused) = codes "refused"
+reported_text (Some Expired) = codes "expired"
+reported_text (Some Starved) = codes "starved"
+
+-- what the sending of a notice came to: nothing exactly where there was nothing to send
+abbrev pub outcome_text : NoticeData → Option Outcome → List ℕ
+outcome_text n outcome = if is_nothing n then codes "nothing" else reported_text outcome
 
 -- the line on a notice that had this outcome after so many attempts
 abbrev pub notice_line : Config → NoticeData → Option Outcome → ℕ → List ℕ
 notice_line config n outcome attempts =
     codes "notice " ++ decimal n.ticket ++ codes " " ++ target_text config n.group n.integration
-    ++ codes " " ++ outcome_text outcome ++ codes " attempts=" ++ decimal attempts
+    ++ codes " " ++ outcome_text n outcome ++ codes " attempts=" ++ decimal attempts
     ++ lists_text labels_of n.firing n.resolved ++ codes "\n"
 
 -- the line on a row of the log

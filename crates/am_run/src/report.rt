@@ -7,7 +7,7 @@ ghost use Rattle.am_board.specs.Config.{kind_at};
 ghost use Rattle.am_board.specs.Configured.{route_of, integrations_named};
 ghost use Rattle.am_board.specs.Replay.{IsLegal};
 ghost use Rattle.am_board.specs.Ticket.{outcome_of};
-ghost use Rattle.am_run.specs.Report.{labels_of, as_it_is, list_text, lists_text, group_text, integration_text, target_text, outcome_text, notice_line, row_line, flushed_text, group_line, calls_line, finished_with, outcomes_in, outcome_in, attempts_on, notices_in, line_on, notice_lines, report_text};
+ghost use Rattle.am_run.specs.Report.{labels_of, as_it_is, list_text, lists_text, group_text, integration_text, target_text, reported_text, outcome_text, notice_line, row_line, flushed_text, group_line, calls_line, finished_with, outcomes_in, outcome_in, attempts_on, notices_in, line_on, notice_lines, report_text};
 
 use am_alerts::alert::Alert;
 use am_alerts::labels::Labels;
@@ -182,7 +182,7 @@ fn push_notice(
     out.push_str(" ")?;
     push_target(config, &notice.group, notice.integration, out)?;
     out.push_str(" ")?;
-    out.push_str(outcome_text(outcome))?;
+    out.push_str(outcome_text(notice, outcome))?;
     out.push_str(" attempts=")?;
     push_number(attempts, out)?;
     push_lists(notice.firing.as_slice(), notice.resolved.as_slice(), out)?;
@@ -370,11 +370,21 @@ fn flushed_text(flushed: bool) -> &'static str
     if flushed { "yes" } else { "no" }
 }
 
-fn outcome_text(outcome: Option<Outcome>) -> &'static str
-    ensures { result.now ≡ outcome_text outcome }
+/// `nothing` where there was nothing to send, and only there.
+fn outcome_text(notice: &Notice, outcome: Option<Outcome>) -> &'static str
+    ensures { result.now ≡ outcome_text notice.now outcome }
+{
+    if notice.nothing() {
+        return "nothing";
+    }
+    reported_text(outcome)
+}
+
+fn reported_text(outcome: Option<Outcome>) -> &'static str
+    ensures { result.now ≡ reported_text outcome }
 {
     match outcome {
-        None => "nothing",
+        None => "unreported",
         Some(Outcome::Delivered) => "delivered",
         Some(Outcome::Refused) => "refused",
         Some(Outcome::Expired) => "expired",

@@ -150,7 +150,10 @@ fn silence_and_maintenance(rt: HostRuntime) -> Result<(), Fail> {
     check_report(&rt, scenario.as_str(), SILENCE_AND_MAINTENANCE_REPORT)?;
     let equal = r#"["alertname","=","A"]"#;
     let like = with(&rt, scenario.as_str(), equal, r#"["alertname","=~","A|B"]"#)?;
-    check_report(&rt, like.as_str(), SILENCE_AND_MAINTENANCE_REPORT)
+    check_report(&rt, like.as_str(), SILENCE_AND_MAINTENANCE_REPORT)?;
+    let bad = with(&rt, scenario.as_str(), equal, r#"["alertname","=~","a("]"#)?;
+    let refused = "am-run: scenario refused at /phases/0/lanes/0/1/silence/matchers/0: value";
+    check_report(&rt, bad.as_str(), refused)
 }
 
 #[test]

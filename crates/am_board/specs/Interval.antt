@@ -18,13 +18,13 @@ begun_since config name u [] = false
 begun_since config name u (r ∷ past) =
     (takes name r.reply && (moment_at (r ∷ past) == u)) || (not (found_empty config name r past) && begun_since config name u past)
 
--- a record that takes a group at t does so an interval after each begin of it since which no maintenance found it without alerts
+-- a record that takes a group at t does so at least an interval after each begin of it since which no maintenance found it without alerts
 abbrev pub KeepsInterval : Config → Record → Past → Type 0
 KeepsInterval config r past =
     (name : GroupName) → takes name r.reply ≡ true
     → (u : ℕ) → begun_since config name u past ≡ true
     → u + (route_of config name).group_interval ≤ moment_at (r ∷ past)
 
--- of any two begins of a group, with no maintenance between them that found it without alerts, the later is an interval later
+-- of any two begins of a group, with no maintenance between them that found it without alerts, the later is at least an interval later
 abbrev pub BeginsKeepTheInterval : Config → List Record → Type 0
 BeginsKeepTheInterval config history = AtEach (KeepsInterval config) (past_of history)

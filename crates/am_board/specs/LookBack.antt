@@ -173,12 +173,12 @@ begun_at config name (r ∷ past) =
     else if found_empty config name r past then None
     else begun_at config name past
 
--- t is an interval after the last begin, if there was one
+-- t is at least an interval after the last begin, if there was one
 abbrev pub IsLater : ℕ → ℕ → Option ℕ → Type 0
 IsLater interval t None = Unit {0}
 IsLater interval t (Some last) = last + interval ≤ t
 
--- a record begins only a flush that hasn't begun, finishes only one that has begun and isn't finished, notes only for such a one an integration that it hasn't noted, and takes only a group that has no open flush and was begun at least an interval ago
+-- a record begins only a flush that hasn't begun, finishes only one that has begun and isn't finished, notes only for such a one an integration that it hasn't noted, and takes only a group that has no open flush and was begun at least an interval ago, unless a maintenance since then found it without alerts
 pub record IsOneFlushAtATime (config : Config) (r : Record) (past : Past) : Type 0 where
   pub first_begin : (number : ℕ) → is_flush number r.reply ≡ true → has_begun number past ≡ false
   pub begun_before : (number : ℕ) → is_finish number r.call ≡ true → has_begun number past ≡ true
@@ -188,7 +188,7 @@ pub record IsOneFlushAtATime (config : Config) (r : Record) (past : Past) : Type
   pub none_open : (name : GroupName) → takes name r.reply ≡ true → has_open name past ≡ false
   pub interval_over : (name : GroupName) → takes name r.reply ≡ true → IsLater (route_of config name).group_interval (moment_at (r ∷ past)) (begun_at config name past)
 
--- each number has one begin and at most one finish, and between them at most one note of each integration; a group is taken only while none of its flushes is open, and at least an interval after its last begin
+-- each number has one begin and at most one finish, and between them at most one note of each integration; a group is taken only while none of its flushes is open, and at least an interval after its last begin, unless a maintenance since then found it without alerts
 abbrev pub FlushesEndOnce : Config → List Record → Type 0
 FlushesEndOnce config history = AtEach (IsOneFlushAtATime config) (past_of history)
 
@@ -258,7 +258,7 @@ BeginsTellWhatIsThere config history = AtEach (λ r past. IsToldRightly config (
 
 -- ---- all of it, of one history
 
--- what looking back says of a history: its alerts and its rows are found, and no two are alike; only what was delivered is logged; and at each record a refiring alert stays, flushes end once, and a begin is an interval after any other of its group, asks those that it has a reason to ask, and tells what is there
+-- what looking back says of a history: its alerts and its rows are found, and no two are alike; only what was delivered is logged; and at each record a refiring alert stays, flushes end once, and a begin is at least an interval after any other of its group, unless a maintenance between them found it without alerts, asks those that it has a reason to ask, and tells what is there
 pub record LooksBack (config : Config) (history : List Record) : Type 0 where
   pub consistent : IsConsistent (replay config history)
   pub alerts : AlertsAreFound config history

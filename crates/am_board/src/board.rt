@@ -198,7 +198,9 @@ impl Board {
         sweep(&self.config, &mut self.state, pass, now)
     }
 
-    /// The calls that were accepted, in their order.
+    /// The calls that were accepted, in their order. The history is legal, and looking back from its
+    /// end finds the alerts and the rows that `groups` and `rows` show, and why each begin asked whom it
+    /// asked (`law::legal_histories_look_back`).
     pub fn history(&self) -> &[Record]
         ensures history { result.now ≡ self.now.history }
         ensures legal { IsLegal self.now.config self.now.id self.now.history }

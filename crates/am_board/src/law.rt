@@ -59,7 +59,8 @@ pub fn flushes_end_once()
     ensures { EveryLegalHistory FlushesEndOnce }
 {}
 
-/// A begin asks exactly the integrations that the history before it says.
+/// A begin that takes a group asks exactly the integrations that need an update, by the entries,
+/// alerts and mutes that looking back finds.
 pub fn begins_ask_rightly()
     ensures { EveryLegalHistory BeginsAskRightly }
 {}

@@ -9,7 +9,7 @@ use Rattle.am_board.specs.declared.record.Record.{Record}
 use Rattle.am_board.specs.Configured.{route_of}
 use Rattle.am_board.specs.Entry.{begins_group, entry_in}
 use Rattle.am_board.specs.Interval.{found_empty, begun_since, KeepsInterval}
-use Rattle.am_board.specs.LookBack.{member_with, has_open, begun_at}
+use Rattle.am_board.specs.LookBack.{member_with, insert_during, has_open, begun_at}
 use Rattle.am_board.specs.Past.{past_of, moment_at, is_flush, is_quiet, is_flush_of, takes, notices_in, is_finish, is_note, is_maintenance, begin_of, has_begun, has_finished}
 use Rattle.am_board.specs.Presence.{inserts, presence}
 use Rattle.am_board.specs.Replay.{IsLegal, replay}
@@ -109,6 +109,23 @@ third_entry = refl
 
 first_stays : presence base group_a (named (codes "A")) (past_of all_ended) ≡ Some (record { alert = a_ended; stamp = 4 })
 first_stays = refl
+
+-- its insert came after its flush's begin; that of the third came before
+inserted_during : insert_during 1 (named (codes "A")) (past_of all_ended) ≡ Some (record { alert = a_ended; stamp = 4 })
+inserted_during = refl
+
+not_inserted_during : insert_during 3 (named (codes "C")) (past_of all_ended) ≡ None
+not_inserted_during = refl
+
+-- of two inserts during one flush the later is found
+abbrev inserted_twice : List Record
+inserted_twice = three_open ++ insert 31_000 (fires (named (codes "A")) 31_000) 4 1 0 ∷ insert 31_500 a_ended 5 1 0 ∷ []
+
+inserted_twice_legal : IsLegal base 7 inserted_twice
+inserted_twice_legal = (refl, (refl, (refl, (refl, (refl, (refl, (refl, (refl, tt))))))))
+
+later_insert : insert_during 1 (named (codes "A")) (past_of inserted_twice) ≡ Some (record { alert = a_ended; stamp = 5 })
+later_insert = refl
 
 first_member :
     member_with (named (codes "A")) (members_in (replay base all_ended).groups group_a) ≡ Some (record { alert = a_ended; stamp = 4 })

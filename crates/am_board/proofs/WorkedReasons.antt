@@ -1,14 +1,15 @@
 -- Worked histories of reasons: why a begin asks an integration, or why not, and that it does so.
-use Rattle.std.proofs.Common.{◌≡◌, ℕ, Bool, true, false, Option, Some, None, List, [], ◌∷◌, ◌++◌, refl, sym, ap, arith}
+use Rattle.std.proofs.Common.{◌≡◌, ℕ, Bool, true, false, Option, Some, None, is_some, List, [], ◌∷◌, ◌++◌, refl, sym, ap, ◌∙◌, arith}
 use Rattle.std.specs.Prelude.{codes}
 use Rattle.std.proofs.lemmas.Bool.{false≢true}
 use Rattle.am_alerts.specs.AlertData.{AlertData}
+use Rattle.am_alerts.specs.Labels.{same_label_set}
 use Rattle.am_alerts.specs.declared.labels.Label.{Label}
 use Rattle.am_alerts.specs.declared.matcher.MatcherParts.{MatcherParts}
 use Rattle.am_alerts.specs.declared.matcher.Operator.TheVariants.{Equal}
 use Rattle.am_mute.specs.Inhibit.{RuleData, rule_of}
 use Rattle.am_mute.specs.Silence.{silence_of}
-use Rattle.am_nflog.specs.Members.{is_empty}
+use Rattle.am_nflog.specs.Members.{is_empty, is_member, is_subset}
 use Rattle.am_retry.specs.declared.outcome.Outcome.TheVariants.{Delivered}
 use Rattle.am_board.specs.declared.config.Config.{Config}
 use Rattle.am_board.specs.declared.config.Integration.{Integration}
@@ -22,7 +23,7 @@ use Rattle.am_board.specs.Configured.{integrations_of}
 use Rattle.am_board.specs.Entry.{known_in, silences_in, unmuted_in, firing_in, resolved_in, entry_in}
 use Rattle.am_board.specs.History.{entry}
 use Rattle.am_board.specs.Past.{past_of}
-use Rattle.am_board.specs.Reasons.{asks, Says, reason_in, is_asked_in, AsksForReasons}
+use Rattle.am_board.specs.Reasons.{asks, IsSo, reason_in, is_asked_in, AsksForReasons}
 use Rattle.am_board.specs.Replay.{IsLegal}
 use Rattle.am_board.proofs.RowBase.{base, firing_only, integration, label, named, instance, group, fires, ended, group_a, a, first_notice, insert, quiet, flush_hook, finish, row}
 
@@ -73,14 +74,6 @@ waits_at_equality = refl
 
 repeats : reason_in base group_a 14_430_001 (past_of first_notice) hook ≡ Repeat
 repeats = refl
-
--- at equality it isn't so that the entry is older
-abbrev told_at : Option RowView → ℕ
-told_at None = 0
-told_at (Some r) = r.moment
-
-not_older : Says Repeat (entry_in base group_a 0 (past_of first_notice)) (named (codes "A") ∷ []) [] true 14_400_000 14_430_000 → ⊥
-not_older says = let at : 30_000 ≡ says.0.moment = ap told_at says.1 in let over = says.3 in omega (arith, at, over)
 
 repeat_asks : asks Repeat ≡ true
 repeat_asks = refl
@@ -304,3 +297,105 @@ no_silences = refl
 
 last_silence : silences_in (past_of silence_replaced) ≡ silence_of 1 (is (codes "alertname") (codes "A") ∷ []) 0 300_000 ∷ []
 last_silence = refl
+
+-- ---- what each reason says, where it is so and where it isn't
+
+abbrev first_row : RowView
+first_row = row group_a 0 30_000 28_830_000 (named (codes "A") ∷ []) []
+
+abbrev rows_firing : Option RowView → List (List Label)
+rows_firing None = []
+rows_firing (Some r) = r.firing
+
+abbrev rows_moment : Option RowView → ℕ
+rows_moment None = 0
+rows_moment (Some r) = r.moment
+
+first_is_so : IsSo FirstNotice base group_a 30_000 (past_of (insert 0 a 1 1 1 ∷ [])) hook
+first_is_so = (refl, λ nil. false≢true (ap is_empty nil))
+
+not_first : IsSo FirstNotice base group_a 330_000 (past_of first_notice) hook → ⊥
+not_first so = false≢true (sym (ap is_some so.0))
+
+none_first : IsSo FirstNotice base group_a 30_000 (past_of (insert 0 (ended (named (codes "A")) 0 10_000) 1 1 1 ∷ [])) hook → ⊥
+none_first so = so.1 refl
+
+new_is_so : IsSo NewAlert base group_a 330_000 (past_of with_second) hook
+new_is_so = (first_row, refl, (instance (codes "A") (codes "2"), refl, refl))
+
+not_new : IsSo NewAlert base group_a 330_000 (past_of first_notice) hook → ⊥
+not_new (r, e, more) =
+    let same : named (codes "A") ∷ [] ≡ r.firing = ap rows_firing e in
+    false≢true (sym more.2 ∙ sym (ap (is_member same_label_set more.0) same) ∙ more.1)
+
+all_is_so : IsSo AllResolved base group_a 330_000 (past_of with_end) hook
+all_is_so = (first_row, refl, refl, λ nil. false≢true (ap is_empty nil), λ nil. false≢true (ap is_empty nil))
+
+-- one still fires; the one that was resolved is silenced; the entry has nothing as firing
+not_all : IsSo AllResolved base group_a 330_000 (past_of one_of_two) hook → ⊥
+not_all (r, e, nil, left, fired) = false≢true (ap is_empty nil)
+
+none_left_to_tell : IsSo AllResolved base group_a 330_000 (past_of silenced) hook → ⊥
+none_left_to_tell (r, e, nil, left, fired) = left refl
+
+told_before : IsSo AllResolved base group_a 630_000 (past_of resolved_only) hook → ⊥
+told_before (r, e, nil, left, fired) = fired (sym (ap rows_firing e))
+
+abbrev row_of_two : RowView
+row_of_two = row group_a 0 30_000 28_830_000 (named (codes "A") ∷ instance (codes "A") (codes "2") ∷ []) []
+
+newly_is_so : IsSo NewlyResolved base group_a 330_000 (past_of one_of_two) hook
+newly_is_so = (row_of_two, refl, λ nil. false≢true (ap is_empty nil), refl, refl, (instance (codes "A") (codes "2"), refl, refl))
+
+-- resolved alerts aren't sent; nothing fires
+not_sent : IsSo NewlyResolved firing_only group_a 330_000 (past_of one_of_two) hook_firing_only → ⊥
+not_sent (r, e, some, all, sent, more) = false≢true sent
+
+not_newly : IsSo NewlyResolved base group_a 630_000 (past_of resolved_only) hook → ⊥
+not_newly (r, e, some, all, sent, more) = some refl
+
+repeat_is_so : IsSo Repeat base group_a 14_430_001 (past_of first_notice) hook
+repeat_is_so = (first_row, refl, λ nil. false≢true (ap is_empty nil), refl, λ sent. refl, omega arith)
+
+-- at equality the entry isn't older; where nothing fires there is no repeat
+not_older : IsSo Repeat base group_a 14_430_000 (past_of first_notice) hook → ⊥
+not_older (r, e, some, all, told, over) = let at : 30_000 ≡ r.moment = ap rows_moment e in omega (arith, at, over)
+
+never_repeated : IsSo Repeat base group_a 20_000_000 (past_of resolved_only) hook → ⊥
+never_repeated (r, e, some, all, told, over) = some refl
+
+-- a new alert comes before the repeat
+new_not_repeated : IsSo Repeat base group_a 14_430_001 (past_of with_second) hook → ⊥
+new_not_repeated (r, e, some, all, told, over) =
+    let both_labels = named (codes "A") ∷ instance (codes "A") (codes "2") ∷ [] in
+    false≢true (ap (λ rows. is_subset same_label_set both_labels rows) (ap rows_firing e) ∙ all)
+
+left_is_so : IsSo NothingLeft base group_a 330_000 (past_of silenced) hook
+left_is_so = (refl, refl)
+
+one_is_left : IsSo NothingLeft base group_a 630_000 (past_of resolved_only) hook → ⊥
+one_is_left so = false≢true (ap is_empty so.1)
+
+none_fires : IsSo NothingFiring base group_a 630_000 (past_of resolved_only) hook
+none_fires = (refl, λ nil. false≢true (ap is_empty nil), λ r e. sym (ap rows_firing e))
+
+none_fired_ever : IsSo NothingFiring base group_a 30_000 (past_of (insert 0 (ended (named (codes "A")) 0 10_000) 1 1 1 ∷ [])) hook
+none_fired_ever = (refl, λ nil. false≢true (ap is_empty nil), λ r e. sym (ap rows_firing e))
+
+-- the entry has one as firing; nothing is left
+one_was_firing : IsSo NothingFiring base group_a 330_000 (past_of with_end) hook → ⊥
+one_was_firing (nil, left, none) = false≢true (ap is_empty (none first_row refl))
+
+not_even_resolved : IsSo NothingFiring base group_a 330_000 (past_of silenced) hook → ⊥
+not_even_resolved (nil, left, none) = left refl
+
+not_yet_is_so : IsSo (NotYet 14_430_001) base group_a 330_000 (past_of first_notice) hook
+not_yet_is_so = (first_row, refl, λ nil. false≢true (ap is_empty nil), refl, λ sent. refl, refl, omega arith)
+
+-- from no other moment, and not at that moment any more
+from_no_other : IsSo (NotYet 14_430_000) base group_a 330_000 (past_of first_notice) hook → ⊥
+from_no_other (r, e, some, all, told, from, before) =
+    let at : 30_000 ≡ r.moment = ap rows_moment e in omega (arith, at, from)
+
+no_more : IsSo (NotYet 14_430_001) base group_a 14_430_001 (past_of first_notice) hook → ⊥
+no_more (r, e, some, all, told, from, before) = omega (arith, before)

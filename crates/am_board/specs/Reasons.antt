@@ -1,5 +1,5 @@
 -- Reasons: why a begin asks an integration of its group's receiver, or why not, told from the history before it. No state is used.
-use Rattle.std.specs.Prelude.{◌≡◌, ◌≢◌, ℕ, ◌+◌, ◌<◌, ◌≤◌, Bool, true, false, not, ◌&&◌, ◌==◌, nat_lt, All, List, [], ◌∷◌, map, filter, Option, Some, None, if◌then◌else◌}
+use Rattle.std.specs.Prelude.{◌≡◌, ◌≢◌, ◌↔◌, ℕ, ◌+◌, ◌<◌, ◌≤◌, Bool, true, false, not, ◌&&◌, ◌==◌, nat_lt, All, List, [], ◌∷◌, map, filter, Option, Some, None, if◌then◌else◌}
 use Rattle.std.specs.List.{list_any}
 use Rattle.am_alerts.specs.Labels.{same_label_set}
 use Rattle.am_alerts.specs.declared.labels.Label.{Label}
@@ -51,26 +51,37 @@ reason_in config name t past i = reason_about config name t past (firing_in conf
 abbrev pub HasMore : List (List Label) → List (List Label) → Type 0
 HasMore xs ys = (labels : List Label) × (is_member same_label_set labels xs ≡ true) × (is_member same_label_set labels ys ≡ false)
 
--- a row has as firing all that fires, and as resolved, where resolved alerts are sent, all that is resolved
-abbrev pub HasAll : RowView → List (List Label) → List (List Label) → Bool → Type 0
-HasAll row firing resolved send_resolved =
-    (is_subset same_label_set firing row.firing ≡ true) × (send_resolved ≡ true → is_subset same_label_set resolved row.resolved ≡ true)
+-- a row has as firing all that fires
+abbrev pub HasAllFiring : RowView → List (List Label) → Type 0
+HasAllFiring row firing = is_subset same_label_set firing row.firing ≡ true
 
--- what a reason says of the entry, of the label sets that fire and those that are resolved, and of the moment
+-- and as resolved, where resolved alerts are sent, all that is resolved
+abbrev pub HasAllResolved : RowView → List (List Label) → Bool → Type 0
+HasAllResolved row resolved send_resolved = send_resolved ≡ true → is_subset same_label_set resolved row.resolved ≡ true
+
+-- what a reason says of the entry, of the label sets that fire and those that are resolved, and of the moment: one alone is so
 abbrev pub Says : Reason → Option RowView → List (List Label) → List (List Label) → Bool → ℕ → ℕ → Type 0
 Says FirstNotice entry firing resolved send_resolved repeat t = (entry ≡ None) × (firing ≢ [])
 Says NewAlert entry firing resolved send_resolved repeat t = (row : RowView) × (entry ≡ Some row) × HasMore firing row.firing
 Says AllResolved entry firing resolved send_resolved repeat t =
-    (row : RowView) × (entry ≡ Some row) × (firing ≡ []) × (row.firing ≢ [])
+    (row : RowView) × (entry ≡ Some row) × (firing ≡ []) × (resolved ≢ []) × (row.firing ≢ [])
 Says NewlyResolved entry firing resolved send_resolved repeat t =
-    (row : RowView) × (entry ≡ Some row) × (send_resolved ≡ true) × HasMore resolved row.resolved
+    (row : RowView) × (entry ≡ Some row) × (firing ≢ []) × HasAllFiring row firing × (send_resolved ≡ true) × HasMore resolved row.resolved
 Says Repeat entry firing resolved send_resolved repeat t =
-    (row : RowView) × (entry ≡ Some row) × HasAll row firing resolved send_resolved × (row.moment + repeat < t)
+    (row : RowView) × (entry ≡ Some row) × (firing ≢ []) × HasAllFiring row firing × HasAllResolved row resolved send_resolved
+    × (row.moment + repeat < t)
 Says NothingLeft entry firing resolved send_resolved repeat t = (firing ≡ []) × (resolved ≡ [])
 Says NothingFiring entry firing resolved send_resolved repeat t =
-    (firing ≡ []) × ((row : RowView) → entry ≡ Some row → row.firing ≡ [])
+    (firing ≡ []) × (resolved ≢ []) × ((row : RowView) → entry ≡ Some row → row.firing ≡ [])
 Says (NotYet from) entry firing resolved send_resolved repeat t =
-    (row : RowView) × (entry ≡ Some row) × HasAll row firing resolved send_resolved × (from ≡ row.moment + repeat + 1) × (t < from)
+    (row : RowView) × (entry ≡ Some row) × (firing ≢ []) × HasAllFiring row firing × HasAllResolved row resolved send_resolved
+    × (from ≡ row.moment + repeat + 1) × (t < from)
+
+-- what a reason says is so of an integration of a group at t, by what looking back finds
+abbrev pub IsSo : Reason → Config → GroupName → ℕ → Past → ℕ × Integration → Type 0
+IsSo reason config name t past i =
+    Says reason (entry_in config name i.0 past) (firing_in config name t past) (resolved_in config name t past) i.1.send_resolved
+    (route_of config name).repeat_interval t
 
 -- whether a reply has a notice for an integration
 abbrev pub is_asked_in : ℕ → Reply → Bool
@@ -88,12 +99,11 @@ pub record AsksForReasons (config : Config) (r : Record) (past : Past) : Type 0 
 abbrev pub BeginsHaveReasons : Config → List Record → Type 0
 BeginsHaveReasons config history = AtEach (AsksForReasons config) (past_of history)
 
--- what the reason says is so: of the entry that looking back finds, and of the alerts that it finds firing and resolved
+-- a reason is the one of an integration exactly where what it says is so
 abbrev pub ReasonsAreSo : Type 0
 ReasonsAreSo =
-    (config : Config) (name : GroupName) (t : ℕ) (past : Past) (i : ℕ × Integration)
-    → Says (reason_in config name t past i) (entry_in config name i.0 past) (firing_in config name t past) (resolved_in config name t past)
-    i.1.send_resolved (route_of config name).repeat_interval t
+    (config : Config) (name : GroupName) (t : ℕ) (past : Past) (i : ℕ × Integration) (reason : Reason)
+    → IsSo reason config name t past i ↔ (reason_in config name t past i ≡ reason)
 
 -- where a notice isn't repeated yet, it is from the moment that the reason names on, if nothing else changes, and not before
 abbrev pub NotYetEnds : Type 0

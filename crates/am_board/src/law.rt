@@ -81,8 +81,8 @@ pub fn begins_keep_the_interval()
 {}
 
 /// A begin that takes a group asks an integration of its receiver exactly if the case of needs-update
-/// that applies, by the history before it, is a reason to. What a reason says is so; and a notice
-/// that isn't repeated yet is from the moment on that its reason names.
+/// that applies, by the history before it, is a reason to. A reason is given exactly where what it
+/// says is so; and a notice that isn't repeated yet is from the moment on that its reason names.
 pub fn reasons_decide()
     ensures asked { EveryLegalHistory BeginsHaveReasons }
     ensures so { ReasonsAreSo }

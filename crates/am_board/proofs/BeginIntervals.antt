@@ -7,9 +7,10 @@ use Rattle.am_board.specs.declared.group.GroupName.{GroupName}
 use Rattle.am_board.specs.declared.record.Record.{Record}
 use Rattle.am_board.specs.Configured.{route_of}
 use Rattle.am_board.specs.Interval.{found_empty, begun_since, KeepsInterval, BeginsKeepTheInterval}
-use Rattle.am_board.specs.LookBack.{EveryLegalHistory, begun_at, IsLater, IsOneFlushAtATime}
+use Rattle.am_board.specs.LookBack.{EveryLegalHistory, begun_at}
 use Rattle.am_board.specs.Past.{AtEach, past_of, moment_at, takes}
-use Rattle.am_board.proofs.FlushesOnce.{flushes_end_once}
+use Rattle.am_board.proofs.FlushesOnce.{IsLater, IsIntervalOver, intervals_are_over}
+use Rattle.am_board.proofs.Pasts.{legal_past}
 
 -- u is at most a moment, and that is there
 abbrev IsUpTo : ℕ → Option ℕ → Type 0
@@ -57,15 +58,15 @@ later-all : (interval t u : ℕ) (last : Option ℕ) → IsLater interval t last
 later-all interval t u None later up = absurd up
 later-all interval t u (Some last) later up = omega (arith, later, up)
 
-pub interval_each : (config : Config) (past : List Record) → AtEach (IsOneFlushAtATime config) past → AtEach (KeepsInterval config) past
+pub interval_each : (config : Config) (past : List Record) → AtEach (IsIntervalOver config) past → AtEach (KeepsInterval config) past
 interval_each config [] each = tt
 interval_each config (r ∷ past) each = (
   λ name taken u since.
       let interval = (route_of config name).group_interval in
       let last = begun_at config name past in
-      later-all interval (moment_at (r ∷ past)) u last (each.0.interval_over name taken) (begun-last config name u past since),
+      later-all interval (moment_at (r ∷ past)) u last (each.0 name taken) (begun-last config name u past since),
   interval_each config past each.1,
 )
 
 pub begins_keep_the_interval : EveryLegalHistory BeginsKeepTheInterval
-begins_keep_the_interval config id history legal = interval_each config (past_of history) (flushes_end_once config id history legal)
+begins_keep_the_interval config id history legal = interval_each config (past_of history) (intervals_are_over config id (past_of history) (legal_past config id history legal))

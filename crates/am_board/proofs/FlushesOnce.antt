@@ -1,5 +1,5 @@
 -- Each flush has one begin and at most one finish, notes each integration at most once between them, and its group isn't taken before.
-use Rattle.std.proofs.Common.{◌≡◌, ℕ, ◌≤◌, Bool, true, false, cond, not, ◌&&◌, ◌||◌, Option, Some, None, List, [], ◌∷◌, map, refl, sym, ap, ◌∙◌, subst, arith, if◌then◌else◌}
+use Rattle.std.proofs.Common.{◌≡◌, ℕ, ◌+◌, ◌≤◌, Bool, true, false, cond, not, ◌&&◌, ◌||◌, Option, Some, None, List, [], ◌∷◌, map, refl, sym, ap, ◌∙◌, subst, arith, if◌then◌else◌}
 use Rattle.std.specs.Prelude.{find, filter, ◌==◌, nat_le}
 use Rattle.std.specs.List.{AllByRecursion, list_any}
 use Rattle.std.specs.Option.{option_map}
@@ -33,9 +33,9 @@ use Rattle.am_board.specs.Finish.{finished, after_finish_of}
 use Rattle.am_board.specs.History.{entry}
 use Rattle.am_board.specs.Insert.{inserted}
 use Rattle.am_board.specs.Laws.{last_begin_after, IsBegunAt}
-use Rattle.am_board.specs.LookBack.{member_with, EveryLegalHistory, number_in, has_open, begun_at, IsLater, IsOneFlushAtATime, FlushesEndOnce}
+use Rattle.am_board.specs.LookBack.{member_with, EveryLegalHistory, number_in, has_open, begun_at, IsOneFlushAtATime, FlushesEndOnce}
 use Rattle.am_board.specs.Note.{is_ready, asked_by, may_be_noted, with_note, may_note, after_note, noted}
-use Rattle.am_board.specs.Past.{past_of, moment_at, is_flush, is_flush_of, is_finish, is_note, takes, begin_of, has_begun, has_finished, was_noted}
+use Rattle.am_board.specs.Past.{AtEach, past_of, moment_at, is_flush, is_flush_of, is_finish, is_note, takes, begin_of, has_begun, has_finished, was_noted}
 use Rattle.am_board.specs.Replay.{reply, after, after_call}
 use Rattle.am_board.specs.State.{MemberState, GroupState, AskedState, FlushState, State, moment, same_name, is_flushing, members_in, flush_numbered}
 use Rattle.am_board.specs.Upkeep.{silenced, maintained}
@@ -75,6 +75,16 @@ pub record Counts (config : Config) (s : State) (past : List Record) : Type 0 wh
   pub begun : (n : ℕ) → s.next_number ≤ n → has_begun n past ≡ false
   pub ended : (n : ℕ) → s.next_number ≤ n → has_finished n past ≡ false
   pub keeps : Keeps config s.groups (λ name. begun_at config name past)
+
+-- t is at least an interval after the last begin, if there was one
+abbrev pub IsLater : ℕ → ℕ → Option ℕ → Type 0
+IsLater interval t None = Unit {0}
+IsLater interval t (Some last) = last + interval ≤ t
+
+-- a record takes only a group that was begun at least an interval ago, unless a maintenance since then found it without alerts
+abbrev pub IsIntervalOver : Config → Record → List Record → Type 0
+IsIntervalOver config r past =
+    (name : GroupName) → takes name r.reply ≡ true → IsLater (route_of config name).group_interval (moment_at (r ∷ past)) (begun_at config name past)
 
 -- ---- words
 
@@ -200,7 +210,7 @@ module _ (config : Config) (id : ℕ) (s : State) (past : List Record) (pass : �
 
   -- what holds of a record, and what is counted after it
   abbrev Holds : Call → State → Reply → Type 0
-  Holds c new p = IsOneFlushAtATime config (entry pass c p) past × Counts config new (entry pass c p ∷ past)
+  Holds c new p = IsOneFlushAtATime (entry pass c p) past × Counts config new (entry pass c p ∷ past)
 
   keeps-after : (c : Call) (p : Reply) → reply config id s c ≡ Some p → Begins c p → Keeps config (after_call config s c).groups (λ name. begun_at config name (entry pass c p ∷ past))
   keeps-after c p e same = subst (Keeps config (after_call config s c).groups) (λ j name. same name j) (keeps-call config id s (λ name. begun_at config name past) n.keeps c p e)
@@ -224,7 +234,7 @@ module _ (config : Config) (id : ℕ) (s : State) (past : List Record) (pass : �
           let come : h.due ≤ t = leb-true h.due t (first (nat_le h.due t) (not (is_flushing s.flushes h.name)) passes) in
           subst (λ d. d ≤ t) is.1 come
 
-  none-begun : (c : Call) (p : Reply) → ((number : ℕ) → is_flush number p ≡ false) → ((number : ℕ) → is_finish number c ≡ false) → ((number i : ℕ) → is_note number i c ≡ false) → ((name : GroupName) → takes name p ≡ false) → IsOneFlushAtATime config (entry pass c p) past
+  none-begun : (c : Call) (p : Reply) → ((number : ℕ) → is_flush number p ≡ false) → ((number : ℕ) → is_finish number c ≡ false) → ((number i : ℕ) → is_note number i c ≡ false) → ((name : GroupName) → takes name p ≡ false) → IsOneFlushAtATime (entry pass c p) past
   none-begun c p a b unnoted d =
       record {
         first_begin = λ number e. absurd (false≢true (sym (a number) ∙ e));
@@ -233,7 +243,6 @@ module _ (config : Config) (id : ℕ) (s : State) (past : List Record) (pass : �
         note_open = λ number i e. absurd (false≢true (sym (unnoted number i) ∙ e));
         note_once = λ number i e. absurd (false≢true (sym (unnoted number i) ∙ e));
         none_open = λ name e. absurd (false≢true (sym (d name) ∙ e));
-        interval_over = λ name e. absurd (false≢true (sym (d name) ∙ e));
       }
 
   insert : (now : ℕ) (a : AlertData) → Holds (Insert now a) (after_call config s (Insert now a)) (Inserted (inserted config s a))
@@ -263,9 +272,8 @@ module _ (config : Config) (id : ℕ) (s : State) (past : List Record) (pass : �
       )
 
   -- a begin that takes a group
-  taking-one : (now : ℕ) (g : GroupState) (p : Reply) → taken s (moment s now) ≡ Some g → ((number : ℕ) → is_flush number p ≡ true → has_begun number past ≡ false) → ((name : GroupName) → takes name p ≡ same_name name g.name) → IsOneFlushAtATime config (entry pass (Begin now) p) past
+  taking-one : (now : ℕ) (g : GroupState) (p : Reply) → taken s (moment s now) ≡ Some g → ((number : ℕ) → is_flush number p ≡ true → has_begun number past ≡ false) → ((name : GroupName) → takes name p ≡ same_name name g.name) → IsOneFlushAtATime (entry pass (Begin now) p) past
   taking-one now g p e first is =
-      let at = clock-step config s past k now (entry pass (Begin now) p) refl in
       record {
         first_begin = first;
         begun_before = λ number h. absurd (false≢true h);
@@ -275,10 +283,6 @@ module _ (config : Config) (id : ℕ) (s : State) (past : List Record) (pass : �
         none_open = λ name h.
             let own : name ≡ g.name = same_name-is name g.name (sym (is name) ∙ h) in
             open-group config s past n name ∙ ap (is_flushing s.flushes) own ∙ any_none (λ f. same_name g.name f.group) s.flushes (taken-is s (moment s now) g steady.groups e).free;
-        interval_over = λ name h.
-            let own : name ≡ g.name = same_name-is name g.name (sym (is name) ∙ h) in
-            subst (λ t. IsLater (route_of config name).group_interval t (begun_at config name past)) at
-            (subst (λ m. IsLater (route_of config m).group_interval (moment s now) (begun_at config m past)) (sym own) (later-taken (moment s now) g e));
       }
 
   -- the last begin of a group, after a begin
@@ -351,7 +355,6 @@ module _ (config : Config) (id : ℕ) (s : State) (past : List Record) (pass : �
           note_open = λ number i h. absurd (false≢true h);
           note_once = λ number i h. absurd (false≢true h);
           none_open = λ name h. absurd (false≢true h);
-          interval_over = λ name h. absurd (false≢true h);
         },
         record {
           opens = λ test.
@@ -386,7 +389,6 @@ module _ (config : Config) (id : ℕ) (s : State) (past : List Record) (pass : �
               let are = both (m == number) (i == j) h in
               subst (λ x. was_noted number x past ≡ false) (eqb-true i j are.1) (subst (λ x. was_noted x i past ≡ false) (eqb-true m number are.0) unnoted);
           none_open = λ name h. absurd (false≢true h);
-          interval_over = λ name h. absurd (false≢true h);
         },
         record {
           opens = λ test.
@@ -407,6 +409,29 @@ module _ (config : Config) (id : ℕ) (s : State) (past : List Record) (pass : �
       both true b h = (refl, h)
       both false b h = absurd (false≢true h)
 
+  -- a begin that takes a group comes at least an interval after the last
+  interval-over : (now : ℕ) (g : GroupState) (p : Reply) → taken s (moment s now) ≡ Some g → ((name : GroupName) → takes name p ≡ same_name name g.name) → IsIntervalOver config (entry pass (Begin now) p) past
+  interval-over now g p e is name h =
+      let own : name ≡ g.name = same_name-is name g.name (sym (is name) ∙ h) in
+      subst (λ t. IsLater (route_of config name).group_interval t (begun_at config name past)) (clock-step config s past k now (entry pass (Begin now) p) refl)
+      (subst (λ m. IsLater (route_of config m).group_interval (moment s now) (begun_at config m past)) (sym own) (later-taken (moment s now) g e))
+
+  interval-asking : (now : ℕ) (g : GroupState) (asked : List (ℕ × Integration)) → taken s (moment s now) ≡ Some g → IsIntervalOver config (entry pass (Begin now) (reply_asking config id s (moment s now) g asked)) past
+  interval-asking now g [] e = interval-over now g (reply_asking config id s (moment s now) g []) e (λ name. or-false (same_name name g.name))
+  interval-asking now g (i ∷ is) e = interval-over now g (reply_asking config id s (moment s now) g (i ∷ is)) e (λ name. refl)
+
+  interval-each : HoldsOfEach config id s (λ c new p. IsIntervalOver config (entry pass c p) past)
+  interval-each =
+      record {
+        insert = λ now a name e. absurd (false≢true e);
+        silence = λ now number matchers start end name e. absurd (false≢true e);
+        nothing = λ now none name e. absurd (false≢true e);
+        begin = λ now g is asked are. interval-asking now g asked is;
+        finish = λ now number outcomes f is name e. absurd (false≢true e);
+        maintain = λ now name e. absurd (false≢true e);
+        note = λ now number i outcome f is may name e. absurd (false≢true e);
+      }
+
   each : HoldsOfEach config id s Holds
   each =
       record {
@@ -426,11 +451,11 @@ module _ (config : Config) (id : ℕ) (s : State) (past : List Record) (pass : �
 
 -- what holds of a record after a legal past, and what is counted after it
 one_record : (config : Config) (id : ℕ) (r : Record) (past : List Record) → IsLegalPast config id past → reply config id (state_after config past) r.call ≡ Some r.reply → Counts config (state_after config past) past
-    → IsOneFlushAtATime config r past × Counts config (after config (state_after config past) r) (r ∷ past)
+    → IsOneFlushAtATime r past × Counts config (after config (state_after config past) r) (r ∷ past)
 one_record config id r past legal told n =
     let s = state_after config past in
     let holds = each config id s past r.pass (steady_past config past) (finds_past config id past legal) n in
-    each_call config id s (λ c new p. IsOneFlushAtATime config (entry r.pass c p) past × Counts config new (entry r.pass c p ∷ past)) holds r.call r.reply told
+    each_call config id s (λ c new p. IsOneFlushAtATime (entry r.pass c p) past × Counts config new (entry r.pass c p ∷ past)) holds r.call r.reply told
 
 counts_past : (config : Config) (id : ℕ) (past : List Record) → IsLegalPast config id past → Counts config (state_after config past) past
 counts_past config id [] legal =
@@ -439,5 +464,13 @@ counts_past config id (r ∷ past) legal = (one_record config id r past legal.1 
 
 pub flushes_end_once : EveryLegalHistory FlushesEndOnce
 flushes_end_once config id history legal =
-    at_each config id (IsOneFlushAtATime config) (λ r past before told. (one_record config id r past before told (counts_past config id past before)).0)
+    at_each config id IsOneFlushAtATime (λ r past before told. (one_record config id r past before told (counts_past config id past before)).0)
     (past_of history) (legal_past config id history legal)
+
+pub intervals_are_over : (config : Config) (id : ℕ) (past : List Record) → IsLegalPast config id past → AtEach (IsIntervalOver config) past
+intervals_are_over config id =
+    at_each config id (IsIntervalOver config)
+    (λ r past before told.
+    let s = state_after config past in
+    let over = interval-each config id s past r.pass (steady_past config past) (finds_past config id past before) (counts_past config id past before) in
+    each_call config id s (λ c new p. IsIntervalOver config (entry r.pass c p) past) over r.call r.reply told)

@@ -81,4 +81,5 @@ pub mod ToldSets
 pub mod WorkedEntries
 pub mod WorkedFlushes
 pub mod WorkedLaws
+pub mod WorkedNotes
 pub mod WorkedReasons

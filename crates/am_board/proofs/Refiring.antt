@@ -57,7 +57,7 @@ module _ (config : Config) (name : GroupName) (number : ℕ) where
       later false h = h
 
   -- so that no record takes the group
-  not-taken : (r : Record) (past : List Record) → IsOneFlushAtATime config r past → begins_group name (begin_of number past) ≡ true → has_finished number past ≡ false → takes name r.reply ≡ false
+  not-taken : (r : Record) (past : List Record) → IsOneFlushAtATime r past → begins_group name (begin_of number past) ≡ true → has_finished number past ≡ false → takes name r.reply ≡ false
   not-taken r past one begun unfinished = by (takes name r.reply) refl
     where
       by : (b : Bool) → takes name r.reply ≡ b → b ≡ false
@@ -66,7 +66,7 @@ module _ (config : Config) (name : GroupName) (number : ℕ) where
 
   module _ (labels : List Label) (m : MemberState) (own : labels ≡ m.alert.labels) where
     -- no begin of the group since the alert's last insert
-    none-resolved : (n : ℕ) (past : List Record) → AtEach (IsOneFlushAtATime config) past → begins_group name (begin_of number past) ≡ true → has_finished number past ≡ false → insert_during number labels past ≡ Some m
+    none-resolved : (n : ℕ) (past : List Record) → AtEach IsOneFlushAtATime past → begins_group name (begin_of number past) ≡ true → has_finished number past ≡ false → insert_during number labels past ≡ Some m
         → resolved_at_begin name m.alert (begin_since m.alert.labels n past) ≡ false
     none-resolved n [] each begun unfinished is = refl
     none-resolved n (r ∷ past) each begun unfinished is =
@@ -97,14 +97,14 @@ module _ (config : Config) (name : GroupName) (number : ℕ) where
     none-removed past (Note now n integration outcome) h = refl
 
     -- a record while the flush is open
-    stays-one : (r : Record) (past : List Record) → IsOneFlushAtATime config r past → AtEach (IsOneFlushAtATime config) past → begins_group name (begin_of number past) ≡ true → has_finished number past ≡ false → insert_during number labels past ≡ Some m
+    stays-one : (r : Record) (past : List Record) → IsOneFlushAtATime r past → AtEach IsOneFlushAtATime past → begins_group name (begin_of number past) ≡ true → has_finished number past ≡ false → insert_during number labels past ≡ Some m
         → removes name m.alert r past ≡ false
     stays-one r past one each begun unfinished is =
         let free = neither (is_quiet name r.reply) (is_flush_of name r.reply) (not-taken r past one begun unfinished) in
         ap (λ b. (b && is_resolved m.alert (moment_at (r ∷ past))) || finish_removes name m.alert past r.call) free.0
         ∙ none-removed past r.call (λ n. none-resolved n past each begun unfinished is)
 
-    stays : (past : List Record) → AtEach (IsOneFlushAtATime config) past → begins_group name (begin_of number past) ≡ true → has_finished number past ≡ false → insert_during number labels past ≡ Some m → has_left name m.alert past ≡ false
+    stays : (past : List Record) → AtEach IsOneFlushAtATime past → begins_group name (begin_of number past) ≡ true → has_finished number past ≡ false → insert_during number labels past ≡ Some m → has_left name m.alert past ≡ false
     stays [] each begun unfinished is = refl
     stays (r ∷ past) each begun unfinished is =
         elim (is_flush number r.reply) as (λ b. is_flush number r.reply ≡ b → begins_group name (cond b (r ∷ past) (begin_of number past)) ≡ true → cond b None (cond (inserts labels r.call) (inserted_by (stamp_told r.reply) r.call) (insert_during number labels past)) ≡ Some m → has_left name m.alert (r ∷ past) ≡ false) [
@@ -144,7 +144,7 @@ finish-keeps labels number (Finish now n outcomes) e = refl
 finish-keeps labels number (Maintain now) e = refl
 finish-keeps labels number (Note now n integration outcome) e = refl
 
-present-after : (config : Config) (r : Record) (past : List Record) → IsOneFlushAtATime config r past → AtEach (IsOneFlushAtATime config) past → (number : ℕ) → is_finish number r.call ≡ true
+present-after : (config : Config) (r : Record) (past : List Record) → IsOneFlushAtATime r past → AtEach IsOneFlushAtATime past → (number : ℕ) → is_finish number r.call ≡ true
     → (name : GroupName) → begins_group name (begin_of number past) ≡ true → (labels : List Label) → goes_to config name labels ≡ true
     → (m : MemberState) → insert_during number labels past ≡ Some m → presence config name labels (r ∷ past) ≡ Some m
 present-after config r past one each number is name begun labels goes m during =
@@ -158,7 +158,7 @@ present-after config r past one each number is name begun labels goes m during =
     ∙ ap (λ b. cond (b || has_left name m.alert past) None (Some m)) (stays-one config name number labels m own r past one each begun unfinished during)
     ∙ ap (λ b. cond b None (Some m)) (stays config name number labels m own past each begun unfinished during)
 
-each_past : (config : Config) (id : ℕ) (past : List Record) → IsLegalPast config id past → AtEach (IsOneFlushAtATime config) past → AtEach (KeepsRefiring config) past
+each_past : (config : Config) (id : ℕ) (past : List Record) → IsLegalPast config id past → AtEach IsOneFlushAtATime past → AtEach (KeepsRefiring config) past
 each_past config id [] legal each = tt
 each_past config id (r ∷ past) legal each = (
   λ number is name begun labels goes m during.

@@ -1,5 +1,5 @@
 -- Worked histories of the laws: what a begin tells and what is logged, and records that each law refuses.
-use Rattle.std.proofs.Common.{◌≡◌, ◌≤◌, Bool, true, false, Some, None, List, [], ◌∷◌, ◌++◌, refl, sym, ap, arith}
+use Rattle.std.proofs.Common.{◌≡◌, Bool, true, false, Some, None, List, [], ◌∷◌, ◌++◌, refl, sym, ap, arith}
 use Rattle.std.specs.Prelude.{codes, is_some}
 use Rattle.std.proofs.lemmas.Bool.{false≢true}
 use Rattle.am_alerts.specs.AlertData.{AlertData}
@@ -120,23 +120,20 @@ not_delivered = refl
 
 -- ---- one flush at a time: a number isn't given twice, a flush isn't finished twice or before it has begun, nor its group taken
 
-number_again : IsOneFlushAtATime base (flush_hook 330_000 1 group_a 630_000 (a ∷ []) []) (past_of first_notice) → ⊥
+number_again : IsOneFlushAtATime (flush_hook 330_000 1 group_a 630_000 (a ∷ []) []) (past_of first_notice) → ⊥
 number_again law = false≢true (sym (law.first_begin 1 refl))
 
-finish_of_none : IsOneFlushAtATime base (finish 31_000 2 [] 0 0) (past_of first_notice) → ⊥
+finish_of_none : IsOneFlushAtATime (finish 31_000 2 [] 0 0) (past_of first_notice) → ⊥
 finish_of_none law = false≢true (law.begun_before 2 refl)
 
-finish_again : IsOneFlushAtATime base (finish 31_000 1 [] 0 0) (past_of first_notice) → ⊥
+finish_again : IsOneFlushAtATime (finish 31_000 1 [] 0 0) (past_of first_notice) → ⊥
 finish_again law = false≢true (sym (law.first_finish 1 refl))
 
 abbrev first_open : List Record
 first_open = insert 0 a 1 1 1 ∷ flush_hook 30_000 1 group_a 330_000 (a ∷ []) [] ∷ []
 
-taken_while_open : IsOneFlushAtATime base (flush_hook 330_000 2 group_a 630_000 (a ∷ []) []) (past_of first_open) → ⊥
+taken_while_open : IsOneFlushAtATime (flush_hook 330_000 2 group_a 630_000 (a ∷ []) []) (past_of first_open) → ⊥
 taken_while_open law = false≢true (sym (law.none_open group_a refl))
-
-taken_too_soon : IsOneFlushAtATime base (quiet 329_999 group_a 0) (past_of first_notice) → ⊥
-taken_too_soon law = let over : 330_000 ≤ 329_999 = law.interval_over group_a refl in omega (arith, over)
 
 -- ---- a begin asks exactly whom it should
 

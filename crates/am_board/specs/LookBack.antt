@@ -1,5 +1,5 @@
 -- Look-back: what was done and why, told from a history alone, with any number of flushes open.
-use Rattle.std.specs.Prelude.{◌≡◌, ℕ, ◌+◌, ◌≤◌, Bool, true, false, IsTrue, not, ◌&&◌, ◌||◌, ◌==◌, ◌⊎◌, max, All, List, [], ◌∷◌, map, filter, find, count_by, Option, Some, None, if◌then◌else◌}
+use Rattle.std.specs.Prelude.{◌≡◌, ℕ, ◌+◌, Bool, true, false, IsTrue, not, ◌&&◌, ◌||◌, ◌==◌, ◌⊎◌, max, All, List, [], ◌∷◌, map, filter, find, count_by, Option, Some, None, if◌then◌else◌}
 use Rattle.std.specs.List.{list_any}
 use Rattle.std.specs.Option.{option_map}
 use Rattle.am_alerts.specs.AlertData.{AlertData, is_resolved}
@@ -173,24 +173,18 @@ begun_at config name (r ∷ past) =
     else if found_empty config name r past then None
     else begun_at config name past
 
--- t is at least an interval after the last begin, if there was one
-abbrev pub IsLater : ℕ → ℕ → Option ℕ → Type 0
-IsLater interval t None = Unit {0}
-IsLater interval t (Some last) = last + interval ≤ t
-
--- a record begins only a flush that hasn't begun, finishes only one that has begun and isn't finished, notes only for such a one an integration that it hasn't noted, and takes only a group that has no open flush and was begun at least an interval ago, unless a maintenance since then found it without alerts
-pub record IsOneFlushAtATime (config : Config) (r : Record) (past : Past) : Type 0 where
+-- a record begins only a flush that hasn't begun, finishes only one that has begun and isn't finished, notes only for such a one an integration that it hasn't noted, and takes only a group that has no open flush
+pub record IsOneFlushAtATime (r : Record) (past : Past) : Type 0 where
   pub first_begin : (number : ℕ) → is_flush number r.reply ≡ true → has_begun number past ≡ false
   pub begun_before : (number : ℕ) → is_finish number r.call ≡ true → has_begun number past ≡ true
   pub first_finish : (number : ℕ) → is_finish number r.call ≡ true → has_finished number past ≡ false
   pub note_open : (number integration : ℕ) → is_note number integration r.call ≡ true → (has_begun number past ≡ true) × (has_finished number past ≡ false)
   pub note_once : (number integration : ℕ) → is_note number integration r.call ≡ true → was_noted number integration past ≡ false
   pub none_open : (name : GroupName) → takes name r.reply ≡ true → has_open name past ≡ false
-  pub interval_over : (name : GroupName) → takes name r.reply ≡ true → IsLater (route_of config name).group_interval (moment_at (r ∷ past)) (begun_at config name past)
 
--- each number has one begin and at most one finish, and between them at most one note of each integration; a group is taken only while none of its flushes is open, and at least an interval after its last begin, unless a maintenance since then found it without alerts
+-- each number has one begin and at most one finish, and between them at most one note of each integration; a group is taken only while none of its flushes is open
 abbrev pub FlushesEndOnce : Config → List Record → Type 0
-FlushesEndOnce config history = AtEach (IsOneFlushAtATime config) (past_of history)
+FlushesEndOnce config history = AtEach IsOneFlushAtATime (past_of history)
 
 -- ---- a begin asks exactly whom it should
 

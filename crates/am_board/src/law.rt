@@ -53,8 +53,7 @@ pub fn refiring_alerts_stay()
 {}
 
 /// Each flush has one begin and at most one finish, and each integration is noted for it at most
-/// once, only in between; while it is open its group isn't taken, and a group is taken again at least
-/// an interval later, unless a maintenance in between found it without alerts.
+/// once, only in between; while it is open its group isn't taken.
 pub fn flushes_end_once()
     ensures { EveryLegalHistory FlushesEndOnce }
 {}

@@ -34,11 +34,7 @@ fn a_thousand_inserts_on<N: Name + Send + Sync, R: Threads + Wait + Abort + Sync
     let (desk, mut passes) = open::<N>(rt, alloc, config, blank);
     let one = take(rt, &mut passes);
     let zero = take(rt, &mut passes);
-    let (mut zero, one) = join(
-        rt,
-        || insert_many(rt, alloc, &desk, zero),
-        || insert_many(rt, alloc, &desk, one),
-    );
+    let (mut zero, one) = insert_beside(rt, alloc, &desk, zero, one);
     assert_eq!(rt; (zero.calls(), one.calls()), (INSERTS, INSERTS));
     let last = alert(rt, alloc, &[("alertname", "A"), ("inst", "last")]);
     assert!(rt; desk.insert(rt, alloc, &mut zero, 0, last).is_ok());
@@ -46,6 +42,21 @@ fn a_thousand_inserts_on<N: Name + Send + Sync, R: Threads + Wait + Abort + Sync
     put(rt, &mut passes, zero);
     put(rt, &mut passes, one);
     are_stamped(rt, &close(rt, desk, passes));
+}
+
+/// Each pass inserts in a thread of its own.
+fn insert_beside<N: Name + Send + Sync, R: Threads + Wait + Abort + Sync>(
+    rt: &R,
+    alloc: Global,
+    desk: &Desk<N>,
+    zero: Pass<N>,
+    one: Pass<N>,
+) -> (Pass<N>, Pass<N>) {
+    join(
+        rt,
+        || insert_many(rt, alloc, desk, zero),
+        || insert_many(rt, alloc, desk, one),
+    )
 }
 
 /// The stamps go up from 1, one for each record.

@@ -1,5 +1,5 @@
-/* Refuses one request for memory: the one whose number is in REFUSE, counted from 1. At the end the
-   number of requests is written to the descriptor 3. */
+/* Refuses one request for memory: the one whose number is in REFUSE, counted from 1. That it was refused
+   is written to the descriptor 3, and at a program's usual end the number of requests. */
 #include <stddef.h>
 #include <stdio.h>
 #include <stdlib.h>
@@ -17,7 +17,11 @@ static int refuses(void) {
         refused = number ? atol(number) : 0;
     }
     requests += 1;
-    return requests == refused;
+    if (requests != refused)
+        return 0;
+    ssize_t written = write(3, "refused\n", 8);
+    (void)written;
+    return 1;
 }
 
 void *malloc(size_t size) {

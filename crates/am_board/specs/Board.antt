@@ -2,10 +2,10 @@
 use Rattle.std.specs.Prelude.{◌≡◌, ◌+◌, ◌≤◌, None, All, length, vec_len, vec_capacity}
 use Rattle.am_alerts.specs.declared.limits.TheConstants.{MAX_CHILDREN}
 use Rattle.am_board.specs.declared.board.Board.TheInside.{Inside}
-use Rattle.am_board.specs.Config.{AreAllowed, config_fault}
+use Rattle.am_model.specs.Config.{AreAllowed, config_fault}
 use Rattle.am_board.specs.Group.{names_of, AreRouted}
 use Rattle.am_board.specs.Kept.{state_of, Agrees, IsPrepared}
-use Rattle.am_board.specs.Replay.{replay, IsLegal}
+use Rattle.am_model.specs.Replay.{replay, IsLegal}
 
 -- the history is legal, and the state is its replay; the limits hold; each group's route is there; each open flush has room in the history for its finish, and is prepared for it
 pub record IsSound (b : Inside) : Type 0 where

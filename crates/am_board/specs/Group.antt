@@ -1,7 +1,7 @@
 -- Groups as they are kept.
 use Rattle.std.specs.Prelude.{◌≡◌, ℕ, ◌+◌, ◌≤◌, ◌⊎◌, List, [], ◌∷◌, ◌++◌, map, length, All, vec_len, vec_capacity}
 use Rattle.am_alerts.specs.RoutingTree.{RoutingTree}
-use Rattle.am_board.specs.declared.group.GroupName.{GroupName}
+use Rattle.am_model.specs.declared.group.GroupName.{GroupName}
 use Rattle.am_board.specs.declared.group.Group.{Group}
 use Rattle.am_board.specs.Kept.{group_state}
 

@@ -1,7 +1,7 @@
 -- The groups as they are kept: under their names, in the order in which they were made.
 use Rattle.std.specs.Prelude.{ℕ, List}
 use Rattle.am_board.specs.declared.group.Group.{Group}
-use Rattle.am_board.specs.declared.group.GroupName.{GroupName}
+use Rattle.am_model.specs.declared.group.GroupName.{GroupName}
 
 -- groups, with room for so many more
 pub record GroupList : Type 0 where

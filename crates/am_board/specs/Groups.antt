@@ -1,11 +1,11 @@
 -- What is done to one of the groups that are kept.
 use Rattle.std.specs.Prelude.{◌≡◌, ℕ, ◌+◌, ◌≤◌, slice_index_or, slice_set, vec_len, vec_capacity}
-use Rattle.am_board.specs.declared.config.Config.{Config}
+use Rattle.am_model.specs.declared.config.Config.{Config}
 use Rattle.am_board.specs.declared.group.Group.{Group}
-use Rattle.am_board.specs.Insert.{wait_of, group_with}
+use Rattle.am_model.specs.Insert.{wait_of, group_with}
 use Rattle.am_board.specs.GroupList.{GroupList}
 use Rattle.am_board.specs.Kept.{group_state}
-use Rattle.am_board.specs.State.{MemberState}
+use Rattle.am_model.specs.State.{MemberState}
 
 -- the group at a place was changed, but not its name
 pub record Changes (change : Group → Group → Type 0) (i : ℕ) (old new : GroupList) : Type 0 where

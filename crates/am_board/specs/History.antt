@@ -1,21 +1,18 @@
 -- A board as contracts see it: its configuration, its id and its history.
-use Rattle.std.specs.Prelude.{◌≡◌, ℕ, List, [], ◌∷◌, ◌++◌, length, Some, slice_get, Result, Ok, Err}
-use Rattle.am_board.specs.declared.config.Config.{Config}
-use Rattle.am_board.specs.declared.record.Record.{Record}
-use Rattle.am_board.specs.declared.record.Call.{Call}
-use Rattle.am_board.specs.declared.record.Reply.{Reply}
-use Rattle.am_board.specs.declared.record.Reply.TheVariants as replies
+use Rattle.std.specs.Prelude.{◌≡◌, ℕ, List, [], ◌∷◌, ◌++◌, length, Some, Result, Ok, Err}
+use Rattle.am_model.specs.declared.config.Config.{Config}
+use Rattle.am_model.specs.declared.record.Record.{Record}
+use Rattle.am_model.specs.declared.record.Call.{Call}
+use Rattle.am_model.specs.declared.record.Reply.{Reply}
+use Rattle.am_model.specs.declared.record.Reply.TheVariants as replies
 use Rattle.am_board.specs.declared.begin.Begun.{Begun}
 use Rattle.am_board.specs.declared.begin.Begun.TheVariants.{NothingDue, Quiet, Flush}
 use Rattle.am_board.specs.declared.fault.FinishFault.{FinishFault}
 use Rattle.am_board.specs.declared.fault.FinishFault.TheVariants.{Foreign, NotOpen}
-use Rattle.am_board.specs.declared.record.Finished.{Finished}
-use Rattle.am_board.specs.Data.{NoticeData, TicketData}
-use Rattle.am_board.specs.Ticket.{outcome_of}
-use Rattle.am_board.specs.Replay.{reply, replay}
-use Rattle.am_board.specs.State.{State}
-use Rattle.am_mute.specs.Silence.{SilenceData}
-use Rattle.am_board.specs.declared.record.Call.TheVariants as call
+use Rattle.am_model.specs.declared.record.Finished.{Finished}
+use Rattle.am_model.specs.Ticket.{TicketData}
+use Rattle.am_model.specs.Replay.{reply, replay}
+use Rattle.am_model.specs.State.{State}
 
 pub record BoardData : Type 0 where
   pub config : Config
@@ -25,9 +22,6 @@ pub record BoardData : Type 0 where
 -- a board that accepted no call yet
 abbrev pub opening : Config → ℕ → BoardData
 opening config id = record { config = config; id = id; history = [] }
-
-abbrev pub entry : ℕ → Call → Reply → Record
-entry pass call reply = record { pass = pass; call = call; reply = reply }
 
 -- the board after an accepted call
 abbrev pub with_record : BoardData → Record → BoardData
@@ -45,10 +39,6 @@ calls_at board = length board.history
 abbrev pub IsToldAt : BoardData → Call → Reply → Type 0
 IsToldAt board call told = reply board.config board.id (state_at board) call ≡ Some told
 
--- the call of a silence
-abbrev pub call_of_silence : ℕ → SilenceData → Call
-call_of_silence now silence = call.Silence now silence.id silence.matchers silence.start silence.end
-
 -- the reply that a begin was told
 abbrev pub reply_of : Begun → Reply
 reply_of NothingDue = replies.NothingDue
@@ -65,12 +55,6 @@ IsFresh id (Flush ticket) = (ticket.desk ≡ id) × (ticket.outcomes ≡ [])
 abbrev pub HandsBack : TicketData → FinishFault → Type 0
 HandsBack ticket (Foreign t) = t ≡ ticket
 HandsBack ticket NotOpen = Unit {0}
-
--- the record of a note of the notice at this place of a ticket
-abbrev pub IsNoteOf : ℕ → ℕ → TicketData → ℕ → Record → Type 0
-IsNoteOf pass now ticket place r =
-    (notice : NoticeData) × (slice_get ticket.notices place ≡ Some notice)
-    × (r ≡ entry pass (call.Note now ticket.number notice.integration (outcome_of ticket.outcomes notice.integration)) replies.Noted)
 
 -- a finish that was refused since the ticket names another desk
 abbrev pub IsForeign : Result Finished FinishFault → Type 0

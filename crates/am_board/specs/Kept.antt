@@ -2,17 +2,17 @@
 use Rattle.std.specs.Prelude.{◌≡◌, ◌*◌, min, List, [], map, vec_len, is_none, IfSome, IsTrue, All, IsPermutation}
 use Rattle.am_alerts.specs.declared.labels.Label.{Label}
 use Rattle.am_nflog.specs.Log.{Slots, is_known}
-use Rattle.am_board.specs.declared.config.Config.{Config}
+use Rattle.am_model.specs.declared.config.Config.{Config}
 use Rattle.am_board.specs.declared.flush.Asked.{Asked}
 use Rattle.am_board.specs.declared.flush.Leaving.{Leaving}
 use Rattle.am_board.specs.declared.flush.OpenFlush.{OpenFlush}
 use Rattle.am_board.specs.declared.group.Group.{Group}
-use Rattle.am_board.specs.declared.group.GroupName.{GroupName}
+use Rattle.am_model.specs.declared.group.GroupName.{GroupName}
 use Rattle.am_board.specs.declared.group.Member.{Member}
 use Rattle.am_board.specs.declared.state.State as kept
-use Rattle.am_board.specs.Configured.{route_of}
+use Rattle.am_model.specs.Configured.{route_of}
 use Rattle.am_board.specs.LogRows.{log_rows}
-use Rattle.am_board.specs.State.{MemberState, GroupState, AskedState, Stamped, FlushState, State, opening_state, same_name}
+use Rattle.am_model.specs.State.{MemberState, GroupState, AskedState, Stamped, FlushState, State, opening_state, same_name}
 
 -- a kept alert of a group
 abbrev pub member_state : Member → MemberState

@@ -4,8 +4,8 @@ use Rattle.am_alerts.specs.declared.labels.Label.{Label}
 use Rattle.am_nflog.specs.Log.{Slots, rows_of}
 use Rattle.am_nflog.specs.declared.key.LogKey.{LogKey}
 use Rattle.am_nflog.specs.declared.row.LogRow.{LogRow}
-use Rattle.am_board.specs.declared.group.GroupName.{GroupName}
-use Rattle.am_board.specs.declared.views.RowView.{RowView}
+use Rattle.am_model.specs.declared.group.GroupName.{GroupName}
+use Rattle.am_model.specs.declared.views.RowView.{RowView}
 
 -- a row of the log with the key that it stands under
 abbrev pub row_under : LogKey GroupName × LogRow (List Label) → RowView

@@ -3,9 +3,9 @@ use Rattle.std.specs.Prelude.{◌≡◌, ℕ, ◌==◌, List, position, slice_ge
 use Rattle.std.specs.Option.{option_map}
 use Rattle.am_board.specs.declared.flush.OpenFlush.{OpenFlush}
 use Rattle.am_board.specs.declared.note.Noting.{Noting}
-use Rattle.am_board.specs.Data.{NoticeData, TicketData}
-use Rattle.am_board.specs.Logged.{IsReadyAt}
-use Rattle.am_board.specs.Ticket.{outcome_of}
+use Rattle.am_model.specs.Notice.{NoticeData}
+use Rattle.am_model.specs.Ticket.{TicketData, outcome_of}
+use Rattle.am_board.specs.Finishing.{IsReadyAt}
 
 -- the notice at a place of a ticket is of this integration, which was reported so; its flush is open, and asked it, and it may be noted
 pub record IsNoting (flushes : List OpenFlush) (ticket : TicketData) (place : ℕ) (n : Noting) : Type 0 where

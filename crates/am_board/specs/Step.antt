@@ -1,18 +1,18 @@
 -- What a call does to the state that is kept.
 use Rattle.std.specs.Prelude.{◌≡◌, ℕ, ◌+◌, ◌≤◌, ◌⊎◌, [], ◌∷◌, ◌++◌, Option, Some, None, All, vec_len, vec_capacity}
 use Rattle.am_alerts.specs.declared.limits.TheConstants.{MAX_DURATION}
-use Rattle.am_board.specs.declared.config.Config.{Config}
-use Rattle.am_board.specs.declared.fault.Fault.{Fault}
-use Rattle.am_board.specs.declared.fault.Fault.TheVariants.{NoMemory, TooManyNames, TooManyGroups, TooManySilences, TooManyOpen, HistoryFull}
-use Rattle.am_board.specs.declared.fault.NoteFault.{NoteFault}
-use Rattle.am_board.specs.declared.fault.NoteFault.TheVariants as note
+use Rattle.am_model.specs.declared.config.Config.{Config}
+use Rattle.am_model.specs.declared.fault.Fault.{Fault}
+use Rattle.am_model.specs.declared.fault.Fault.TheVariants.{NoMemory, TooManyNames, TooManyGroups, TooManySilences, TooManyOpen, HistoryFull}
+use Rattle.am_model.specs.declared.fault.NoteFault.{NoteFault}
+use Rattle.am_model.specs.declared.fault.NoteFault.TheVariants as note
 use Rattle.am_board.specs.declared.state.State as kept
-use Rattle.am_board.specs.declared.record.Record.{Record}
-use Rattle.am_board.specs.Configured.{HaveFewIntegrations}
+use Rattle.am_model.specs.declared.record.Record.{Record}
+use Rattle.am_model.specs.Configured.{HaveFewIntegrations}
 use Rattle.am_board.specs.Group.{names_of, AreRouted}
 use Rattle.am_board.specs.Kept.{state_of, Agrees, IsPrepared}
-use Rattle.am_board.specs.Laws.{IsConsistent}
-use Rattle.am_board.specs.Replay.{reply, after}
+use Rattle.am_model.specs.Laws.{IsConsistent}
+use Rattle.am_model.specs.Replay.{reply, after}
 
 -- what each call relies on: the state is one that a legal history leaves, and each open flush is prepared for its end
 pub record IsGood (config : Config) (s : kept.State) : Type 0 where

@@ -1,12 +1,12 @@
 //! Which integrations a flush asks.
 ghost use Rattle.std.specs.Prelude.{◌≡◌, ◌≤◌, IfOk, length, map, filter};
 ghost use Rattle.std.specs.List.{enumerate_from};
-ghost use Rattle.am_board.specs.Begin.{asked_about, label_sets};
-ghost use Rattle.am_board.specs.Configured.{HaveFewIntegrations};
-ghost use Rattle.am_board.specs.Found.{AreRising, asking_of, needs_told};
+ghost use Rattle.am_model.specs.Begin.{asked_about, label_sets};
+ghost use Rattle.am_model.specs.Configured.{HaveFewIntegrations};
+ghost use Rattle.am_board.specs.Beginning.{AreRising, asking_of, needs_told};
 ghost use Rattle.am_board.specs.Kept.{state_of};
 ghost use Rattle.am_board.specs.LogRows.{log_rows};
-ghost use Rattle.am_board.specs.declared.config.TheConstants.{MAX_INTEGRATIONS};
+ghost use Rattle.am_model.specs.declared.config.TheConstants.{MAX_INTEGRATIONS};
 
 use crate::config::{Config, Integration};
 use crate::flush::Told;

@@ -5,19 +5,21 @@ ghost use Rattle.std.specs.Ordering.{is_gt};
 ghost use Rattle.am_alerts.specs.RoutingTree.{route_at};
 ghost use Rattle.am_nflog.specs.Log.{is_known};
 ghost use Rattle.am_nflog.specs.declared.key.LogKey.{LogKey};
-ghost use Rattle.am_board.specs.Begin.{asked_of, due_cmp, taken};
-ghost use Rattle.am_board.specs.Causes.{begin_cause};
-ghost use Rattle.am_board.specs.History.{entry, reply_of, IsFresh};
+ghost use Rattle.am_model.specs.Begin.{asked_of, due_cmp, taken};
+ghost use Rattle.am_model.specs.Causes.{begin_cause};
+ghost use Rattle.am_model.specs.Records.{entry};
+ghost use Rattle.am_board.specs.History.{reply_of, IsFresh};
 ghost use Rattle.am_board.specs.Kept.{state_of, group_state, flush_state};
 ghost use Rattle.am_board.specs.LogRows.{log_rows};
-ghost use Rattle.am_board.specs.Lists.{lesser};
-ghost use Rattle.am_board.specs.Opening.{IsOpening};
-ghost use Rattle.am_board.specs.State.{moment, same_name};
+ghost use Rattle.am_model.specs.Lists.{lesser};
+ghost use Rattle.am_board.specs.Beginning.{IsOpening, may_take, first_of, IsFirst, IsTaking, IsEnd};
+ghost use Rattle.am_model.specs.State.{moment, same_name};
 ghost use Rattle.am_board.specs.Step.{IsGood, Accepts, Stays, IsAnswer};
-ghost use Rattle.am_board.specs.Taking.{may_take, first_of, IsFirst, IsTaking, IsEnd};
-ghost use Rattle.am_board.specs.declared.config.Config.{Config as ConfigData};
+ghost use Rattle.am_model.specs.declared.config.Config.{Config as ConfigData};
 ghost use Rattle.am_board.specs.declared.group.Group.{Group};
-ghost use Rattle.am_board.specs.declared.group.GroupName.{GroupName};
+ghost use Rattle.am_model.specs.declared.group.GroupName.{GroupName};
+
+pub use am_model::notice::LEAST_TIME;
 
 use crate::config::Config;
 use crate::fault::Fault;
@@ -31,9 +33,6 @@ use am_alerts::labels::Labels;
 use am_alerts::limits::MAX_MOMENT;
 use am_nflog::{LogKey, NfLog};
 use std::alloc::{AllocError, Global};
-
-/// A flush has at least so long until its deadline, in milliseconds.
-pub const LEAST_TIME: u64 = 10_000;
 
 /// The answer to a begin. A ticket must be spent.
 pub enum Begun {

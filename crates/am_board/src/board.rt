@@ -2,12 +2,13 @@
 ghost use Rattle.std.specs.Prelude.{◌≡◌, ◌≢◌, ◌≤◌, ◌↔◌, None, Some, length, IfOk, IfErr, OnOk, OnErr, MatchResult, IsErrOf};
 ghost use Rattle.std.specs.Option.{option_map};
 ghost use Rattle.am_alerts.specs.Fault.{ok_unless};
-ghost use Rattle.am_board.specs.Causes.{insert_cause, silence_cause, begin_cause, maintain_cause, note_cause};
-ghost use Rattle.am_board.specs.Config.{AreAllowed, config_fault};
-ghost use Rattle.am_board.specs.History.{opening, state_at, calls_at, IsToldAt, with_record, entry, call_of_silence, reply_of, IsFresh, HandsBack, IsForeign, IsNotOpen, IsNoteOf};
-ghost use Rattle.am_board.specs.LookBack.{LooksBack};
-ghost use Rattle.am_board.specs.Replay.{IsLegal};
-ghost use Rattle.am_board.specs.State.{moment, flush_numbered};
+ghost use Rattle.am_model.specs.Causes.{insert_cause, silence_cause, begin_cause, maintain_cause, note_cause};
+ghost use Rattle.am_model.specs.Config.{AreAllowed, config_fault};
+ghost use Rattle.am_board.specs.History.{opening, state_at, calls_at, IsToldAt, with_record, reply_of, IsFresh, HandsBack, IsForeign, IsNotOpen};
+ghost use Rattle.am_model.specs.Records.{entry, call_of_silence, IsNoteOf};
+ghost use Rattle.am_model.specs.look_back.Laws.{LooksBack};
+ghost use Rattle.am_model.specs.Replay.{IsLegal};
+ghost use Rattle.am_model.specs.State.{moment, flush_numbered};
 ghost use Rattle.am_board.specs.Step.{IsAnswer, IsNoteAnswer};
 
 use crate::begin::{Begun, take_group};

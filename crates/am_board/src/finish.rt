@@ -3,18 +3,18 @@ ghost use Rattle.std.specs.Prelude.{◌≡◌, ℕ, ◌+◌, ◌<◌, ◌^◌, �
 ghost use Rattle.std.specs.List.{list_all, list_any, IsDistinct};
 ghost use Rattle.am_alerts.specs.Labels.{same_label_set};
 ghost use Rattle.am_nflog.specs.Log.{is_known};
-ghost use Rattle.am_board.specs.Finish.{has_succeeded as succeeds, is_delivered as says_delivered, is_leaving, leaves_by, finished_group, log_with};
+ghost use Rattle.am_model.specs.Finish.{has_succeeded as succeeds, is_delivered as says_delivered, is_leaving, leaves_by, finished_group, log_with};
 ghost use Rattle.am_board.specs.Group.{names_of};
-ghost use Rattle.am_board.specs.History.{entry};
-ghost use Rattle.am_board.specs.Insert.{same_group};
+ghost use Rattle.am_model.specs.Records.{entry};
+ghost use Rattle.am_model.specs.Insert.{same_group};
 ghost use Rattle.am_board.specs.Kept.{IsAsked, asked_state_of, member_state, stamped, group_state, flush_state};
 ghost use Rattle.am_board.specs.LogRows.{log_rows};
-ghost use Rattle.am_board.specs.Lists.{without, changed_where};
-ghost use Rattle.am_board.specs.Logged.{told_row, logged_of, rows_with, KnowTheSame};
-ghost use Rattle.am_board.specs.State.{same_name, is_named, members_in};
+ghost use Rattle.am_model.specs.Lists.{without, changed_where};
+ghost use Rattle.am_board.specs.Finishing.{told_row, logged_of, rows_with, KnowTheSame};
+ghost use Rattle.am_model.specs.State.{same_name, is_named, members_in};
 ghost use Rattle.am_board.specs.Step.{IsGood, Accepts};
-ghost use Rattle.am_board.specs.declared.config.Config.{Config as ConfigData};
-ghost use Rattle.am_board.specs.declared.views.RowView.{RowView};
+ghost use Rattle.am_model.specs.declared.config.Config.{Config as ConfigData};
+ghost use Rattle.am_model.specs.declared.views.RowView.{RowView};
 
 use crate::flush::{Asked, Leaving, OpenFlush, Told};
 use crate::group::{Group, GroupName, Member};

@@ -1,7 +1,7 @@
 //! Open flushes.
 ghost use Rattle.std.specs.Prelude.{◌≡◌, ◌+◌, ◌<◌, ◌==◌, ◌^◌, length, position, IfSome};
 ghost use Rattle.std.specs.List.{list_any};
-ghost use Rattle.am_board.specs.State.{same_name};
+ghost use Rattle.am_model.specs.State.{same_name};
 
 use crate::group::GroupName;
 use am_alerts::labels::Labels;

@@ -3,11 +3,11 @@ ghost use Rattle.std.specs.Prelude.{◌≡◌, ◌&&◌, IfOk, filter, map};
 ghost use Rattle.std.specs.List.{IsDistinct};
 ghost use Rattle.am_alerts.specs.AlertData.{is_resolved};
 ghost use Rattle.am_nflog.specs.Members.{is_empty};
-ghost use Rattle.am_board.specs.Begin.{alert_cmp, label_sets};
-ghost use Rattle.am_board.specs.Found.{AreFound, AreRising, IsFound, leaving_member, sent_where, told_of};
-ghost use Rattle.am_board.specs.Insert.{same_alert, same_member};
+ghost use Rattle.am_model.specs.Begin.{alert_cmp, label_sets};
+ghost use Rattle.am_board.specs.Beginning.{AreFound, AreRising, IsFound, leaving_member, sent_where, told_of};
+ghost use Rattle.am_model.specs.Insert.{same_alert, same_member};
 ghost use Rattle.am_board.specs.Kept.{group_state, state_of};
-ghost use Rattle.am_board.specs.Lists.{in_order};
+ghost use Rattle.am_model.specs.Lists.{in_order};
 
 use crate::config::Config;
 use crate::flush::{Leaving, Told};

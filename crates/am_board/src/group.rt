@@ -1,43 +1,18 @@
 //! Aggregation groups.
-ghost use Rattle.std.specs.Prelude.{◌≡◌, ◌+◌, ◌<◌, ◌≤◌, ◌&&◌, length, map, min, nat_lt, not, position, true, if◌then◌else◌, vec_len, vec_capacity, IfOk, IfSome, OnOk};
+ghost use Rattle.std.specs.Prelude.{◌≡◌, ◌+◌, ◌<◌, ◌≤◌, ◌&&◌, length, map, min, nat_lt, not, position, true, if◌then◌else◌, vec_len, vec_capacity, IfSome, OnOk};
 ghost use Rattle.am_alerts.specs.Labels.{same_label_set};
-ghost use Rattle.am_board.specs.Begin.{count_resolved, without_resolved};
+ghost use Rattle.am_model.specs.Begin.{count_resolved, without_resolved};
 ghost use Rattle.am_board.specs.Group.{Fits, IsReserved};
-ghost use Rattle.am_board.specs.Insert.{same_member, wait_of, group_with};
+ghost use Rattle.am_model.specs.Insert.{same_member, wait_of, group_with};
 ghost use Rattle.am_board.specs.Kept.{member_state, group_state};
-ghost use Rattle.am_board.specs.Lists.{put_in};
-ghost use Rattle.am_board.specs.declared.config.Config.{Config};
+ghost use Rattle.am_model.specs.Lists.{put_in};
+ghost use Rattle.am_model.specs.declared.config.Config.{Config};
+
+pub use am_model::group::GroupName;
 
 use am_alerts::alert::Alert;
 use am_alerts::labels::Labels;
-use am_alerts::sequence::Copied;
-use std::alloc::{AllocError, Global};
-
-/// What identifies a group: the position of its route, and its group labels. Names are ordered by
-/// position, then by labels.
-#[derive(Debug, Drop, PartialEq, Eq, PartialOrd, Ord, Hash)]
-pub struct GroupName {
-    pub route: u32,
-    pub labels: Labels,
-}
-
-impl GroupName {
-    /// A copy of this name.
-    pub fn copy(&self, alloc: Global) -> Result<GroupName, AllocError>
-        ensures { IfOk result (λ name. name ≡ self.now) }
-    {
-        Ok(GroupName {
-            route: self.route,
-            labels: self.labels.copy(alloc)?,
-        })
-    }
-}
-
-impl Copied for GroupName {
-    fn copied(&self, alloc: Global) -> Result<GroupName, AllocError> {
-        self.copy(alloc)
-    }
-}
+use std::alloc::AllocError;
 
 /// An alert of a group, with the stamp of the insert that put it there.
 #[derive(Debug, Drop)]

@@ -2,16 +2,16 @@
 ghost use Rattle.std.specs.Prelude.{◌≡◌, ℕ, suc, ◌+◌, ◌<◌, ◌≤◌, count_by, false, fold, is_none, length, map, position, None, IfSome, IfOk, IfErr, OnOk, All, MatchResult, vec_len, vec_capacity};
 ghost use Rattle.am_alerts.specs.RoutingTree.{RoutingTree, routes_of};
 ghost use Rattle.am_board.specs.Group.{names_of, AreRouted, AddsAtMost, HasRoom};
-ghost use Rattle.am_board.specs.Causes.{insert_cause, is_full, is_name_too_many};
-ghost use Rattle.am_board.specs.History.{entry};
-ghost use Rattle.am_board.specs.Insert.{same_alert, put_into_group, names_for, after_insert};
+ghost use Rattle.am_model.specs.Causes.{insert_cause, is_full, is_name_too_many};
+ghost use Rattle.am_model.specs.Records.{entry};
+ghost use Rattle.am_model.specs.Insert.{same_alert, put_into_group, names_for, after_insert};
 ghost use Rattle.am_board.specs.Kept.{state_of, member_state, group_state};
 ghost use Rattle.am_board.specs.Step.{IsGood, Accepts, Stays, IsAnswer};
-ghost use Rattle.am_board.specs.Placement.{IsReservedState, IsReadyFor, IsEmptyWithRoom, HaveRoom, AreRoutedPlacements, IsPlacementOf, name_at, stamped_alert};
-ghost use Rattle.am_board.specs.State.{MemberState, same_name};
+ghost use Rattle.am_board.specs.Inserting.{IsReservedState, IsReadyFor, IsEmptyWithRoom, HaveRoom, AreRoutedPlacements, IsPlacementOf, name_at, stamped_alert};
+ghost use Rattle.am_model.specs.State.{MemberState, same_name};
 ghost use Rattle.am_alerts.specs.declared.limits.TheConstants.{MAX_MOMENT};
-ghost use Rattle.am_board.specs.declared.config.Config.{Config};
-ghost use Rattle.am_board.specs.declared.group.GroupName.{GroupName};
+ghost use Rattle.am_model.specs.declared.config.Config.{Config};
+ghost use Rattle.am_model.specs.declared.group.GroupName.{GroupName};
 
 use crate::config::Config;
 use crate::fault::Fault;

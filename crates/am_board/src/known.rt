@@ -1,8 +1,8 @@
 //! Known alerts, found by their labels.
 ghost use Rattle.std.specs.Prelude.{◌≡◌, ◌<◌, ◌≤◌, [], length, position, IfSome, OnOk};
 ghost use Rattle.am_alerts.specs.Labels.{same_label_set};
-ghost use Rattle.am_board.specs.Insert.{same_alert};
-ghost use Rattle.am_board.specs.Lists.{put_in};
+ghost use Rattle.am_model.specs.Insert.{same_alert};
+ghost use Rattle.am_model.specs.Lists.{put_in};
 
 use am_alerts::alert::Alert;
 use am_alerts::labels::Labels;

@@ -5,7 +5,6 @@
 mod asking;
 pub mod begin;
 pub mod board;
-pub mod config;
 pub mod fault;
 mod finish;
 mod flush;
@@ -14,14 +13,16 @@ pub mod group;
 mod groups;
 mod insert;
 mod known;
-pub mod law;
 mod maintain;
 mod note;
-pub mod notice;
 mod opening;
-pub mod reason;
-pub mod record;
 mod silence;
 mod state;
 pub mod ticket;
 pub mod views;
+
+pub use am_model::config;
+pub use am_model::law;
+pub use am_model::notice;
+pub use am_model::reason;
+pub use am_model::record;

@@ -1,7 +1,7 @@
 //! Maintenance.
 ghost use Rattle.std.specs.Prelude.{◌≡◌, ℕ, None, MatchResult, vec_len};
-ghost use Rattle.am_board.specs.Causes.{maintain_cause};
-ghost use Rattle.am_board.specs.History.{entry};
+ghost use Rattle.am_model.specs.Causes.{maintain_cause};
+ghost use Rattle.am_model.specs.Records.{entry};
 ghost use Rattle.am_board.specs.Kept.{state_of};
 ghost use Rattle.am_board.specs.Step.{IsGood, Accepts, Stays, IsAnswer};
 

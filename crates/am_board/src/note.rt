@@ -1,18 +1,18 @@
 //! Notes: a success that is logged at once.
 ghost use Rattle.std.specs.Prelude.{◌≡◌, ℕ, ◌+◌, ◌<◌, ◌^◌, Bool, true, List, None, Some, slice_get, slice_index_or, map, vec_len, All, IsPermutation, IsSome, IfOk, IfErr, OnOk, MatchResult};
 ghost use Rattle.std.specs.Option.{option_map};
-ghost use Rattle.am_board.specs.Causes.{flush_cause, asked_cause};
-ghost use Rattle.am_board.specs.Finish.{log_with};
-ghost use Rattle.am_board.specs.History.{IsNoteOf};
+ghost use Rattle.am_model.specs.Causes.{flush_cause, asked_cause};
+ghost use Rattle.am_model.specs.Finish.{log_with};
+ghost use Rattle.am_model.specs.Records.{IsNoteOf};
 ghost use Rattle.am_board.specs.Kept.{IsAsked, asked_state_of, flush_state, state_of};
 ghost use Rattle.am_board.specs.LogRows.{log_rows};
-ghost use Rattle.am_board.specs.Logged.{row_for, KnowTheSame, IsReadyAt, IsNotedAt};
-ghost use Rattle.am_board.specs.Note.{is_ready, asked_by};
+ghost use Rattle.am_board.specs.Finishing.{row_for, KnowTheSame, IsReadyAt, IsNotedAt};
+ghost use Rattle.am_model.specs.Note.{is_ready, asked_by};
 ghost use Rattle.am_board.specs.Noting.{IsNoting};
-ghost use Rattle.am_board.specs.State.{State as Data, flush_numbered};
+ghost use Rattle.am_model.specs.State.{State as Data, flush_numbered};
 ghost use Rattle.am_board.specs.Step.{IsGood, Accepts, Stays, IsNoteAnswer};
-ghost use Rattle.am_board.specs.declared.config.Config.{Config as ConfigData};
-ghost use Rattle.am_board.specs.declared.views.RowView.{RowView};
+ghost use Rattle.am_model.specs.declared.config.Config.{Config as ConfigData};
+ghost use Rattle.am_model.specs.declared.views.RowView.{RowView};
 
 use crate::config::Config;
 use crate::fault::NoteFault;

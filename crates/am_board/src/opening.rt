@@ -1,12 +1,11 @@
 //! What the begin of a flush puts into the board and its ticket.
 ghost use Rattle.std.specs.Prelude.{◌≡◌, ◌<◌, ◌≤◌, IfOk, length, map, slice_index_or, vec_len};
 ghost use Rattle.std.specs.List.{IsDistinct};
-ghost use Rattle.am_board.specs.Begin.{asked_of};
-ghost use Rattle.am_board.specs.Configured.{HaveFewIntegrations};
-ghost use Rattle.am_board.specs.Found.{AreRising, IsFlushAsking, IsFound, asked_asking, asking_of, notice_asking};
-ghost use Rattle.am_board.specs.Insert.{same_member};
+ghost use Rattle.am_model.specs.Begin.{asked_of};
+ghost use Rattle.am_model.specs.Configured.{HaveFewIntegrations};
+ghost use Rattle.am_board.specs.Beginning.{AreRising, IsFlushAsking, IsFound, asked_asking, asking_of, notice_asking, IsOpening, IsPlan};
+ghost use Rattle.am_model.specs.Insert.{same_member};
 ghost use Rattle.am_board.specs.Kept.{state_of, group_state};
-ghost use Rattle.am_board.specs.Opening.{IsOpening, IsPlan};
 ghost use Rattle.am_board.specs.Step.{IsGood};
 
 use crate::asking::{Asking, asked};

@@ -3,12 +3,12 @@ ghost use Rattle.std.specs.Prelude.{◌≡◌, ℕ, ◌<◌, ◌==◌, None, IfO
 ghost use Rattle.std.specs.List.{position};
 ghost use Rattle.am_alerts.specs.Fault.{ok_unless};
 ghost use Rattle.am_mute.specs.Silence.{SilenceData};
-ghost use Rattle.am_board.specs.Causes.{silence_cause};
-ghost use Rattle.am_board.specs.History.{entry, call_of_silence};
+ghost use Rattle.am_model.specs.Causes.{silence_cause};
+ghost use Rattle.am_model.specs.Records.{entry, call_of_silence};
 ghost use Rattle.am_board.specs.Kept.{state_of};
-ghost use Rattle.am_board.specs.Lists.{put_in};
+ghost use Rattle.am_model.specs.Lists.{put_in};
 ghost use Rattle.am_board.specs.Step.{IsGood, Accepts, Stays, IsAnswer};
-ghost use Rattle.am_board.specs.Upkeep.{same_silence};
+ghost use Rattle.am_model.specs.Upkeep.{same_silence};
 
 use crate::config::Config;
 use crate::fault::Fault;

@@ -1,7 +1,8 @@
 //! The ticket of an open flush.
 ghost use Rattle.std.specs.Prelude.{◌≡◌, ℕ, Some, None, MatchResult, slice_get};
 ghost use Rattle.std.specs.Option.{option_and_then};
-ghost use Rattle.am_board.specs.Ticket.{outcome_of as first_outcome, has_something_for as has_something, report_fault, recorded};
+ghost use Rattle.am_model.specs.Ticket.{outcome_of as first_outcome, report_fault, recorded};
+ghost use Rattle.am_model.specs.Notice.{has_something_for as has_something};
 
 use crate::fault::ReportFault;
 use crate::group::GroupName;
@@ -23,8 +24,8 @@ pub struct Ticket {
 
 impl Model for Ticket {
     ghost use Rattle.std.specs.Prelude.{◌+◌, ◌≤◌, vec_len, vec_capacity};
-    ghost use Rattle.am_board.specs.Data.{TicketData};
-    ghost use Rattle.am_board.specs.Ticket.{count_unreported};
+    ghost use Rattle.am_model.specs.Ticket.{TicketData};
+    ghost use Rattle.am_model.specs.Ticket.{count_unreported};
 
     ghost Value = { TicketData };
 

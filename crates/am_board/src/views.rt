@@ -2,13 +2,15 @@
 ghost use Rattle.std.specs.Prelude.{◌≡◌, ◌*◌, ◌≤◌, ◌++◌, [], ◌∷◌, All, IfOk, OnOk, length, map, sum_by, vec_len};
 ghost use Rattle.std.specs.List.{IsDistinct};
 ghost use Rattle.std.specs.Option.{option_copied};
-ghost use Rattle.am_board.specs.declared.config.TheConstants.{MAX_GROUPS, MAX_FLUSHES, MAX_HISTORY};
+ghost use Rattle.am_model.specs.declared.config.TheConstants.{MAX_GROUPS, MAX_FLUSHES, MAX_HISTORY};
 ghost use Rattle.am_board.specs.History.{state_at};
-ghost use Rattle.am_board.specs.Insert.{same_member};
+ghost use Rattle.am_model.specs.Insert.{same_member};
 ghost use Rattle.am_board.specs.Kept.{state_of, group_state};
 ghost use Rattle.am_board.specs.LogRows.{row_under, log_rows};
-ghost use Rattle.am_board.specs.Laws.{IsConsistent};
-ghost use Rattle.am_board.specs.Views.{row_views, group_view, group_views, summary, summary_at, summary_data, glance, glance_at};
+ghost use Rattle.am_model.specs.Laws.{IsConsistent};
+ghost use Rattle.am_model.specs.Views.{row_views, group_view, group_views, summary, summary_at, summary_data, glance, glance_at};
+
+pub use am_model::views::{Glance, GroupView, RowView, Summary};
 
 use crate::board::Board;
 use crate::found::by_labels;
@@ -16,55 +18,9 @@ use crate::group::{Group, GroupName, Member};
 use crate::state::State;
 use am_alerts::alert::Alert;
 use am_alerts::labels::Labels;
-use am_alerts::sequence::{Sequence, copy_all};
+use am_alerts::sequence::copy_all;
 use am_nflog::{LogKey, LogRow, NfLog};
 use std::alloc::{AllocError, Global};
-
-/// A log row. Moments are in milliseconds, and label sets in their order.
-#[derive(Debug, Drop)]
-pub struct RowView {
-    pub group: GroupName,
-    pub integration: u32,
-    pub moment: u64,
-    pub expiry: u64,
-    pub firing: Sequence<Labels>,
-    pub resolved: Sequence<Labels>,
-}
-
-/// A group. Its alerts are in the order of their labels.
-#[derive(Debug, Drop)]
-pub struct GroupView {
-    pub group: GroupName,
-    /// When it is flushed next, in milliseconds.
-    pub due: u64,
-    /// Whether it was flushed since it was made.
-    pub flushed: bool,
-    pub alerts: Sequence<Alert>,
-}
-
-/// How much there is on a board.
-#[derive(Clone, Copy, Debug, PartialEq, Eq)]
-pub struct Summary {
-    /// Accepted calls.
-    pub calls: usize,
-    pub groups: usize,
-    /// Alerts over all groups.
-    pub alerts: usize,
-    /// Open flushes.
-    pub flushes: usize,
-    /// Rows of the log.
-    pub entries: usize,
-}
-
-/// How much there is on a board, without its alerts and rows.
-#[derive(Clone, Copy, Debug, PartialEq, Eq)]
-pub struct Glance {
-    /// Accepted calls.
-    pub calls: usize,
-    pub groups: usize,
-    /// Open flushes.
-    pub flushes: usize,
-}
 
 impl Board {
     /// How much there is, without alerts and rows. It reads three lengths, and takes no memory.

@@ -17,13 +17,13 @@ use Rattle.am_alerts.proofs.text.Text.TheSendSync as text
 use Rattle.am_alerts.proofs.sequence.Sequence.TheSendSync as sequence
 use Rattle.am_alerts.proofs.matcher.MatcherParts.TheSendSync as parts
 use Rattle.am_alerts.proofs.route.Route.TheSendSync as route
-use Rattle.am_board.proofs.config.Receiver.TheSendSync as receiver
-use Rattle.am_board.proofs.config.Limits.TheSendSync as limits
+use Rattle.am_model.proofs.config.Receiver.TheSendSync as receiver
+use Rattle.am_model.proofs.config.Limits.TheSendSync as limits
 use Rattle.am_board.proofs.known.Known.TheSendSync as known
 use Rattle.am_board.proofs.groups.Groups.TheSendSync as groups
 use Rattle.am_board.proofs.flush.OpenFlush.TheSendSync as flush
-use Rattle.am_board.proofs.record.Record.TheSendSync as line
-use Rattle.am_board.proofs.group.GroupName.TheSendSync as name
+use Rattle.am_model.proofs.record.Record.TheSendSync as line
+use Rattle.am_model.proofs.group.GroupName.TheSendSync as name
 use Rattle.am_alerts.proofs.labels.Labels.TheSendSync as labels
 use Rattle.am_nflog.proofs.log.NfLog.TheSendSync as log
 use Rattle.regex_hir.specs.contracts.hir.Hir as hir_row
@@ -39,7 +39,7 @@ use Rattle.am_alerts.specs.contracts.route.Child as child_row
 use Rattle.am_alerts.specs.contracts.route.Routes as routes_row
 use Rattle.am_mute.specs.contracts.silence.Silence as silence_row
 use Rattle.am_mute.specs.contracts.inhibit.InhibitRule as rule_row
-use Rattle.am_board.specs.contracts.config.Config as config_row
+use Rattle.am_model.specs.contracts.config.Config as config_row
 use Rattle.am_board.specs.contracts.state.State as state_row
 use Rattle.am_board.specs.contracts.board.Board as board_row
 

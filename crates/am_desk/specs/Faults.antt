@@ -1,7 +1,7 @@
 -- The numbers of faults, and the fault of an opening by its board's.
 use Rattle.std.specs.Prelude.{ℕ}
-use Rattle.am_board.specs.declared.fault.BoardFault.{BoardFault}
-use Rattle.am_board.specs.declared.fault.BoardFault.TheVariants as board
+use Rattle.am_model.specs.declared.fault.BoardFault.{BoardFault}
+use Rattle.am_model.specs.declared.fault.BoardFault.TheVariants as board
 use Rattle.am_desk.specs.declared.fault.OpenFault.{OpenFault}
 use Rattle.am_desk.specs.declared.fault.OpenFault.TheVariants.{NoMemory, BadConfig}
 use Rattle.am_desk.specs.declared.fault.CloseCause.{CloseCause}

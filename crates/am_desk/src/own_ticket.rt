@@ -1,9 +1,9 @@
 //! Tickets of which it is known that this desk gave them.
 ghost use Rattle.std.specs.Prelude.{◌≡◌, None, Some, IfOk, OnErr, MatchResult};
-ghost use Rattle.am_board.specs.History.{entry};
-ghost use Rattle.am_board.specs.Ticket.{report_fault, recorded};
-ghost use Rattle.am_board.specs.declared.record.Call.TheVariants as call;
-ghost use Rattle.am_board.specs.declared.record.Reply.TheVariants as reply;
+ghost use Rattle.am_model.specs.Records.{entry};
+ghost use Rattle.am_model.specs.Ticket.{report_fault, recorded};
+ghost use Rattle.am_model.specs.declared.record.Call.TheVariants as call;
+ghost use Rattle.am_model.specs.declared.record.Reply.TheVariants as reply;
 ghost use Rattle.am_desk.specs.Calls.{Called, NoOpenFlush};
 ghost use Rattle.am_desk.specs.Known.{Looks};
 
@@ -33,7 +33,7 @@ pub struct NotOpen;
 
 impl<N: Name> Model for OwnTicket<N> {
     ghost use Rattle.std.specs.Prelude.{◌≡◌};
-    ghost use Rattle.am_board.specs.Data.{TicketData};
+    ghost use Rattle.am_model.specs.Ticket.{TicketData};
 
     ghost Value = { TicketData };
 

@@ -1,7 +1,7 @@
 -- One more try of a notice.
 use Rattle.std.proofs.Common.{◌≡◌, List, [], ◌∷◌, ◌++◌, sym, ap, ◌∙◌}
 use Rattle.std.proofs.lemmas.List.{append_assoc, map-append}
-use Rattle.am_board.specs.Data.{NoticeData}
+use Rattle.am_model.specs.Notice.{NoticeData}
 use Rattle.am_retry.specs.Attempts.{Try}
 use Rattle.am_pool.specs.declared.courier.Tried.{Tried}
 use Rattle.am_pool.specs.Tries.{tried_for, all_tried_for}

@@ -1,6 +1,6 @@
 -- Workers brought together, the last first.
 use Rattle.std.proofs.Common.{◌≡◌, ℕ, ◌+◌, List, [], ◌∷◌, ◌++◌, set, refl, sym, ap, ◌∙◌, arith, append_assoc, append-nil}
-use Rattle.am_board.specs.declared.notice.Report.{Report}
+use Rattle.am_model.specs.declared.notice.Report.{Report}
 use Rattle.crossbeam_queue.specs.Passes.{view}
 use Rattle.am_pool.specs.Dealt.{weigh}
 use Rattle.am_pool.specs.Work.{Run}

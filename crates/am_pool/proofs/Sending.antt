@@ -8,7 +8,7 @@ use Rattle.std.proofs.lemmas.List.Sums.{sum_by-cons}
 use Rattle.std.proofs.lemmas.List.Elements.{All-from_recursion}
 use Rattle.std.proofs.lemmas.Option.{slice_get_within}
 use Rattle.atomic_table.specs.Seated.{TableId}
-use Rattle.am_board.specs.declared.notice.Report.{Report}
+use Rattle.am_model.specs.declared.notice.Report.{Report}
 use Rattle.am_pool.specs.Delivery.{is_starved}
 use Rattle.am_pool.specs.declared.courier.Tried.{Tried}
 use Rattle.crossbeam_queue.specs.Passes.{view}

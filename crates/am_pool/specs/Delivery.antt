@@ -4,8 +4,8 @@ use Rattle.am_retry.specs.declared.outcome.Outcome.{Outcome}
 use Rattle.am_retry.specs.declared.outcome.Outcome.TheVariants.{Delivered, Refused, Expired, Starved}
 use Rattle.am_retry.specs.Attempts.{Told, end_after, tries_of}
 use Rattle.am_retry.specs.Outcome.{HasOutcome}
-use Rattle.am_board.specs.Data.{NoticeData}
-use Rattle.am_board.specs.declared.notice.Report.{Report}
+use Rattle.am_model.specs.Notice.{NoticeData}
+use Rattle.am_model.specs.declared.notice.Report.{Report}
 use Rattle.am_pool.specs.declared.courier.Tried.{Tried}
 use Rattle.am_pool.specs.Tries.{all_tried_for}
 

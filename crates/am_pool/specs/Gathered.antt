@@ -1,7 +1,7 @@
 -- Workers that are done, and how their reports are put in order.
 use Rattle.std.specs.List.{AllByRecursion}
 use Rattle.std.specs.Prelude.{◌≡◌, ◌<◌, ◌+◌, ℕ, List, [], ◌∷◌, ◌++◌, ⊤, All, Some, length, slice_get, slice_set}
-use Rattle.am_board.specs.declared.notice.Report.{Report}
+use Rattle.am_model.specs.declared.notice.Report.{Report}
 use Rattle.am_pool.specs.declared.courier.Tried.{Tried}
 use Rattle.crossbeam_queue.specs.Passes.{view}
 use Rattle.am_pool.specs.Dealt.{weigh, numbers}

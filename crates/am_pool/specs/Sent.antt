@@ -1,7 +1,7 @@
 -- What a pool sends, and when it sends nothing.
 use Rattle.std.specs.Prelude.{◌≡◌, ◌+◌, ◌==◌, ℕ, ◌||◌, nat_lt, List, [], ◌∷◌, ⊤, length, Option, None, Some, slice_get, sum_by}
 use Rattle.std.specs.Prelude.{count_by, if◌then◌else◌}
-use Rattle.am_board.specs.declared.notice.Report.{Report}
+use Rattle.am_model.specs.declared.notice.Report.{Report}
 use Rattle.am_retry.specs.Attempts.{Told, end_after}
 use Rattle.am_retry.specs.Outcome.{HasOutcome}
 use Rattle.am_pool.specs.Delivery.{IsDelivery, IsReportOn, is_starved}

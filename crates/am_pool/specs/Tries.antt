@@ -1,6 +1,6 @@
 -- The tries of a courier.
 use Rattle.std.specs.Prelude.{ℕ, List, map}
-use Rattle.am_board.specs.Data.{NoticeData}
+use Rattle.am_model.specs.Notice.{NoticeData}
 use Rattle.am_retry.specs.Attempts.{Try}
 use Rattle.am_pool.specs.declared.courier.Sent.{Sent}
 use Rattle.am_pool.specs.declared.courier.Tried.{Tried}

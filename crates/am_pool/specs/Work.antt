@@ -2,8 +2,8 @@
 use Rattle.std.specs.Prelude.{◌≡◌, ◌<◌, ◌≤◌, ℕ, false, List, [], ◌∷◌, ◌++◌, length, map, Some, slice_get, vec_len, vec_capacity}
 use Rattle.atomic_table.specs.Seated.{TableId}
 use Rattle.am_alerts.specs.declared.limits.TheConstants.{MAX_MOMENT}
-use Rattle.am_board.specs.declared.notice.Report.{Report}
-use Rattle.am_board.specs.Ticket.{is_nothing}
+use Rattle.am_model.specs.declared.notice.Report.{Report}
+use Rattle.am_model.specs.Notice.{is_nothing}
 use Rattle.am_pool.specs.Delivery.{IsDelivery, IsReportOn}
 use Rattle.am_pool.specs.declared.courier.Tried.{Tried}
 use Rattle.crossbeam_queue.specs.Passes.{view}

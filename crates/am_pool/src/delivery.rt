@@ -1,7 +1,7 @@
 //! The delivery of one notice.
 ghost use Rattle.std.specs.Prelude.{◌≡◌, ◌≤◌, false};
 ghost use Rattle.am_alerts.specs.declared.limits.TheConstants.{MAX_MOMENT};
-ghost use Rattle.am_board.specs.Ticket.{is_nothing};
+ghost use Rattle.am_model.specs.Notice.{is_nothing};
 ghost use Rattle.am_pool.specs.Delivery.{IsDelivery, IsReportOn};
 
 use crate::Courier;

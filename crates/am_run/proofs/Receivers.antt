@@ -2,9 +2,9 @@
 use Rattle.std.proofs.Common.{◌≡◌, ℕ, Bool, true, false, List, [], ◌∷◌, find, refl, if◌then◌else◌}
 use Rattle.std.specs.Prelude.{Option, Some, None}
 use Rattle.std.specs.Str.{bytes_eq}
-use Rattle.am_board.specs.declared.config.Receiver.{Receiver}
-use Rattle.am_board.specs.declared.config.Integration.{Integration}
-use Rattle.am_board.specs.Configured.{integrations_named}
+use Rattle.am_model.specs.declared.config.Receiver.{Receiver}
+use Rattle.am_model.specs.declared.config.Integration.{Integration}
+use Rattle.am_model.specs.Configured.{integrations_named}
 
 -- the integrations that a receiver has, or none
 abbrev pub integrations_in : Option Receiver → List Integration

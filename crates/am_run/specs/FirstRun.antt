@@ -7,16 +7,16 @@ use Rattle.am_alerts.specs.declared.route.GroupBy.TheVariants.{Names}
 use Rattle.am_alerts.specs.RoutingTree.{tree_of}
 use Rattle.am_retry.specs.declared.outcome.Outcome.{Outcome}
 use Rattle.am_retry.specs.declared.outcome.Outcome.TheVariants.{Delivered}
-use Rattle.am_board.specs.declared.config.Config.{Config}
-use Rattle.am_board.specs.declared.group.GroupName.{GroupName}
-use Rattle.am_board.specs.declared.notice.Report.{Report}
-use Rattle.am_board.specs.declared.record.Call.TheVariants as call
-use Rattle.am_board.specs.declared.record.Record.{Record}
-use Rattle.am_board.specs.declared.record.Reply.TheVariants as reply
-use Rattle.am_board.specs.Config.{greatest_limits}
-use Rattle.am_board.specs.Data.{NoticeData}
-use Rattle.am_board.specs.History.{entry}
-use Rattle.am_board.specs.Replay.{IsLegal}
+use Rattle.am_model.specs.declared.config.Config.{Config}
+use Rattle.am_model.specs.declared.group.GroupName.{GroupName}
+use Rattle.am_model.specs.declared.notice.Report.{Report}
+use Rattle.am_model.specs.declared.record.Call.TheVariants as call
+use Rattle.am_model.specs.declared.record.Record.{Record}
+use Rattle.am_model.specs.declared.record.Reply.TheVariants as reply
+use Rattle.am_model.specs.Config.{greatest_limits}
+use Rattle.am_model.specs.Notice.{NoticeData}
+use Rattle.am_model.specs.Records.{entry}
+use Rattle.am_model.specs.Replay.{IsLegal}
 use Rattle.am_run.specs.Report.{report_text}
 
 -- the label set of the alert

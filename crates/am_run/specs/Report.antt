@@ -7,22 +7,22 @@ use Rattle.am_alerts.specs.Route.{key_text_of}
 use Rattle.am_alerts.specs.declared.labels.Label.{Label}
 use Rattle.am_retry.specs.declared.outcome.Outcome.{Outcome}
 use Rattle.am_retry.specs.declared.outcome.Outcome.TheVariants.{Delivered, Refused, Expired, Starved}
-use Rattle.am_board.specs.declared.config.Config.{Config}
-use Rattle.am_board.specs.declared.group.GroupName.{GroupName}
-use Rattle.am_board.specs.declared.notice.Report.{Report}
-use Rattle.am_board.specs.declared.record.Call.{Call}
-use Rattle.am_board.specs.declared.record.Call.TheVariants as call
-use Rattle.am_board.specs.declared.record.Record.{Record}
-use Rattle.am_board.specs.declared.record.Reply.{Reply}
-use Rattle.am_board.specs.declared.record.Reply.TheVariants as reply
-use Rattle.am_board.specs.declared.views.GroupView.{GroupView}
-use Rattle.am_board.specs.declared.views.RowView.{RowView}
-use Rattle.am_board.specs.Config.{kind_at}
-use Rattle.am_board.specs.Configured.{route_of, integrations_named}
-use Rattle.am_board.specs.Data.{NoticeData}
-use Rattle.am_board.specs.Replay.{replay, IsLegal}
-use Rattle.am_board.specs.Ticket.{is_nothing, outcome_of}
-use Rattle.am_board.specs.Views.{row_views, group_views}
+use Rattle.am_model.specs.declared.config.Config.{Config}
+use Rattle.am_model.specs.declared.group.GroupName.{GroupName}
+use Rattle.am_model.specs.declared.notice.Report.{Report}
+use Rattle.am_model.specs.declared.record.Call.{Call}
+use Rattle.am_model.specs.declared.record.Call.TheVariants as call
+use Rattle.am_model.specs.declared.record.Record.{Record}
+use Rattle.am_model.specs.declared.record.Reply.{Reply}
+use Rattle.am_model.specs.declared.record.Reply.TheVariants as reply
+use Rattle.am_model.specs.declared.views.GroupView.{GroupView}
+use Rattle.am_model.specs.declared.views.RowView.{RowView}
+use Rattle.am_model.specs.Config.{kind_at}
+use Rattle.am_model.specs.Configured.{route_of, integrations_named}
+use Rattle.am_model.specs.Notice.{NoticeData, is_nothing}
+use Rattle.am_model.specs.Replay.{replay, IsLegal}
+use Rattle.am_model.specs.Ticket.{outcome_of}
+use Rattle.am_model.specs.Views.{row_views, group_views}
 
 -- the label set of an alert
 abbrev pub labels_of : AlertData → List Label

@@ -3,10 +3,10 @@ ghost use Rattle.std.specs.Prelude.{◌≡◌, ◌++◌, ◌≤◌, ◌↔◌, c
 ghost use Rattle.std.specs.List.{flat_map, join_by};
 ghost use Rattle.std.specs.Option.{option_copied};
 ghost use Rattle.am_alerts.specs.LabelText.{label_set_text};
-ghost use Rattle.am_board.specs.Config.{kind_at};
-ghost use Rattle.am_board.specs.Configured.{route_of, integrations_named};
-ghost use Rattle.am_board.specs.Replay.{IsLegal};
-ghost use Rattle.am_board.specs.Ticket.{outcome_of};
+ghost use Rattle.am_model.specs.Config.{kind_at};
+ghost use Rattle.am_model.specs.Configured.{route_of, integrations_named};
+ghost use Rattle.am_model.specs.Replay.{IsLegal};
+ghost use Rattle.am_model.specs.Ticket.{outcome_of};
 ghost use Rattle.am_run.specs.Report.{labels_of, as_it_is, list_text, lists_text, group_text, integration_text, target_text, reported_text, outcome_text, notice_line, row_line, flushed_text, group_line, calls_line, finished_with, outcomes_in, outcome_in, attempts_on, notices_in, line_on, notice_lines, report_text};
 
 use am_alerts::alert::Alert;

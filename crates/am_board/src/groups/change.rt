@@ -2,14 +2,14 @@
 ghost use Rattle.std.specs.Prelude.{◌≡◌, ℕ, ◌+◌, ◌<◌, ◌≤◌, ◌∷◌, [], ◌++◌, None, count_by, length, map, not, position, slice_index_or, true, IfSome, OnOk};
 ghost use Rattle.std.specs.List.{IsDistinct};
 ghost use Rattle.am_alerts.specs.RoutingTree.{RoutingTree};
-ghost use Rattle.am_board.specs.Begin.{count_resolved, without_resolved};
-ghost use Rattle.am_board.specs.Finish.{is_leaving};
+ghost use Rattle.am_model.specs.Begin.{count_resolved, without_resolved};
+ghost use Rattle.am_model.specs.Finish.{is_leaving};
 ghost use Rattle.am_board.specs.Group.{names_of, AreRouted, HasRoom, Fits, IsReserved};
 ghost use Rattle.am_board.specs.Groups.{Changes, Gets};
 ghost use Rattle.am_board.specs.Kept.{member_state, stamped, group_state};
-ghost use Rattle.am_board.specs.Lists.{without};
-ghost use Rattle.am_board.specs.State.{same_name};
-ghost use Rattle.am_board.specs.Upkeep.{is_deserted};
+ghost use Rattle.am_model.specs.Lists.{without};
+ghost use Rattle.am_model.specs.State.{same_name};
+ghost use Rattle.am_model.specs.Upkeep.{is_deserted};
 
 use super::Groups;
 use crate::finish::take_leaving;

@@ -1,9 +1,9 @@
 use Rattle.std.proofs.Common.{◌∙◌, map, sym, ap}
 use Rattle.std.proofs.lemmas.Result.{IfOk-weaker}
 use Rattle.am_alerts.specs.declared.route.Route.{Route}
-use Rattle.am_board.specs.Found.{asking_of}
+use Rattle.am_board.specs.Beginning.{asking_of}
 use Rattle.am_board.specs.Kept.{state_of}
-use Rattle.am_board.proofs.Askings.{about-nobody, about-receiver, few-found}
+use Rattle.am_board.proofs.beginning.Askings.{about-nobody, about-receiver, few-found}
 use Rattle.am_board.proofs.asking.asked.Goals as goal
 
 pub returns-in_default : goal.returns-in_default

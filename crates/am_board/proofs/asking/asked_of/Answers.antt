@@ -1,8 +1,8 @@
 use Rattle.std.proofs.Common.{◌≡◌, ◌<◌, length, Vec, Global, refl, ap, ◌∙◌, arith}
 use Rattle.am_board.specs.declared.asking.Asking.{Asking}
-use Rattle.am_board.specs.Found.{needs_told}
+use Rattle.am_board.specs.Beginning.{needs_told}
 use Rattle.am_board.specs.LogRows.{log_rows}
-use Rattle.am_board.proofs.Askings.{asked-more, asked-same, needs_told-key}
+use Rattle.am_board.proofs.beginning.Askings.{asked-more, asked-same, needs_told-key}
 use Rattle.am_board.proofs.asking.asked_of.Goals as goal
 use Rattle.am_board.proofs.asking.asked_of.Goals.{then-needs_update+in_ok-push, else-needs_update}
 

@@ -1,6 +1,6 @@
 use Rattle.std.proofs.Common.{◌≡◌, take, map, filter}
 use Rattle.std.specs.List.{enumerate_from}
-use Rattle.am_board.specs.Found.{asking_of, needs_told}
+use Rattle.am_board.specs.Beginning.{asking_of, needs_told}
 use Rattle.am_board.specs.LogRows.{log_rows}
 use Rattle.am_board.proofs.asking.asked_of.Given as goal
 

@@ -1,11 +1,11 @@
 use Rattle.std.proofs.Common.{[], ◌∷◌, ◌++◌, refl, ap, ◌∙◌, arith}
-use Rattle.am_board.specs.Begin.{without_resolved, count_resolved}
-use Rattle.am_board.specs.History.{entry}
+use Rattle.am_model.specs.Begin.{without_resolved, count_resolved}
+use Rattle.am_model.specs.Records.{entry}
 use Rattle.am_board.specs.Kept.{group_state}
 use Rattle.am_board.specs.declared.group.Group.{Group}
-use Rattle.am_board.specs.declared.record.Call.TheVariants.{Begin}
-use Rattle.am_board.specs.declared.record.Reply.TheVariants.{Quiet}
-use Rattle.am_board.proofs.BeginEnds.{begun_state, accepts_quiet}
+use Rattle.am_model.specs.declared.record.Call.TheVariants.{Begin}
+use Rattle.am_model.specs.declared.record.Reply.TheVariants.{Quiet}
+use Rattle.am_board.proofs.beginning.Ends.{begun_state, accepts_quiet}
 use Rattle.am_board.proofs.begin.begin_quiet.Goals as goal
 
 pub returns : goal.returns

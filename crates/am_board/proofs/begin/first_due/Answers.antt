@@ -1,11 +1,11 @@
 use Rattle.std.proofs.Common.{◌≡◌, ◌-◌, Some, map, drop, ap, sym, subst, ◌∙◌, arith}
 use Rattle.std.specs.Prelude.{Option, slice_index_or}
-use Rattle.am_board.specs.Begin.{due_cmp}
+use Rattle.am_model.specs.Begin.{due_cmp}
 use Rattle.am_board.specs.Kept.{group_state, flush_state}
-use Rattle.am_board.specs.Lists.{lesser}
-use Rattle.am_board.specs.State.{GroupState}
-use Rattle.am_board.specs.Taking.{first_of, IsFirst}
-use Rattle.am_board.proofs.FirstDue.{first_of-taken, first_of-passed, first_seen}
+use Rattle.am_model.specs.Lists.{lesser}
+use Rattle.am_model.specs.State.{GroupState}
+use Rattle.am_board.specs.Beginning.{first_of, IsFirst}
+use Rattle.am_board.proofs.beginning.FirstDue.{first_of-taken, first_of-passed, first_seen}
 use Rattle.am_board.proofs.begin.first_due.Goals as goal
 
 pub loop-i-preserved-then-may_begin : goal.loop-i-preserved-then-may_begin

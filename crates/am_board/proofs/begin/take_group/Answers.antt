@@ -2,13 +2,12 @@ use Rattle.std.proofs.Common.{◌<◌, List, length, Ok, Some, vec_len, ap, arit
 use Rattle.std.proofs.lemmas.Result.{err_from_is_err_and}
 use Rattle.am_board.specs.declared.begin.Taking.{Taking}
 use Rattle.am_board.specs.declared.group.Group.{Group}
-use Rattle.am_board.specs.Causes.{begin_cause, opens_by}
+use Rattle.am_model.specs.Causes.{begin_cause, opens_by}
 use Rattle.am_board.specs.Kept.{state_of, group_state}
-use Rattle.am_board.specs.Opening.{IsPlan}
-use Rattle.am_board.specs.State.{moment}
-use Rattle.am_board.specs.Taking.{IsTaking}
-use Rattle.am_board.proofs.BeginCauses.{told, taken-none, cause-closed, cause-few, cause-quiet, planned_none, planned_some, planned_err, stays_same, taking_found}
-use Rattle.am_board.proofs.GroupNames.{routed_at}
+use Rattle.am_board.specs.Beginning.{IsPlan, IsTaking}
+use Rattle.am_model.specs.State.{moment}
+use Rattle.am_board.proofs.beginning.Causes.{told, taken-none, cause-closed, cause-few, cause-quiet, planned_none, planned_some, planned_err, stays_same, taking_found}
+use Rattle.am_board.proofs.keeping.GroupNames.{routed_at}
 use Rattle.am_board.proofs.begin.take_group.Goals as goal
 use Rattle.am_board.proofs.begin.take_group.Goals.{After-at, After-due_again-due, In-Some-2}
 

@@ -2,19 +2,19 @@ use Rattle.std.proofs.Common.{◌≡◌, ◌∙◌, ◌<◌, ◌++◌, ◌∷◌
 use Rattle.std.specs.Prelude.{IsPermutation}
 use Rattle.std.proofs.lemmas.List.{get_or_default}
 use Rattle.am_retry.specs.declared.outcome.Outcome.{Outcome}
-use Rattle.am_board.specs.Finish.{leaves_by, finished_group}
-use Rattle.am_board.specs.History.{entry}
+use Rattle.am_model.specs.Finish.{leaves_by, finished_group}
+use Rattle.am_model.specs.Records.{entry}
 use Rattle.am_board.specs.Kept.{flush_state, group_state}
 use Rattle.am_board.specs.LogRows.{log_rows}
-use Rattle.am_board.specs.Lists.{changed_where}
-use Rattle.am_board.specs.Logged.{logged_of, rows_with}
-use Rattle.am_board.specs.State.{is_named, members_in}
+use Rattle.am_model.specs.Lists.{changed_where}
+use Rattle.am_board.specs.Finishing.{logged_of, rows_with}
+use Rattle.am_model.specs.State.{is_named, members_in}
 use Rattle.am_board.specs.Step.{Accepts}
 use Rattle.am_board.specs.declared.flush.OpenFlush.{OpenFlush}
-use Rattle.am_board.specs.declared.record.Call.TheVariants.{Finish}
-use Rattle.am_board.specs.declared.record.Reply.TheVariants as replies
+use Rattle.am_model.specs.declared.record.Call.TheVariants.{Finish}
+use Rattle.am_model.specs.declared.record.Reply.TheVariants as replies
 use Rattle.am_board.specs.declared.state.State as kept
-use Rattle.am_board.proofs.Finished.{finish-accepted}
+use Rattle.am_board.proofs.finishing.Finished.{finish-accepted}
 use Rattle.am_board.proofs.finish.finish_flush.Goals as goal
 
 pub returns-clause-accepted : goal.returns-clause-accepted

@@ -4,8 +4,8 @@ use Rattle.std.proofs.lemmas.Iterator.Adapters.{YieldsList-from_vec}
 use Rattle.std.proofs.lemmas.Iterator.Consumers.{YieldsList-turn}
 use Rattle.am_board.specs.Kept.{IsAsked}
 use Rattle.am_board.specs.LogRows.{log_rows}
-use Rattle.am_board.specs.Logged.{rows_with}
-use Rattle.am_board.proofs.Logging.{rows_with-more, logged-more, logged-at-most, asked-of}
+use Rattle.am_board.specs.Finishing.{rows_with}
+use Rattle.am_board.proofs.finishing.Logging.{rows_with-more, logged-more, logged-at-most, asked-of}
 use Rattle.am_board.proofs.finish.log_rest.Goals as goal
 
 pub overflow_add-logged : goal.overflow_add-logged

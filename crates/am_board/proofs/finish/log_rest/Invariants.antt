@@ -1,7 +1,7 @@
 use Rattle.std.proofs.Common.{◌≡◌, length}
 use Rattle.std.specs.Prelude.{IsPermutation}
 use Rattle.am_board.specs.LogRows.{log_rows}
-use Rattle.am_board.specs.Logged.{logged_of, rows_with, KnowTheSame}
+use Rattle.am_board.specs.Finishing.{logged_of, rows_with, KnowTheSame}
 use Rattle.am_board.proofs.finish.log_rest.Given as goal
 
 -- the rows of those so far that succeeded are in the log

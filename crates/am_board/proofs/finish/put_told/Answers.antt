@@ -7,12 +7,12 @@ use Rattle.am_nflog.proofs.CallerLemmas.{is_known-keys, keys-with_row}
 use Rattle.am_nflog.specs.Log.{Slots, key_eq, is_known, with_row, HasDistinctKeys}
 use Rattle.am_nflog.specs.declared.key.LogKey.{LogKey}
 use Rattle.am_nflog.specs.declared.row.LogRow.{LogRow}
-use Rattle.am_board.specs.Finish.{log_with}
+use Rattle.am_model.specs.Finish.{log_with}
 use Rattle.am_board.specs.LogRows.{row_under, log_rows}
-use Rattle.am_board.specs.State.{same_name}
-use Rattle.am_board.specs.declared.group.GroupName.{GroupName}
-use Rattle.am_board.specs.declared.views.RowView.{RowView}
-use Rattle.am_board.proofs.LogRows.{with_row-rows}
+use Rattle.am_model.specs.State.{same_name}
+use Rattle.am_model.specs.declared.group.GroupName.{GroupName}
+use Rattle.am_model.specs.declared.views.RowView.{RowView}
+use Rattle.am_board.proofs.keeping.LogRows.{with_row-rows}
 use Rattle.am_board.proofs.finish.put_told.Goals as goal
 
 -- a row that is put leaves the keys as they were

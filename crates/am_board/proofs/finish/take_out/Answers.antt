@@ -1,15 +1,15 @@
 use Rattle.std.proofs.Common.{◌≡◌, ◌∙◌, true, false, Some, None, List, map, get_or, count_by, sym, ap}
 use Rattle.std.specs.Prelude.{position}
 use Rattle.std.specs.List.{list_all}
-use Rattle.am_board.specs.Finish.{has_succeeded, leaves_by, finished_group, is_leaving}
+use Rattle.am_model.specs.Finish.{has_succeeded, leaves_by, finished_group, is_leaving}
 use Rattle.am_board.specs.Group.{names_of}
 use Rattle.am_board.specs.Kept.{asked_state_of, member_state, group_state, flush_state, stamped}
-use Rattle.am_board.specs.State.{same_name, members_in}
-use Rattle.am_board.specs.Lists.{without}
+use Rattle.am_model.specs.State.{same_name, members_in}
+use Rattle.am_model.specs.Lists.{without}
 use Rattle.am_board.specs.declared.flush.Leaving.{Leaving}
 use Rattle.am_board.specs.declared.group.Group.{Group}
-use Rattle.am_board.proofs.GroupNames.{names_set}
-use Rattle.am_board.proofs.TakenOut.{members-found, members-missing, changed-missing, changed-found, none-leave, groups-stay, count-left, group-left}
+use Rattle.am_board.proofs.keeping.GroupNames.{names_set}
+use Rattle.am_board.proofs.finishing.TakenOut.{members-found, members-missing, changed-missing, changed-found, none-leave, groups-stay, count-left, group-left}
 use Rattle.am_board.proofs.finish.take_out.Goals as goal
 
 pub returns-then-not-have_succeeded-clause-groups : goal.returns-then-not-have_succeeded-clause-groups

@@ -1,5 +1,5 @@
 use Rattle.std.proofs.Common.{◌∙◌, rules}
-use Rattle.am_board.proofs.InOrder.{sorted_by_labels}
+use Rattle.am_model.proofs.states.InOrder.{sorted_by_labels}
 use Rattle.am_board.proofs.found.by_labels.Goals as goal
 
 pub returns : goal.returns

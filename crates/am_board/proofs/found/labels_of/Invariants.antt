@@ -1,5 +1,5 @@
 use Rattle.std.proofs.Common.{◌≡◌, take}
-use Rattle.am_board.specs.Begin.{label_sets}
+use Rattle.am_model.specs.Begin.{label_sets}
 use Rattle.am_board.proofs.found.labels_of.Given as goal
 
 -- the label sets of the alerts so far

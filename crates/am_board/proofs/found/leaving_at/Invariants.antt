@@ -1,6 +1,6 @@
 use Rattle.std.proofs.Common.{◌≡◌, take, filter, map}
 use Rattle.am_alerts.specs.AlertData.{is_resolved}
-use Rattle.am_board.specs.Found.{leaving_member}
+use Rattle.am_board.specs.Beginning.{leaving_member}
 use Rattle.am_board.proofs.found.leaving_at.Given as goal
 
 -- those of the members so far that are resolved

@@ -1,5 +1,5 @@
 use Rattle.std.proofs.Common.{take}
-use Rattle.am_board.specs.Found.{AreFound}
+use Rattle.am_board.specs.Beginning.{AreFound}
 use Rattle.am_board.specs.Kept.{state_of}
 use Rattle.am_board.proofs.found.unmuted.Given as goal
 

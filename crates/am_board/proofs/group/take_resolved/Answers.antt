@@ -2,8 +2,8 @@ use Rattle.std.proofs.Common.{◌≡◌, not, length, filter, map, ap, ◌∙◌
 use Rattle.std.proofs.lemmas.Fn.{filter_same}
 use Rattle.am_alerts.specs.AlertData.{is_resolved}
 use Rattle.am_board.specs.Kept.{group_state, member_state}
-use Rattle.am_board.specs.State.{MemberState}
-use Rattle.am_board.proofs.ListChanges.{map-without, count-without}
+use Rattle.am_model.specs.State.{MemberState}
+use Rattle.am_model.proofs.lists.Removals.{map-without, count-without}
 use Rattle.am_board.proofs.group.take_resolved.Goals as goal
 
 pub returns-clause-group : goal.returns-clause-group

@@ -1,12 +1,12 @@
 use Rattle.std.proofs.Common.{◌≡◌, ◌∙◌, ◌+◌, false, ◌++◌, ◌∷◌, [], List, Some, None, map, get_or, inl, inr, refl, sym, ap, subst, arith, suc}
-use Rattle.am_board.specs.declared.group.GroupName.{GroupName}
-use Rattle.am_board.specs.Insert.{wait_of, new_group, group_with}
+use Rattle.am_model.specs.declared.group.GroupName.{GroupName}
+use Rattle.am_model.specs.Insert.{wait_of, new_group, group_with}
 use Rattle.am_board.specs.Kept.{group_state}
 use Rattle.am_board.specs.declared.group.Group.{Group}
 use Rattle.am_board.specs.Group.{names_of, HasRoom}
-use Rattle.am_board.proofs.GroupNames.{names_set, names-push, room_set, room_push}
-use Rattle.am_board.proofs.GroupRoom.{named_at}
-use Rattle.am_board.proofs.Placing.{place_in, put_group_at, put_group_new, new_group_is}
+use Rattle.am_board.proofs.keeping.GroupNames.{names_set, names-push, room_set, room_push}
+use Rattle.am_board.proofs.inserting.GroupRoom.{named_at}
+use Rattle.am_board.proofs.inserting.Placing.{place_in, put_group_at, put_group_new, new_group_is}
 use Rattle.am_board.proofs.insert.place.Goals as goal
 use Rattle.am_board.proofs.insert.place.Goals.{In-Some}
 

@@ -5,10 +5,10 @@ use Rattle.std.proofs.lemmas.List.Elements.{All-pop, All-weaker}
 use Rattle.std.proofs.lemmas.List.Sorted.{All-permutation}
 use Rattle.am_board.specs.declared.insert.Placement.{Placement}
 use Rattle.am_board.specs.Group.{names_of, HasRoom}
-use Rattle.am_board.specs.Insert.{put_into_group}
+use Rattle.am_model.specs.Insert.{put_into_group}
 use Rattle.am_board.specs.Kept.{group_state}
-use Rattle.am_board.specs.Placement.{IsEmptyWithRoom, HaveRoom, IsPlacementOf}
-use Rattle.am_board.proofs.GroupNames.{routed_added}
+use Rattle.am_board.specs.Inserting.{IsEmptyWithRoom, HaveRoom, IsPlacementOf}
+use Rattle.am_board.proofs.keeping.GroupNames.{routed_added}
 use Rattle.am_board.proofs.insert.place_all.Goals as goal
 
 pub loop-placement-init : goal.loop-placement-init

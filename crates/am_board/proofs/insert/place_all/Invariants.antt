@@ -3,11 +3,11 @@ use Rattle.std.specs.Prelude.{All, fold, reverse}
 use Rattle.am_alerts.specs.RoutingTree.{RoutingTree}
 use Rattle.am_alerts.specs.declared.limits.TheConstants.{MAX_MOMENT}
 use Rattle.am_board.specs.Group.{names_of, AreRouted}
-use Rattle.am_board.specs.Insert.{put_into_group}
+use Rattle.am_model.specs.Insert.{put_into_group}
 use Rattle.am_board.specs.Kept.{group_state}
-use Rattle.am_board.specs.Placement.{IsEmptyWithRoom, HaveRoom, AreRoutedPlacements, IsPlacementOf}
-use Rattle.am_board.specs.State.{MemberState}
-use Rattle.am_board.specs.declared.config.Config.{Config}
+use Rattle.am_board.specs.Inserting.{IsEmptyWithRoom, HaveRoom, AreRoutedPlacements, IsPlacementOf}
+use Rattle.am_model.specs.State.{MemberState}
+use Rattle.am_model.specs.declared.config.Config.{Config}
 use Rattle.am_board.proofs.insert.place_all.Given as goal
 
 -- what is left to be put has its room, all that was put is of a route that is there, and with what is left the groups are those that are asked for

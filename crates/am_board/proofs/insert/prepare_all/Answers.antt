@@ -1,10 +1,10 @@
 use Rattle.std.proofs.Common.{◌≡◌, ◌∙◌, ◌<◌, ◌≤◌, List, [], ◌∷◌, ◌++◌, ℕ, length, map, sym, ap, subst, arith}
 use Rattle.std.specs.Prelude.{All}
 use Rattle.std.proofs.lemmas.List.Elements.{All-push}
-use Rattle.am_board.specs.Placement.{IsEmptyWithRoom, IsPlacementOf, name_at, stamped_alert}
-use Rattle.am_board.specs.declared.group.GroupName.{GroupName}
+use Rattle.am_board.specs.Inserting.{IsEmptyWithRoom, IsPlacementOf, name_at, stamped_alert}
+use Rattle.am_model.specs.declared.group.GroupName.{GroupName}
 use Rattle.am_board.specs.declared.insert.Placement.{Placement}
-use Rattle.am_board.proofs.Placing.{names_more}
+use Rattle.am_board.proofs.inserting.Placing.{names_more}
 use Rattle.am_board.proofs.insert.prepare_all.Goals as goal
 
 pub prepare-requires : goal.prepare-requires

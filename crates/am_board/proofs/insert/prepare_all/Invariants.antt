@@ -1,6 +1,6 @@
 use Rattle.std.proofs.Common.{◌≡◌, map, take, vec_len, length}
 use Rattle.std.specs.Prelude.{All}
-use Rattle.am_board.specs.Placement.{IsEmptyWithRoom, AreRoutedPlacements, IsPlacementOf, name_at, stamped_alert}
+use Rattle.am_board.specs.Inserting.{IsEmptyWithRoom, AreRoutedPlacements, IsPlacementOf, name_at, stamped_alert}
 use Rattle.am_board.proofs.insert.prepare_all.Given as goal
 
 -- the placements so far are those of the routes so far, and have their room

@@ -2,17 +2,17 @@ use Rattle.std.proofs.Common.{◌≡◌, ◌∙◌, ◌+◌, ◌++◌, ◌∷◌
 use Rattle.std.specs.Prelude.{All}
 use Rattle.am_alerts.specs.AlertData.{AlertData}
 use Rattle.am_board.specs.declared.insert.Placement.{Placement}
-use Rattle.am_board.specs.Insert.{names_for, inserted}
+use Rattle.am_model.specs.Insert.{names_for, inserted}
 use Rattle.am_board.specs.Kept.{state_of, IsPrepared}
-use Rattle.am_board.specs.declared.config.Config.{Config}
+use Rattle.am_model.specs.declared.config.Config.{Config}
 use Rattle.am_board.specs.declared.flush.OpenFlush.{OpenFlush}
-use Rattle.am_board.specs.declared.record.Inserted.{Inserted}
-use Rattle.am_board.specs.declared.record.Record.{Record}
-use Rattle.am_board.specs.declared.record.Call.TheVariants as call
-use Rattle.am_board.specs.declared.record.Reply.TheVariants as reply
-use Rattle.am_board.specs.History.{entry}
+use Rattle.am_model.specs.declared.record.Inserted.{Inserted}
+use Rattle.am_model.specs.declared.record.Record.{Record}
+use Rattle.am_model.specs.declared.record.Call.TheVariants as call
+use Rattle.am_model.specs.declared.record.Reply.TheVariants as reply
+use Rattle.am_model.specs.Records.{entry}
 use Rattle.am_board.specs.declared.state.State as kept
-use Rattle.am_board.proofs.Inserting.{answer_groups, no_cause, makes_many, makes_few, made_told, count_is, told_is, insert_leaves, stays_itself, stays_reserved, agrees_same}
+use Rattle.am_board.proofs.inserting.Inserting.{answer_groups, no_cause, makes_many, makes_few, made_told, count_is, told_is, insert_leaves, stays_itself, stays_reserved, agrees_same}
 use Rattle.am_board.proofs.insert.put_alert.Goals as goal
 
 pub returns-then-len-made : goal.returns-then-len-made

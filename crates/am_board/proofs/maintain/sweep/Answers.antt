@@ -1,19 +1,19 @@
 use Rattle.std.proofs.Common.{◌≡◌, ℕ, List, ◌++◌, ◌∷◌, [], length, arith, Some, None, sym, ap, ◌∙◌, subst, vec_len, count_by, if◌then◌else◌}
 use Rattle.std.specs.Prelude.{IsPermutation, All}
 use Rattle.std.proofs.lemmas.List.Sorted.{IsPermutation-refl}
-use Rattle.am_board.specs.declared.fault.Fault.TheVariants.{HistoryFull}
-use Rattle.am_board.specs.declared.record.Call.TheVariants.{Maintain}
-use Rattle.am_board.specs.declared.record.Reply.TheVariants.{Maintained}
-use Rattle.am_board.specs.declared.views.RowView.{RowView}
-use Rattle.am_board.specs.History.{entry}
+use Rattle.am_model.specs.declared.fault.Fault.TheVariants.{HistoryFull}
+use Rattle.am_model.specs.declared.record.Call.TheVariants.{Maintain}
+use Rattle.am_model.specs.declared.record.Reply.TheVariants.{Maintained}
+use Rattle.am_model.specs.declared.views.RowView.{RowView}
+use Rattle.am_model.specs.Records.{entry}
 use Rattle.am_board.specs.Kept.{state_of, IsPrepared}
 use Rattle.am_board.specs.LogRows.{log_rows}
-use Rattle.am_board.specs.Lists.{without}
-use Rattle.am_board.specs.State.{State, GroupState, moment}
-use Rattle.am_board.specs.Upkeep.{has_expired}
-use Rattle.am_board.proofs.LogRows.{log_rows-collected, expired_count-rows}
-use Rattle.am_board.proofs.Maintenance.{prepared-collected}
-use Rattle.am_board.proofs.Staying.{not_full}
+use Rattle.am_model.specs.Lists.{without}
+use Rattle.am_model.specs.State.{State, GroupState, moment}
+use Rattle.am_model.specs.Upkeep.{has_expired}
+use Rattle.am_board.proofs.keeping.LogRows.{log_rows-collected, expired_count-rows}
+use Rattle.am_board.proofs.maintaining.Maintenance.{prepared-collected}
+use Rattle.am_board.proofs.keeping.Staying.{not_full}
 use Rattle.am_board.proofs.maintain.sweep.Goals as goal
 
 with_groups : (s : State) (rows : List RowView) (t u : ℕ) (gs hs : List GroupState) → t ≡ u → gs ≡ hs → ◌≡◌ {A = State} (record s { clock = t; groups = gs; rows = rows }) (record s { clock = u; groups = hs; rows = rows })

@@ -1,14 +1,14 @@
 use Rattle.std.proofs.Common.{◌≡◌, ◌∙◌, ◌==◌, Some, None, sym, ap, subst, rules}
 use Rattle.std.specs.Prelude.{position, slice_get, IfErr}
 use Rattle.std.specs.Option.{option_map}
-use Rattle.am_board.specs.Data.{NoticeData}
-use Rattle.am_board.specs.Causes.{flush_cause, asked_cause}
+use Rattle.am_model.specs.Notice.{NoticeData}
+use Rattle.am_model.specs.Causes.{flush_cause, asked_cause}
 use Rattle.am_board.specs.Kept.{flush_state}
-use Rattle.am_board.specs.Note.{asked_by}
-use Rattle.am_board.specs.State.{flush_numbered}
-use Rattle.am_board.specs.Ticket.{outcome_of}
+use Rattle.am_model.specs.Note.{asked_by}
+use Rattle.am_model.specs.State.{flush_numbered}
+use Rattle.am_model.specs.Ticket.{outcome_of}
 use Rattle.am_board.specs.declared.flush.OpenFlush.{OpenFlush}
-use Rattle.am_board.proofs.Noting.{flush-missing, flush-found, not-ready, notice-found, outcome-found}
+use Rattle.am_board.proofs.noting.Noting.{flush-missing, flush-found, not-ready, notice-found, outcome-found}
 use Rattle.am_board.proofs.note.find_noting.Goals as goal
 
 pub returns-in_default-clause-cause : goal.returns-in_default-clause-cause

@@ -1,11 +1,11 @@
 use Rattle.std.proofs.Common.{◌≡◌, ◌∙◌, ◌==◌, Option, Some, None, sym, ap, subst, rules}
 use Rattle.std.specs.Prelude.{position, IfErr}
-use Rattle.am_board.specs.Causes.{asked_cause}
+use Rattle.am_model.specs.Causes.{asked_cause}
 use Rattle.am_board.specs.Kept.{asked_state_of, flush_state}
-use Rattle.am_board.specs.Note.{asked_by}
-use Rattle.am_board.specs.State.{AskedState}
+use Rattle.am_model.specs.Note.{asked_by}
+use Rattle.am_model.specs.State.{AskedState}
 use Rattle.am_board.specs.declared.flush.Asked.{Asked}
-use Rattle.am_board.proofs.Noting.{asked-missing, asked-found}
+use Rattle.am_board.proofs.noting.Noting.{asked-missing, asked-found}
 use Rattle.am_board.proofs.note.find_ready.Goals as goal
 
 pub returns-in_default-clause-cause : goal.returns-in_default-clause-cause

@@ -1,19 +1,19 @@
 use Rattle.std.proofs.Common.{◌≡◌, ◌∙◌, ◌+◌, ◌≤◌, ◌++◌, ◌∷◌, [], Some, None, map, vec_len, vec_capacity, nat_eq, refl, sym, ap, subst, arith, rules, if◌then◌else◌}
 use Rattle.std.specs.Prelude.{IfErr, slice_get}
 use Rattle.std.specs.Vec.{with_item}
-use Rattle.am_board.specs.Causes.{is_full, flush_cause}
-use Rattle.am_board.specs.History.{entry}
+use Rattle.am_model.specs.Causes.{is_full, flush_cause}
+use Rattle.am_model.specs.Records.{entry}
 use Rattle.am_board.specs.Kept.{flush_state, state_of}
 use Rattle.am_board.specs.Noting.{IsNoting}
-use Rattle.am_board.specs.State.{flush_numbered}
+use Rattle.am_model.specs.State.{flush_numbered}
 use Rattle.am_board.specs.Step.{Stays, IsNoteAnswer}
-use Rattle.am_board.specs.Ticket.{outcome_of}
-use Rattle.am_board.specs.declared.fault.NoteFault.TheVariants as note
+use Rattle.am_model.specs.Ticket.{outcome_of}
+use Rattle.am_model.specs.declared.fault.NoteFault.TheVariants as note
 use Rattle.am_board.specs.declared.flush.OpenFlush.{OpenFlush}
-use Rattle.am_board.specs.declared.record.Call.TheVariants.{Note}
-use Rattle.am_board.specs.declared.record.Reply.TheVariants as replies
+use Rattle.am_model.specs.declared.record.Call.TheVariants.{Note}
+use Rattle.am_model.specs.declared.record.Reply.TheVariants as replies
 use Rattle.am_board.specs.declared.state.State as kept
-use Rattle.am_board.proofs.Noted.{element, stays-so, full-of, not-full-of, cause-left, note-accepted, answers, refused, the_notice, on-ok}
+use Rattle.am_board.proofs.noting.Noted.{element, stays-so, full-of, not-full-of, cause-left, note-accepted, answers, refused, the_notice, on-ok}
 use Rattle.am_board.proofs.note.note_success.Goals as goal
 use Rattle.am_board.proofs.note.note_success.Goals.{In_ok-found}
 

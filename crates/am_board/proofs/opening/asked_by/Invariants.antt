@@ -1,5 +1,5 @@
 use Rattle.std.proofs.Common.{◌≡◌, take, map}
-use Rattle.am_board.specs.Found.{asked_asking}
+use Rattle.am_board.specs.Beginning.{asked_asking}
 use Rattle.am_board.proofs.opening.asked_by.Given as goal
 
 -- each integration so far

@@ -1,5 +1,5 @@
 use Rattle.std.proofs.Common.{◌≡◌, take, map}
-use Rattle.am_board.specs.Found.{notice_asking}
+use Rattle.am_board.specs.Beginning.{notice_asking}
 use Rattle.am_board.proofs.opening.notices.Given as goal
 
 -- a notice for each integration so far

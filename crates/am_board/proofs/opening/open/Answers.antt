@@ -1,9 +1,9 @@
 use Rattle.std.proofs.Common.{◌≡◌, ◌∙◌, ◌+◌, ◌*◌, refl, ap, max, min, arith}
 use Rattle.am_alerts.specs.declared.route.Route.{Route}
-use Rattle.am_board.specs.declared.begin.TheConstants.{LEAST_TIME}
-use Rattle.am_board.specs.Begin.{asked_of, deadline_of}
+use Rattle.am_model.specs.declared.notice.TheConstants.{LEAST_TIME}
+use Rattle.am_model.specs.Begin.{asked_of, deadline_of}
 use Rattle.am_board.specs.Kept.{group_state, state_of}
-use Rattle.am_board.proofs.Openings.{all-spare, deadline-is, flush-is, kept_for-is, notices-are}
+use Rattle.am_board.proofs.beginning.Openings.{all-spare, deadline-is, flush-is, kept_for-is, notices-are}
 use Rattle.am_board.proofs.opening.open.Goals as goal
 
 pub returns : goal.returns

@@ -1,5 +1,5 @@
-use Rattle.am_board.proofs.GroupNames.{routed_at}
-use Rattle.am_board.proofs.Openings.{members-apart}
+use Rattle.am_board.proofs.keeping.GroupNames.{routed_at}
+use Rattle.am_board.proofs.beginning.Openings.{members-apart}
 use Rattle.am_board.proofs.opening.plan.Goals as goal
 
 pub plan_of-requires-clause-route : goal.plan_of-requires-clause-route

@@ -1,5 +1,5 @@
 use Rattle.am_board.specs.Kept.{group_state, state_of}
-use Rattle.am_board.proofs.Findings.{found-rises}
+use Rattle.am_board.proofs.beginning.Findings.{found-rises}
 use Rattle.am_board.proofs.opening.plan_of.Goals as goal
 
 pub asked-requires-clause-rising : goal.asked-requires-clause-rising

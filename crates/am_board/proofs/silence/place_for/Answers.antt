@@ -4,13 +4,13 @@ use Rattle.std.specs.List.{position, list_any}
 use Rattle.std.proofs.lemmas.Bool.Decides.{nat_tests}
 use Rattle.am_alerts.specs.Fault.{ok_unless}
 use Rattle.am_mute.specs.Silence.{SilenceData}
-use Rattle.am_board.specs.Causes.{is_full}
+use Rattle.am_model.specs.Causes.{is_full}
 use Rattle.am_board.specs.Kept.{state_of}
-use Rattle.am_board.specs.Upkeep.{same_silence}
-use Rattle.am_board.specs.declared.fault.Fault.{Fault}
-use Rattle.am_board.specs.declared.fault.Fault.TheVariants.{TooManySilences, HistoryFull}
-use Rattle.am_board.proofs.Searches.{is_some-position}
-use Rattle.am_board.proofs.Staying.{not_full}
+use Rattle.am_model.specs.Upkeep.{same_silence}
+use Rattle.am_model.specs.declared.fault.Fault.{Fault}
+use Rattle.am_model.specs.declared.fault.Fault.TheVariants.{TooManySilences, HistoryFull}
+use Rattle.am_model.proofs.lists.Places.{is_some-position}
+use Rattle.am_board.proofs.keeping.Staying.{not_full}
 use Rattle.am_board.proofs.silence.place_for.Goals as goal
 use Rattle.am_board.proofs.silence.place_for.Goals.{else-is_none-via-then-is_none+else-len-config, else-is_none-via-else-is_none}
 

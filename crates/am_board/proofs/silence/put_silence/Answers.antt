@@ -2,16 +2,16 @@ use Rattle.std.proofs.Common.{◌≡◌, ℕ, List, ◌++◌, ◌∷◌, [], ari
 use Rattle.std.proofs.lemmas.List.Sorted.{IsPermutation-refl}
 use Rattle.std.specs.List.{list_any, position}
 use Rattle.am_mute.specs.Silence.{SilenceData}
-use Rattle.am_board.specs.declared.record.Call.TheVariants.{Silence}
-use Rattle.am_board.specs.declared.record.Reply.TheVariants.{Silenced}
-use Rattle.am_board.specs.Causes.{silence_cause}
-use Rattle.am_board.specs.History.{entry}
+use Rattle.am_model.specs.declared.record.Call.TheVariants.{Silence}
+use Rattle.am_model.specs.declared.record.Reply.TheVariants.{Silenced}
+use Rattle.am_model.specs.Causes.{silence_cause}
+use Rattle.am_model.specs.Records.{entry}
 use Rattle.am_board.specs.Kept.{state_of}
-use Rattle.am_board.specs.Lists.{put_in}
-use Rattle.am_board.specs.State.{State}
-use Rattle.am_board.specs.Upkeep.{same_silence}
-use Rattle.am_board.proofs.Searches.{is_some-position}
-use Rattle.am_board.proofs.Staying.{no_fault, unless_value}
+use Rattle.am_model.specs.Lists.{put_in}
+use Rattle.am_model.specs.State.{State}
+use Rattle.am_model.specs.Upkeep.{same_silence}
+use Rattle.am_model.proofs.lists.Places.{is_some-position}
+use Rattle.am_board.proofs.keeping.Staying.{no_fault, unless_value}
 use Rattle.am_board.proofs.silence.put_silence.Goals as goal
 
 with_silences : (s : State) (t u : ℕ) (xs ys : List SilenceData) → t ≡ u → xs ≡ ys → ◌≡◌ {A = State} (record s { clock = t; silences = xs }) (record s { clock = u; silences = ys })

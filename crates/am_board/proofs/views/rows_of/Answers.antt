@@ -1,9 +1,9 @@
 use Rattle.std.proofs.Common.{rules, sym, ap, ◌∙◌, subst}
 use Rattle.std.specs.List.{IsDistinct}
-use Rattle.am_board.specs.Finish.{same_key}
-use Rattle.am_board.specs.Lists.{in_order}
-use Rattle.am_board.specs.Views.{row_cmp}
-use Rattle.am_board.proofs.InOrder.{sorted_by_row_key}
+use Rattle.am_model.specs.Finish.{same_key}
+use Rattle.am_model.specs.Lists.{in_order}
+use Rattle.am_model.specs.Views.{row_cmp}
+use Rattle.am_model.proofs.states.InOrder.{sorted_by_row_key}
 use Rattle.am_board.proofs.views.rows_of.Goals as goal
 
 pub returns : goal.returns

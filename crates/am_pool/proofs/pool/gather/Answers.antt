@@ -1,7 +1,7 @@
 use Rattle.std.proofs.Common.{◌≡◌, ◌<◌, Some, List, [], ◌∷◌, ◌++◌, length, sym, ap, ◌∙◌, arith}
 use Rattle.std.proofs.lemmas.List.Elements.{All-pop}
 use Rattle.crossbeam_queue.specs.Passes.{view, IsPassOf}
-use Rattle.am_board.specs.declared.notice.Report.{Report}
+use Rattle.am_model.specs.declared.notice.Report.{Report}
 use Rattle.am_pool.specs.Dealt.{weigh}
 use Rattle.am_pool.specs.Gathered.{AreBelow, placed, runs_back, parts_of, weigh_taken}
 use Rattle.am_pool.specs.declared.queue.Hand.{Hand}

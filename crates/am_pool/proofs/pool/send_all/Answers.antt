@@ -1,7 +1,7 @@
 use Rattle.std.proofs.Common.{◌<◌, ℕ, List, length, All, sym, ap, ◌∙◌, subst, arith}
 use Rattle.std.proofs.lemmas.List.Elements.{All-from_recursion, All-same, recursion_from_All}
 use Rattle.crossbeam_queue.specs.Passes.{view}
-use Rattle.am_board.specs.declared.notice.Report.{Report}
+use Rattle.am_model.specs.declared.notice.Report.{Report}
 use Rattle.am_pool.specs.Dealt.{weigh}
 use Rattle.am_pool.specs.Work.{Run}
 use Rattle.am_pool.specs.Gathered.{AreBelow, placed}

@@ -1,5 +1,5 @@
 use Rattle.std.proofs.Common.{sym, ap, ◌∙◌}
-use Rattle.am_board.specs.Configured.{route_of}
+use Rattle.am_model.specs.Configured.{route_of}
 use Rattle.am_run.proofs.Receivers.{integrations_in, integrations-found}
 use Rattle.am_run.proofs.report.integrations_of.Goals as goal
 

@@ -1,5 +1,5 @@
 use Rattle.std.proofs.Common.{◌≡◌, drop}
-use Rattle.am_board.specs.Ticket.{outcome_of}
+use Rattle.am_model.specs.Ticket.{outcome_of}
 use Rattle.am_run.proofs.report.outcome_of.Given as goal
 
 -- none of the pairs so far names the integration

@@ -1,11 +1,11 @@
 use Rattle.std.proofs.Common.{◌≡◌, None, subst}
 use Rattle.std.specs.Prelude.{IfOk}
-use Rattle.am_board.specs.declared.record.Call.TheVariants.{Begin}
+use Rattle.am_model.specs.declared.record.Call.TheVariants.{Begin}
 use Rattle.am_board.specs.History.{BoardData, reply_of, IsFresh}
 use Rattle.am_board.specs.Step.{IsAnswer}
-use Rattle.am_board.proofs.Calls.{recorded, told_now, refused, sound_again, caused_too, fresh_too}
-use Rattle.am_board.proofs.Limits.{begin_within, begin_caused}
-use Rattle.am_board.proofs.Sound.{good}
+use Rattle.am_board.proofs.keeping.Calls.{recorded, told_now, refused, sound_again, caused_too, fresh_too}
+use Rattle.am_board.proofs.keeping.Limits.{begin_within, begin_caused}
+use Rattle.am_board.proofs.keeping.Sound.{good}
 use Rattle.am_board.proofs.board.Board.begin.Goals as goal
 
 pub take_group-requires : goal.take_group-requires

@@ -1,11 +1,11 @@
 use Rattle.std.proofs.Common.{◌≡◌, None, ap, ◌∙◌, subst, arith}
 use Rattle.std.specs.Prelude.{◌==◌, position}
 use Rattle.am_board.specs.declared.flush.OpenFlush.{OpenFlush}
-use Rattle.am_board.specs.State.{flush_numbered}
-use Rattle.am_board.specs.Data.{TicketData}
+use Rattle.am_model.specs.State.{flush_numbered}
+use Rattle.am_model.specs.Ticket.{TicketData}
 use Rattle.am_board.specs.History.{BoardData, state_at}
-use Rattle.am_board.proofs.Closing.{none_open, not_none, finish_recorded, finish_told, finish_sound}
-use Rattle.am_board.proofs.Sound.{good}
+use Rattle.am_board.proofs.keeping.Closing.{none_open, not_none, finish_recorded, finish_told, finish_sound}
+use Rattle.am_board.proofs.keeping.Sound.{good}
 use Rattle.am_board.proofs.board.Board.finish.Goals as goal
 
 pub finish_flush-requires-clause-good : goal.finish_flush-requires-clause-good

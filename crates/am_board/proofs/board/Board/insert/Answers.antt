@@ -1,10 +1,10 @@
 use Rattle.std.proofs.Common.{◌≡◌, None}
-use Rattle.am_board.specs.declared.record.Call.TheVariants.{Insert}
-use Rattle.am_board.specs.declared.record.Reply.TheVariants as replies
+use Rattle.am_model.specs.declared.record.Call.TheVariants.{Insert}
+use Rattle.am_model.specs.declared.record.Reply.TheVariants as replies
 use Rattle.am_board.specs.Step.{IsAnswer}
-use Rattle.am_board.proofs.Calls.{recorded, told_now, refused, sound_again, caused}
-use Rattle.am_board.proofs.Limits.{insert_within, insert_caused}
-use Rattle.am_board.proofs.Sound.{good}
+use Rattle.am_board.proofs.keeping.Calls.{recorded, told_now, refused, sound_again, caused}
+use Rattle.am_board.proofs.keeping.Limits.{insert_within, insert_caused}
+use Rattle.am_board.proofs.keeping.Sound.{good}
 use Rattle.am_board.proofs.board.Board.insert.Goals as goal
 
 pub put_alert-requires : goal.put_alert-requires

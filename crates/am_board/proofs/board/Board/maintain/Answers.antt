@@ -1,10 +1,10 @@
 use Rattle.std.proofs.Common.{◌≡◌, None}
-use Rattle.am_board.specs.declared.record.Call.TheVariants.{Maintain}
-use Rattle.am_board.specs.declared.record.Reply.TheVariants as replies
+use Rattle.am_model.specs.declared.record.Call.TheVariants.{Maintain}
+use Rattle.am_model.specs.declared.record.Reply.TheVariants as replies
 use Rattle.am_board.specs.Step.{IsAnswer}
-use Rattle.am_board.proofs.Calls.{recorded, told_now, refused, sound_again, caused}
-use Rattle.am_board.proofs.Limits.{maintain_within, maintain_caused}
-use Rattle.am_board.proofs.Sound.{good}
+use Rattle.am_board.proofs.keeping.Calls.{recorded, told_now, refused, sound_again, caused}
+use Rattle.am_board.proofs.keeping.Limits.{maintain_within, maintain_caused}
+use Rattle.am_board.proofs.keeping.Sound.{good}
 use Rattle.am_board.proofs.board.Board.maintain.Goals as goal
 
 pub sweep-requires : goal.sweep-requires

@@ -3,14 +3,14 @@ use Rattle.std.specs.Prelude.{Result}
 use Rattle.std.specs.Option.{option_map}
 use Rattle.am_alerts.proofs.Faults.{some_from_err}
 use Rattle.am_alerts.specs.Fault.{ok_unless}
-use Rattle.am_board.specs.declared.config.Config.{Config}
-use Rattle.am_board.specs.declared.fault.BoardFault.{BoardFault}
-use Rattle.am_board.specs.declared.fault.BoardFault.TheVariants.{BadConfig}
-use Rattle.am_board.specs.declared.record.Record.{Record}
-use Rattle.am_board.specs.Config.{config_fault}
+use Rattle.am_model.specs.declared.config.Config.{Config}
+use Rattle.am_model.specs.declared.fault.BoardFault.{BoardFault}
+use Rattle.am_model.specs.declared.fault.BoardFault.TheVariants.{BadConfig}
+use Rattle.am_model.specs.declared.record.Record.{Record}
+use Rattle.am_model.specs.Config.{config_fault}
 use Rattle.am_board.specs.History.{BoardData, opening}
-use Rattle.am_board.proofs.Sound.{new_sound}
-use Rattle.am_board.proofs.Staying.{no_fault}
+use Rattle.am_board.proofs.keeping.Sound.{new_sound}
+use Rattle.am_board.proofs.keeping.Staying.{no_fault}
 use Rattle.am_board.proofs.board.Board.new.Goals as goal
 
 opened : (config : Config) (id : ℕ) (history : List Record) → history ≡ [] → ◌≡◌ {A = Result BoardData BoardFault} (Ok (record { config = config; id = id; history = history })) (Ok (opening config id))

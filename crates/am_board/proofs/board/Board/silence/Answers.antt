@@ -1,10 +1,10 @@
 use Rattle.std.proofs.Common.{◌≡◌, None}
-use Rattle.am_board.specs.History.{call_of_silence}
-use Rattle.am_board.specs.declared.record.Reply.TheVariants as replies
+use Rattle.am_model.specs.Records.{call_of_silence}
+use Rattle.am_model.specs.declared.record.Reply.TheVariants as replies
 use Rattle.am_board.specs.Step.{IsAnswer}
-use Rattle.am_board.proofs.Calls.{recorded, told_now, refused, sound_again, caused}
-use Rattle.am_board.proofs.Limits.{silence_within, silence_caused}
-use Rattle.am_board.proofs.Sound.{good}
+use Rattle.am_board.proofs.keeping.Calls.{recorded, told_now, refused, sound_again, caused}
+use Rattle.am_board.proofs.keeping.Limits.{silence_within, silence_caused}
+use Rattle.am_board.proofs.keeping.Sound.{good}
 use Rattle.am_board.proofs.board.Board.silence.Goals as goal
 
 pub put_silence-requires : goal.put_silence-requires

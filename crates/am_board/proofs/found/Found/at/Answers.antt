@@ -1,5 +1,5 @@
 use Rattle.am_board.specs.Kept.{state_of}
-use Rattle.am_board.proofs.Findings.{is_found}
+use Rattle.am_board.proofs.beginning.Findings.{is_found}
 use Rattle.am_board.proofs.found.Found.at.Goals as goal
 
 pub returns : goal.returns

@@ -2,10 +2,10 @@ use Rattle.std.proofs.Common.{◌≡◌, ◌∙◌, ℕ, List, Option, sym, ap, 
 use Rattle.std.specs.List.{position}
 use Rattle.am_alerts.specs.Labels.{same_label_set}
 use Rattle.am_alerts.specs.declared.labels.Label.{Label}
-use Rattle.am_board.specs.Insert.{same_member}
+use Rattle.am_model.specs.Insert.{same_member}
 use Rattle.am_board.specs.Kept.{member_state}
 use Rattle.am_board.specs.declared.group.Member.{Member}
-use Rattle.am_board.proofs.Places.{put_map_at, put_map_new}
+use Rattle.am_model.proofs.lists.Places.{put_map_at, put_map_new}
 use Rattle.am_board.proofs.group.Group.put.Goals as goal
 
 abbrev found : List Label → List Member → Option ℕ

@@ -5,13 +5,13 @@ use Rattle.std.specs.Map.{values_of}
 use Rattle.indexmap.specs.IndexMap.{insert_entry}
 use Rattle.am_board.specs.GroupList.{GroupList, name_of}
 use Rattle.am_board.specs.Keyed.{AreKeyed}
-use Rattle.am_board.specs.Lists.{put_in}
-use Rattle.am_board.specs.State.{same_name}
+use Rattle.am_model.specs.Lists.{put_in}
+use Rattle.am_model.specs.State.{same_name}
 use Rattle.am_board.specs.declared.group.Group.{Group}
-use Rattle.am_board.specs.declared.group.GroupName.{GroupName}
-use Rattle.am_board.proofs.GroupRoom.{same_name-decides}
-use Rattle.am_board.proofs.Keyed.{same_key, put_in-entries, AreKeyed-insert}
-use Rattle.am_board.proofs.Places.{put_new}
+use Rattle.am_model.specs.declared.group.GroupName.{GroupName}
+use Rattle.am_board.proofs.inserting.GroupRoom.{same_name-decides}
+use Rattle.am_board.proofs.keeping.Keyed.{same_key, put_in-entries, AreKeyed-insert}
+use Rattle.am_model.proofs.lists.Places.{put_new}
 use Rattle.am_board.proofs.groups.Groups.add.Goals as goal
 use Rattle.am_board.proofs.groups.Groups.add.Goals.{After-unwrap}
 

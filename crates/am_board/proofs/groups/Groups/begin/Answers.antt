@@ -1,10 +1,10 @@
 use Rattle.std.proofs.Common.{◌≡◌, true, ap}
 use Rattle.indexmap.specs.IndexMap.{spare}
 use Rattle.am_board.specs.GroupList.{name_of}
-use Rattle.am_board.specs.State.{same_name}
+use Rattle.am_model.specs.State.{same_name}
 use Rattle.am_board.specs.declared.group.Group.{Group}
-use Rattle.am_board.proofs.GroupRoom.{changes_at}
-use Rattle.am_board.proofs.Keyed.{AreKeyed-set}
+use Rattle.am_board.proofs.inserting.GroupRoom.{changes_at}
+use Rattle.am_board.proofs.keeping.Keyed.{AreKeyed-set}
 use Rattle.am_board.proofs.groups.Groups.begin.Goals as goal
 
 pub invariant_of-self : goal.invariant_of-self

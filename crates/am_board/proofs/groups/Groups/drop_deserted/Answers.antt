@@ -3,16 +3,16 @@ use Rattle.std.specs.List.{count_by}
 use Rattle.std.specs.Map.{values_of}
 use Rattle.indexmap.proofs.CallerLemmas.{filter-RetainsPairs}
 use Rattle.am_board.specs.declared.group.Group.{Group}
-use Rattle.am_board.specs.declared.group.GroupName.{GroupName}
+use Rattle.am_model.specs.declared.group.GroupName.{GroupName}
 use Rattle.am_board.specs.Group.{names_of, AreRouted}
 use Rattle.am_board.specs.GroupList.{GroupList, name_of}
 use Rattle.am_board.specs.Keyed.{AreKeyed}
 use Rattle.am_board.specs.Kept.{group_state}
-use Rattle.am_board.specs.Lists.{without}
-use Rattle.am_board.specs.State.{same_name}
-use Rattle.am_board.specs.Upkeep.{is_deserted}
-use Rattle.am_board.proofs.Keyed.{values-filter, length-values, AreKeyed-filter}
-use Rattle.am_board.proofs.Maintenance.{map-without, length-without, All-map_filter}
+use Rattle.am_model.specs.Lists.{without}
+use Rattle.am_model.specs.State.{same_name}
+use Rattle.am_model.specs.Upkeep.{is_deserted}
+use Rattle.am_board.proofs.keeping.Keyed.{values-filter, length-values, AreKeyed-filter}
+use Rattle.am_board.proofs.maintaining.Maintenance.{map-without, length-without, All-map_filter}
 use Rattle.am_board.proofs.groups.Groups.drop_deserted.Goals as goal
 use Rattle.am_board.proofs.groups.Groups.drop_deserted.Goals.{After-retain}
 

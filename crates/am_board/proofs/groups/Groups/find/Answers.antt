@@ -2,9 +2,9 @@ use Rattle.std.proofs.Common.{ap, ◌∙◌, subst}
 use Rattle.std.specs.List.{position, IsDistinct}
 use Rattle.am_board.specs.Group.{names_of}
 use Rattle.am_board.specs.GroupList.{GroupList, name_of}
-use Rattle.am_board.specs.State.{same_name}
+use Rattle.am_model.specs.State.{same_name}
 use Rattle.am_board.specs.declared.group.Group.{Group}
-use Rattle.am_board.proofs.Keyed.{place_of-keys, keys-values}
+use Rattle.am_board.proofs.keeping.Keyed.{place_of-keys, keys-values}
 use Rattle.am_board.proofs.groups.Groups.find.Goals as goal
 
 pub returns-clause-place : goal.returns-clause-place

@@ -3,8 +3,8 @@ use Rattle.std.proofs.lemmas.Result.{on_ok_weaker}
 use Rattle.am_board.specs.Group.{names_of}
 use Rattle.am_board.specs.Kept.{group_state}
 use Rattle.am_board.specs.declared.group.Group.{Group}
-use Rattle.am_board.proofs.GroupNames.{names_set, states_set}
-use Rattle.am_board.proofs.GroupRoom.{room_missing, room_reserved}
+use Rattle.am_board.proofs.keeping.GroupNames.{names_set, states_set}
+use Rattle.am_board.proofs.inserting.GroupRoom.{room_missing, room_reserved}
 use Rattle.am_board.proofs.groups.Groups.reserve_named.Goals as goal
 
 pub returns-in-Some-clause-names : goal.returns-in-Some-clause-names

@@ -1,15 +1,14 @@
 use Rattle.std.proofs.Common.{◌≡◌, map, ap, ◌∙◌}
 use Rattle.indexmap.specs.IndexMap.{spare}
 use Rattle.am_board.specs.GroupList.{name_of}
-use Rattle.am_board.specs.Kept.{group_state}
-use Rattle.am_board.specs.State.{GroupState, same_name}
+use Rattle.am_board.specs.Kept.{group_state, member_state, stamped}
+use Rattle.am_model.specs.State.{GroupState, same_name}
 use Rattle.am_board.specs.declared.group.Group.{Group}
-use Rattle.am_board.proofs.GroupRoom.{changes_at, lent_as}
-use Rattle.am_board.proofs.Keyed.{AreKeyed-set}
+use Rattle.am_board.proofs.inserting.GroupRoom.{changes_at, lent_as}
+use Rattle.am_board.proofs.keeping.Keyed.{AreKeyed-set}
 use Rattle.std.specs.Prelude.{count_by}
-use Rattle.am_board.specs.Finish.{is_leaving}
-use Rattle.am_board.specs.Kept.{member_state, stamped}
-use Rattle.am_board.specs.Lists.{without}
+use Rattle.am_model.specs.Finish.{is_leaving}
+use Rattle.am_model.specs.Lists.{without}
 use Rattle.am_board.proofs.groups.Groups.take_leaving.Goals as goal
 
 pub invariant_of-self : goal.invariant_of-self

@@ -7,11 +7,11 @@ use Rattle.am_alerts.specs.AlertData.{AlertData}
 use Rattle.am_alerts.specs.Labels.{same_label_set}
 use Rattle.am_alerts.specs.LabelOrder.{same_label_set-decides}
 use Rattle.am_alerts.specs.declared.labels.Label.{Label}
-use Rattle.am_board.specs.Insert.{same_alert}
+use Rattle.am_model.specs.Insert.{same_alert}
 use Rattle.am_board.specs.Keyed.{AreKeyed}
 use Rattle.am_board.specs.Known.{KnownAlerts, labels_of}
-use Rattle.am_board.specs.Lists.{put_in}
-use Rattle.am_board.proofs.Keyed.{place_of-keys, put_in-entries, set-insert, AreKeyed-insert}
+use Rattle.am_model.specs.Lists.{put_in}
+use Rattle.am_board.proofs.keeping.Keyed.{place_of-keys, put_in-entries, set-insert, AreKeyed-insert}
 use Rattle.am_board.proofs.known.Known.put.Goals as goal
 use Rattle.am_board.proofs.known.Known.put.Goals.{in-Some-1, in-None-1, After-unwrap}
 

@@ -1,6 +1,7 @@
 use Rattle.std.proofs.Common.{◌≡◌, true, false, is_some, arith, rules}
-use Rattle.am_board.specs.Ticket.{outcome_of, has_something_for}
-use Rattle.am_board.proofs.Outcomes.{one_reported}
+use Rattle.am_model.specs.Ticket.{outcome_of}
+use Rattle.am_model.specs.Notice.{has_something_for}
+use Rattle.am_model.proofs.tickets.Outcomes.{one_reported}
 use Rattle.am_board.proofs.ticket.Ticket.record.Goals as goal
 
 pub push_reserved-requires : goal.push_reserved-requires

@@ -1,0 +1,165 @@
+-- Why a begin is refused, from what is found of the kept state.
+use Rattle.std.proofs.Common.{◌≡◌, ◌≢◌, ℕ, ◌+◌, ◌<◌, ◌≤◌, true, false, cond, ◌&&◌, nat_le, List, [], ◌∷◌, length, map, get_or, slice_index_or, Option, Some, None, Result, Ok, Err, MatchResult, vec_len, inl, inr, refl, sym, ap, subst, ◌∙◌, arith}
+use Rattle.std.proofs.Math.Bool.{and-false}
+use Rattle.std.proofs.lemmas.Bool.Decides.{nat_tests}
+use Rattle.std.proofs.lemmas.List.{get_or_default, length-map}
+use Rattle.am_alerts.specs.RoutingTree.{route_at}
+use Rattle.am_board.specs.declared.begin.Begun.{Begun}
+use Rattle.am_board.specs.declared.begin.Taking.{Taking}
+use Rattle.am_model.specs.declared.config.Config.{Config}
+use Rattle.am_model.specs.declared.config.Integration.{Integration}
+use Rattle.am_model.specs.declared.fault.Fault.{Fault}
+use Rattle.am_model.specs.declared.fault.Fault.TheVariants.{NoMemory, TooManyOpen, HistoryFull}
+use Rattle.am_board.specs.declared.flush.OpenFlush.{OpenFlush}
+use Rattle.am_board.specs.declared.group.Group.{Group}
+use Rattle.am_board.specs.declared.opening.Opening.{Opening}
+use Rattle.am_model.specs.declared.record.Call.TheVariants.{Begin}
+use Rattle.am_board.specs.declared.state.State as kept
+use Rattle.am_model.specs.Begin.{asked_of, taken}
+use Rattle.am_model.specs.Causes.{is_full, asks_some, opens_by, begin_cause}
+use Rattle.am_model.specs.Records.{entry}
+use Rattle.am_board.specs.History.{reply_of, IsFresh}
+use Rattle.am_board.specs.Kept.{state_of, group_state, flush_state}
+use Rattle.am_board.specs.Beginning.{IsPlan, first_of, IsTaking, IsEnd}
+use Rattle.am_model.specs.State.{moment}
+use Rattle.am_board.specs.Step.{IsGood, Accepts, Stays, IsAnswer}
+
+-- what a begin is to answer where this is the first cause other than memory
+abbrev pub IsTold : Config → ℕ → ℕ → ℕ → kept.State → kept.State → Option Fault → Result Begun Fault → Type 0
+IsTold config id pass now old new cause result =
+    MatchResult result
+    (λ begun. (cause ≡ None) × Accepts config id (entry pass (Begin now) (reply_of begun)) old new × IsFresh id begun)
+    (λ fault. IsAnswer cause fault × Stays config old new)
+
+-- only memory can be wanting
+pub told : (config : Config) (id pass now : ℕ) (old new : kept.State) (cause : Option Fault) (result : Result Begun Fault) → cause ≡ None
+    → IsEnd config id pass now old new result → IsTold config id pass now old new cause result
+told config id pass now old new cause (Ok begun) none end = (none, end.0, end.1)
+told config id pass now old new cause (Err fault) none end = (subst (λ o. IsAnswer o fault) (sym none) end.0, end.1)
+
+-- ---- the causes, where the history has room
+
+module _ (config : Config) (s : kept.State) (now : ℕ) (t : ℕ) (at : t ≡ moment (state_of s) now) (room : vec_len s.history + vec_len s.flushes + 2 ≤ config.limits.history) where
+  opened : length (map flush_state s.flushes.items) ≡ vec_len s.flushes
+  opened = length-map s.flushes.items flush_state ∙ sym s.flushes.ok.0
+
+  not_full : is_full config (vec_len s.history) (state_of s) 2 ≡ false
+  not_full =
+      let length_is = opened in
+      grind (arith, nat_tests, length_is)
+
+  -- the cause is whether too many flushes are open
+  by_open : begin_cause config (vec_len s.history) (state_of s) (moment (state_of s) now) ≡ cond (nat_le config.limits.flushes (length (map flush_state s.flushes.items)) && opens_by config (state_of s) t (taken (state_of s) t)) (Some TooManyOpen) None
+  by_open =
+      ap (λ n. begin_cause config (vec_len s.history) (state_of s) n) (sym at)
+      ∙ ap (λ b. cond b (Some HistoryFull) (cond (nat_le config.limits.flushes (length (map flush_state s.flushes.items)) && opens_by config (state_of s) t (taken (state_of s) t)) (Some TooManyOpen) None)) not_full
+
+  -- no flush is to be opened
+  pub cause-closed : opens_by config (state_of s) t (taken (state_of s) t) ≡ false → begin_cause config (vec_len s.history) (state_of s) (moment (state_of s) now) ≡ None
+  cause-closed closed =
+      by_open
+      ∙ ap (λ b. cond (nat_le config.limits.flushes (length (map flush_state s.flushes.items)) && b) (Some TooManyOpen) None) closed
+      ∙ ap (λ b. cond b (Some TooManyOpen) None) (and-false (nat_le config.limits.flushes (length (map flush_state s.flushes.items))))
+
+  -- one more may be open
+  pub cause-few : vec_len s.flushes < config.limits.flushes → begin_cause config (vec_len s.history) (state_of s) (moment (state_of s) now) ≡ None
+  cause-few few =
+      let length_is = opened in
+      let below : nat_le config.limits.flushes (length (map flush_state s.flushes.items)) ≡ false = grind (arith, nat_tests, length_is) in
+      by_open ∙ ap (λ b. cond (b && opens_by config (state_of s) t (taken (state_of s) t)) (Some TooManyOpen) None) below
+
+  -- as many are open as may be, and one more is to be opened
+  pub cause-many : config.limits.flushes ≤ vec_len s.flushes → opens_by config (state_of s) t (taken (state_of s) t) ≡ true → begin_cause config (vec_len s.history) (state_of s) (moment (state_of s) now) ≡ Some TooManyOpen
+  cause-many many opens =
+      let length_is = opened in
+      let reached : nat_le config.limits.flushes (length (map flush_state s.flushes.items)) ≡ true = grind (arith, nat_tests, length_is) in
+      by_open
+      ∙ ap (λ b. cond (b && opens_by config (state_of s) t (taken (state_of s) t)) (Some TooManyOpen) None) reached
+      ∙ ap (λ b. cond b (Some TooManyOpen) None) opens
+
+  -- memory may be refused in any case
+  pub answer-memory : IsAnswer (begin_cause config (vec_len s.history) (state_of s) (moment (state_of s) now)) NoMemory
+  answer-memory =
+      subst (λ o. IsAnswer o NoMemory) (sym by_open)
+      (elim (nat_le config.limits.flushes (length (map flush_state s.flushes.items)) && opens_by config (state_of s) t (taken (state_of s) t)) as (λ b. IsAnswer (cond b (Some TooManyOpen) None) NoMemory) [
+        | true ↦ inr refl
+        | false ↦ refl
+      ])
+
+-- some are asked
+pub asks_some-true : (asked : List (ℕ × Integration)) → asked ≢ [] → asks_some asked ≡ true
+asks_some-true [] some = absurd (some refl)
+asks_some-true (i ∷ is) some = refl
+
+-- no group was found
+pub taken-none : (s : kept.State) (t : ℕ) (groups : List Group) (flushes : List OpenFlush) → groups ≡ s.groups.items → flushes ≡ s.flushes.items
+    → first_of (map flush_state flushes) t (map group_state groups) ≡ None → taken (state_of s) t ≡ None
+taken-none s t groups flushes all open_now none = (λ i. first_of (map flush_state (sym open_now i)) t (map group_state (sym all i))) ∙ none
+
+-- the group that was found is the one that the begin takes
+pub taking_found : (config : Config) (s : kept.State) (taking : Taking) (g : Group) (groups : List Group) (flushes : List OpenFlush)
+    → groups ≡ s.groups.items → flushes ≡ s.flushes.items
+    → taking.t ≡ moment (state_of s) taking.now → taking.place < length groups
+    → first_of (map flush_state flushes) taking.t (map group_state groups) ≡ Some (group_state (get_or groups taking.place g))
+    → g ≡ get_or s.groups.items taking.place g
+    → taking.due ≡ taking.t + (route_at config.routes g.name.route).group_interval
+    → IsTaking config s taking g
+taking_found config s taking g groups flushes all open_now at within first is due =
+    let place : taking.place < length s.groups.items = omega (arith, within, ap (λ (gs : List Group). length gs) all) in
+    record {
+      moment = at;
+      place = place;
+      group = λ d. get_or_default s.groups.items taking.place d g place ∙ sym is;
+      first =
+          (λ i. first_of (map flush_state (sym open_now i)) taking.t (map group_state (sym all i)))
+          ∙ first
+          ∙ ap (λ (gs : List Group). Some (group_state (get_or gs taking.place g))) all
+          ∙ ap (λ (x : Group). Some (group_state x)) (sym is);
+      due = due;
+    }
+
+-- ---- what is worked out for the group that a begin takes
+
+-- nothing changed
+pub stays_same : (config : Config) (s : kept.State) → IsGood config s → Stays config s s
+stays_same config s good = record { state = refl; routed = good.routed; prepared = good.prepared; history = refl; records = refl; room = good.room }
+
+module _ (config : Config) (id : ℕ) (s : kept.State) (taking : Taking) (g : Group) (takes : IsTaking config s taking g) where
+  -- the plan is for this group
+  planned : (r : Result (Option Opening) Fault)
+      → ((d : Group) → IsPlan config id (vec_len s.flushes) (state_of s) taking.t (group_state (slice_index_or s.groups.items taking.place d)) r)
+      → IsPlan config id (vec_len s.flushes) (state_of s) taking.t (group_state g) r
+  planned r plan = subst (λ (x : Group). IsPlan config id (vec_len s.flushes) (state_of s) taking.t (group_state x) r) (takes.group g) (plan g)
+
+  -- nobody is asked
+  pub planned_none : (o : Option Opening)
+      → ((d : Group) → IsPlan config id (vec_len s.flushes) (state_of s) taking.t (group_state (slice_index_or s.groups.items taking.place d)) (Ok o))
+      → o ≡ None → asked_of config (state_of s) taking.t (group_state g) ≡ []
+  planned_none o plan e = subst (λ (x : Option Opening). IsPlan config id (vec_len s.flushes) (state_of s) taking.t (group_state g) (Ok x)) e (planned (Ok o) plan)
+
+  -- a flush is opened
+  pub planned_some : (o : Option Opening) (opening : Opening)
+      → ((d : Group) → IsPlan config id (vec_len s.flushes) (state_of s) taking.t (group_state (slice_index_or s.groups.items taking.place d)) (Ok o))
+      → o ≡ Some opening → IsPlan config id (vec_len s.flushes) (state_of s) taking.t (group_state g) (Ok (Some opening))
+  planned_some o opening plan e = subst (λ (x : Option Opening). IsPlan config id (vec_len s.flushes) (state_of s) taking.t (group_state g) (Ok x)) e (planned (Ok o) plan)
+
+  -- whether a flush is to be opened, by what is asked
+  opens_taken : opens_by config (state_of s) taking.t (taken (state_of s) taking.t) ≡ asks_some (asked_of config (state_of s) taking.t (group_state g))
+  opens_taken = ap (λ o. opens_by config (state_of s) taking.t o) takes.first
+
+  module _ (room : vec_len s.history + vec_len s.flushes + 2 ≤ config.limits.history) where
+    -- nobody is asked: only memory can be wanting
+    pub cause-quiet : asked_of config (state_of s) taking.t (group_state g) ≡ [] → begin_cause config (vec_len s.history) (state_of s) (moment (state_of s) taking.now) ≡ None
+    cause-quiet none = cause-closed config s taking.now taking.t takes.moment room (opens_taken ∙ ap asks_some none)
+
+    -- why it is refused before anything is put
+    pub planned_err : (fault : Fault)
+        → ((d : Group) → IsPlan config id (vec_len s.flushes) (state_of s) taking.t (group_state (slice_index_or s.groups.items taking.place d)) (Err fault))
+        → IsAnswer (begin_cause config (vec_len s.history) (state_of s) (moment (state_of s) taking.now)) fault
+    planned_err fault plan =
+        elim (planned (Err fault) plan) [
+          | inl memory ↦ subst (λ f. IsAnswer (begin_cause config (vec_len s.history) (state_of s) (moment (state_of s) taking.now)) f) (sym memory) (answer-memory config s taking.now taking.t takes.moment room)
+          | inr full ↦
+              let many = cause-many config s taking.now taking.t takes.moment room full.2 (opens_taken ∙ asks_some-true (asked_of config (state_of s) taking.t (group_state g)) full.1) in
+              subst (λ o. IsAnswer o fault) (sym many) (inl full.0)
+        ]

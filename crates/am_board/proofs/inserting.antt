@@ -1,0 +1,3 @@
+pub mod GroupRoom
+pub mod Inserting
+pub mod Placing

@@ -1,0 +1,11 @@
+pub mod Agreeing
+pub mod Calls
+pub mod Causes
+pub mod Closing
+pub mod GroupNames
+pub mod Keyed
+pub mod Limits
+pub mod LogRows
+pub mod Shown
+pub mod Sound
+pub mod Staying

@@ -1,0 +1,143 @@
+-- What each accepted or refused call leaves of a board.
+use Rattle.std.proofs.Common.{◌≡◌, ℕ, ◌+◌, ◌*◌, ◌≤◌, Some, None, List, length, vec_len, sym, ap, ◌∙◌, subst, arith}
+use Rattle.std.specs.Prelude.{sum_by, All}
+use Rattle.std.proofs.lemmas.List.Elements.{All-nil}
+use Rattle.am_alerts.specs.declared.limits.TheConstants.{MAX_CHILDREN}
+use Rattle.am_model.specs.declared.config.Config.{Config}
+use Rattle.am_board.specs.declared.group.Group.{Group}
+use Rattle.am_model.specs.declared.group.GroupName.{GroupName}
+use Rattle.am_model.specs.Config.{AreAllowed, config_fault}
+use Rattle.am_board.specs.Group.{names_of, AreRouted}
+use Rattle.std.proofs.lemmas.List.{length-map}
+use Rattle.am_board.specs.declared.board.Board.TheInside.{Inside}
+use Rattle.am_model.specs.declared.config.TheConstants.{MAX_HISTORY}
+use Rattle.am_model.specs.declared.record.Record.{Record}
+use Rattle.am_board.specs.declared.state.State as kept
+use Rattle.am_board.specs.Board.{IsSound}
+use Rattle.am_board.specs.Kept.{state_of, flush_state, Agrees, IsNew, IsPrepared}
+use Rattle.am_model.specs.Laws.{IsConsistent}
+use Rattle.am_model.specs.Replay.{reply, after, replay, IsLegal}
+use Rattle.am_model.specs.State.{State, opening_state}
+use Rattle.am_board.specs.Step.{IsGood, Accepts, Stays}
+use Rattle.am_board.proofs.keeping.Agreeing.{Agrees-refl, Agrees-trans, IsConsistent-agrees, reply-agrees, after_call-agrees}
+use Rattle.am_model.proofs.legal.Bounded.{IsBounded, bounded}
+use Rattle.am_model.proofs.legal.Consistent.{consistent_replay}
+use Rattle.am_model.proofs.configuration.Faultless.{few_integrations, retention_within}
+use Rattle.am_model.proofs.legal.Histories.{replay_appends, legal_appends}
+
+-- how many flushes are open, as the state tells it
+pub opened_now : (s : kept.State) → vec_len s.flushes ≡ length (state_of s).flushes
+opened_now s = s.flushes.ok.0 ∙ sym (length-map s.flushes.items flush_state)
+
+module _ (b : Inside) (sound : IsSound b) where
+  -- the state after the board's history
+  abbrev replayed : State
+  replayed = replay b.config b.state.history.items
+
+  pub consistent_now : IsConsistent (state_of b.state)
+  consistent_now = IsConsistent-agrees (state_of b.state) replayed sound.agrees (consistent_replay b.config b.state.history.items)
+
+  -- so many records are kept
+  pub counted : vec_len b.state.history ≡ length b.state.history.items
+  counted = b.state.history.ok.0
+
+  -- each call may rely on what holds of a board
+  pub good : IsGood b.config b.state
+  good =
+      let few : IsBounded b.config (length b.state.history.items) replayed = bounded b.config b.state.history.items in
+      let inserts : b.state.inserts ≡ replayed.inserts = ap (λ (s : State). s.inserts) sound.agrees.rest in
+      let numbers : b.state.next_number ≡ replayed.next_number = ap (λ (s : State). s.next_number) sound.agrees.rest in
+      record {
+        few = few_integrations b.config sound.configured;
+        retention = retention_within b.config sound.configured;
+        consistent = consistent_now;
+        inserts = omega (arith, few.inserts, inserts, counted);
+        numbers = omega (arith, few.next_number, numbers, counted);
+        routed = sound.routed;
+        prepared = sound.prepared;
+        room = sound.room;
+      }
+
+  -- the alerts over all groups are few, and so are the inserts
+  pub few_alerts : sum_by (λ g. length g.members) (state_of b.state).groups ≤ 64 * b.state.inserts
+  few_alerts =
+      let few : IsBounded b.config (length b.state.history.items) replayed = bounded b.config b.state.history.items in
+      subst (λ (s : State). sum_by (λ g. length g.members) s.groups ≤ 64 * s.inserts) (sym sound.agrees.rest) (few.alerts sound.children)
+
+  pub few_inserts : b.state.inserts ≤ MAX_HISTORY
+  few_inserts = omega (arith, good.inserts, sound.kept, sound.limits.history.1)
+
+  module _ (r : Record) (new : kept.State) (accepts : Accepts b.config b.id r b.state new) where
+    -- the reply is the one that the definitions give at the state after the history
+    pub told_at : reply b.config b.id replayed r.call ≡ Some r.reply
+    told_at = sym (reply-agrees (state_of b.state) replayed sound.agrees consistent_now.rows b.config b.id r.call) ∙ accepts.told
+
+    -- the history with the record is legal
+    pub legal_then : IsLegal b.config b.id new.history.items
+    legal_then =
+        subst (IsLegal b.config b.id) (sym accepts.history)
+        ((legal_appends b.config b.id b.state.history.items r).1 (sound.legal, told_at))
+
+    -- the state is the replay of the history with the record
+    pub agrees_then : Agrees (state_of new) (replay b.config new.history.items)
+    agrees_then =
+        let step : Agrees (after b.config (state_of b.state) r) (after b.config replayed r) = after_call-agrees (state_of b.state) replayed sound.agrees consistent_now.rows b.config r.call in
+        subst (Agrees (state_of new)) (sym (replay_appends b.config b.state.history.items r) ∙ sym (ap (replay b.config) accepts.history))
+        (Agrees-trans (state_of new) (after b.config (state_of b.state) r) accepts.state (after b.config replayed r) step)
+
+    -- the board is sound again, where no limit is passed
+    pub sound_then : length (after b.config (state_of b.state) r).groups ≤ b.config.limits.groups → vec_len new.flushes ≤ b.config.limits.flushes → vec_len new.history + vec_len new.flushes ≤ b.config.limits.history
+        → IsSound (record b { state = new })
+    sound_then few opened kept =
+        record {
+          limits = sound.limits;
+          configured = sound.configured;
+          children = sound.children;
+          legal = legal_then;
+          agrees = agrees_then;
+          groups = subst (λ (s : State). length s.groups ≤ b.config.limits.groups) (sym accepts.state.rest) few;
+          opened = opened;
+          kept = kept;
+          room = accepts.room;
+          routed = accepts.routed;
+          prepared = accepts.prepared;
+        }
+
+  module _ (new : kept.State) (stays : Stays b.config b.state new) where
+    same_opened : vec_len new.flushes ≡ vec_len b.state.flushes
+    same_opened = opened_now new ∙ (ap (λ (s : State). length s.flushes) stays.state ∙ sym (opened_now b.state))
+
+    -- a refused call leaves the board sound
+    pub sound_still : IsSound (record b { state = new })
+    sound_still =
+        record {
+          limits = sound.limits;
+          configured = sound.configured;
+          children = sound.children;
+          legal = subst (IsLegal b.config b.id) (sym stays.history) sound.legal;
+          agrees = subst (λ (s : State). Agrees s (replay b.config new.history.items)) (sym stays.state) (subst (λ (h : List Record). Agrees (state_of b.state) (replay b.config h)) (sym stays.history) sound.agrees);
+          groups = subst (λ (s : State). length s.groups ≤ b.config.limits.groups) (sym stays.state) sound.groups;
+          opened = omega (arith, same_opened, sound.opened);
+          kept = omega (arith, same_opened, stays.records, sound.kept);
+          room = stays.room;
+          routed = stays.routed;
+          prepared = stays.prepared;
+        }
+
+-- a board that was just made is sound
+pub new_sound : (config : Config) (id : ℕ) (s : kept.State) → config_fault config ≡ None → length config.routes.children ≤ MAX_CHILDREN → AreAllowed config.limits → IsNew s
+    → IsSound (record { config = config; id = id; state = s })
+new_sound config id s configured children limits new =
+    record {
+      limits = limits;
+      configured = configured;
+      children = children;
+      legal = subst (IsLegal config id) (sym new.history) tt;
+      agrees = subst (λ (h : List Record). Agrees (state_of s) (replay config h)) (sym new.history) (subst (λ (x : State). Agrees x opening_state) (sym new.state) (Agrees-refl opening_state));
+      groups = subst (λ (x : State). length x.groups ≤ config.limits.groups) (sym new.state) (omega arith);
+      opened = omega (arith, new.unflushed);
+      kept = omega (arith, new.unflushed, new.records);
+      room = omega (arith, new.unflushed, new.records);
+      routed = subst (λ (gs : List Group). AreRouted config.routes (names_of gs)) (sym new.groups) (All-nil (λ (n : GroupName). n.route ≤ length config.routes.children));
+      prepared = subst (All (IsPrepared config s.log)) (sym new.flushes) (All-nil (IsPrepared config s.log));
+    }

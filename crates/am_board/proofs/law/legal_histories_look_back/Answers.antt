@@ -1,5 +1,0 @@
-use Rattle.am_board.proofs.LooksBack.{histories_look_back}
-use Rattle.am_board.proofs.law.legal_histories_look_back.Goals as goal
-
-pub returns : goal.returns
-returns c = histories_look_back

@@ -1,9 +1,0 @@
-use Rattle.am_board.proofs.FoundRows.{rows_are_found}
-use Rattle.am_board.proofs.RowsDelivered.{shown_rows_are_found}
-use Rattle.am_board.proofs.law.looking_back_finds_rows.Goals as goal
-
-pub returns-clause-found : goal.returns-clause-found
-returns-clause-found c = rows_are_found
-
-pub returns-clause-shown : goal.returns-clause-shown
-returns-clause-shown c = shown_rows_are_found

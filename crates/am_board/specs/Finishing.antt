@@ -1,0 +1,63 @@
+-- What a finish and a note put into the log that is kept.
+use Rattle.std.specs.Prelude.{◌≡◌, ℕ, ◌+◌, ◌==◌, true, not, ◌&&◌, List, map, filter, fold, position, slice_set, slice_index_or, Option, Some, None, IsSome}
+use Rattle.am_alerts.specs.declared.labels.Label.{Label}
+use Rattle.am_nflog.specs.Log.{Slots, is_known}
+use Rattle.am_nflog.specs.declared.key.LogKey.{LogKey}
+use Rattle.am_retry.specs.declared.outcome.Outcome.{Outcome}
+use Rattle.am_board.specs.declared.flush.Asked.{Asked}
+use Rattle.am_board.specs.declared.flush.OpenFlush.{OpenFlush}
+use Rattle.am_board.specs.declared.flush.Told.{Told}
+use Rattle.am_model.specs.declared.group.GroupName.{GroupName}
+use Rattle.am_model.specs.declared.views.RowView.{RowView}
+use Rattle.am_model.specs.Finish.{has_succeeded, log_with}
+use Rattle.am_board.specs.Kept.{asked_state_of}
+use Rattle.am_model.specs.Note.{is_ready}
+use Rattle.am_model.specs.State.{AskedState, same_name}
+
+-- the row of a key that was told this at t and is kept for so long
+abbrev pub told_row : LogKey GroupName → Told → ℕ → ℕ → RowView
+told_row key told t kept_for =
+    record {
+      group = key.group;
+      integration = key.integration;
+      moment = t;
+      expiry = t + kept_for;
+      firing = told.firing;
+      resolved = told.resolved;
+    }
+
+-- the row of an integration of a kept flush at t
+abbrev pub row_for : OpenFlush → ℕ → ℕ → RowView
+row_for f t integration = told_row (record { group = f.group; integration = integration }) f.told t f.kept_for
+
+-- those of the asked integrations whose success a finish logs
+abbrev pub logged_of : List (ℕ × Outcome) → List Asked → List AskedState
+logged_of outcomes asked = filter (λ a. has_succeeded outcomes a && not a.noted) (map asked_state_of asked)
+
+-- the rows of a log with those of the asked integrations of a kept flush whose success a finish at t logs
+abbrev pub rows_with : OpenFlush → ℕ → List (ℕ × Outcome) → List Asked → List RowView → List RowView
+rows_with f t outcomes asked rows =
+    fold (λ log a. log_with (row_for f t a.integration) log) rows (logged_of outcomes asked)
+
+-- the same keys are known in two logs
+abbrev pub KnowTheSame : Slots GroupName (List Label) → Slots GroupName (List Label) → Type 0
+KnowTheSame log other = (key : LogKey GroupName) → is_known same_name log key ≡ is_known same_name other key
+
+-- an integration that a kept flush asked stands at this place, is ready with this outcome, and isn't noted yet
+pub record IsReadyAt (f : OpenFlush) (integration : ℕ) (outcome : Option Outcome) (a : ℕ) : Type 0 where
+  pub place : position (λ x. x.key.integration == integration) f.asked.items ≡ Some a
+  pub ready : (d : Asked) → is_ready outcome (asked_state_of (slice_index_or f.asked.items a d)) ≡ true
+  pub told : (d : Asked) → IsSome (slice_index_or f.asked.items a d).told
+
+-- an integration that was asked, without what its log row was to hold
+abbrev pub without_told : Asked → Asked
+without_told a = record { key = a.key; nothing = a.nothing; told = None }
+
+-- the integration at a place of a kept flush was noted
+pub record IsNotedAt (a : ℕ) (old new : OpenFlush) : Type 0 where
+  pub number : new.number ≡ old.number
+  pub group : new.group ≡ old.group
+  pub kept_for : new.kept_for ≡ old.kept_for
+  pub told : new.told ≡ old.told
+  pub leaving : new.leaving ≡ old.leaving
+  pub asked : (d : Asked) → new.asked.items ≡ slice_set old.asked.items a (without_told (slice_index_or old.asked.items a d))

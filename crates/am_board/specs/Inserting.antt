@@ -1,0 +1,59 @@
+-- The placements of an insert: what they put into groups, and the room that they need.
+use Rattle.std.specs.Prelude.{◌≡◌, ℕ, ◌+◌, ◌≤◌, List, length, All, vec_len, vec_capacity}
+use Rattle.am_alerts.specs.AlertData.{AlertData}
+use Rattle.am_alerts.specs.Route.{group_labels_of}
+use Rattle.am_alerts.specs.RoutingTree.{RoutingTree, route_at}
+use Rattle.am_alerts.specs.declared.labels.Label.{Label}
+use Rattle.am_model.specs.declared.group.GroupName.{GroupName}
+use Rattle.am_alerts.specs.declared.limits.TheConstants.{MAX_DURATION}
+use Rattle.am_board.specs.declared.insert.Placement.{Placement}
+use Rattle.am_board.specs.declared.group.Group.{Group}
+use Rattle.am_board.specs.declared.state.State.{State}
+use Rattle.am_board.specs.Group.{names_of, HasRoom}
+use Rattle.am_board.specs.Kept.{member_state, state_of}
+use Rattle.am_model.specs.State.{MemberState}
+
+-- the list for a group that has to be made has room for so many, and its name is there once more
+abbrev pub IsEmptyWithRoom : ℕ → Placement → Type 0
+IsEmptyWithRoom n placement = (vec_len placement.members ≡ 0) × (n ≤ vec_capacity placement.members) × (placement.key ≡ placement.name)
+
+-- the group of each placement has room for so many more
+abbrev pub HaveRoom : ℕ → List Group → List Placement → Type 0
+HaveRoom n groups placements = All (λ p. HasRoom n p.name groups) placements
+
+-- a state holds what it held, with no less room for records
+pub record IsReservedState (old new : State) : Type 0 where
+  pub state : state_of new ≡ state_of old
+  pub names : names_of new.groups.items ≡ names_of old.groups.items
+  pub log : new.log ≡ old.log
+  pub flushes : new.flushes ≡ old.flushes
+  pub history : new.history.items ≡ old.history.items
+  pub records : vec_len new.history ≡ vec_len old.history
+  pub capacity : vec_capacity old.history ≤ vec_capacity new.history
+  pub known : length new.known.items ≡ length old.known.items
+  pub inserts : new.inserts ≡ old.inserts
+
+-- a state has room for all that an insert adds, and for the finish of each open flush
+pub record IsReadyFor (state : State) (placements : List Placement) : Type 0 where
+  pub records : vec_len state.history + vec_len state.flushes + 1 ≤ vec_capacity state.history
+  pub known : 1 ≤ state.known.room
+  pub spare : length placements ≤ state.groups.room
+  pub room : HaveRoom (length placements) state.groups.items placements
+
+-- each placement is of a route of the tree
+abbrev pub AreRoutedPlacements : RoutingTree → List Placement → Type 0
+AreRoutedPlacements tree placements = All (λ p. p.name.route ≤ length tree.children) placements
+
+-- the name of a label set's group of the route at a position
+abbrev pub name_at : RoutingTree → List Label → ℕ → GroupName
+name_at tree labels route = record { route = route; labels = group_labels_of (route_at tree route) labels }
+
+-- an alert with the stamp of its insert
+abbrev pub stamped_alert : AlertData → ℕ → MemberState
+stamped_alert alert stamp = record { alert = alert; stamp = stamp }
+
+-- a placement puts this alert into a group that waits as its route says
+pub record IsPlacementOf (tree : RoutingTree) (m : MemberState) (p : Placement) : Type 0 where
+  pub wait : p.wait ≡ (route_at tree p.name.route).group_wait
+  pub bounded : p.wait ≤ MAX_DURATION
+  pub member : member_state p.member ≡ m

@@ -1,0 +1,14 @@
+pub mod Base
+pub mod Entries
+pub mod Flushes
+pub mod Groups
+pub mod Laws
+pub mod Logged
+pub mod LookBack
+pub mod Muted
+pub mod Notes
+pub mod Order
+pub mod Reasons
+pub mod Refused
+pub mod Resolved
+pub mod Routed

@@ -1,0 +1,5 @@
+use Rattle.am_model.proofs.looking_back.FlushesOnce.{flushes_end_once}
+use Rattle.am_model.proofs.law.flushes_end_once.Goals as goal
+
+pub returns : goal.returns
+returns c = flushes_end_once

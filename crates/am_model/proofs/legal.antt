@@ -1,0 +1,12 @@
+pub mod Begins
+pub mod Bounded
+pub mod BoundedAlerts
+pub mod Consistent
+pub mod ConsistentBegin
+pub mod ConsistentFinish
+pub mod ConsistentGroups
+pub mod ConsistentInsert
+pub mod ConsistentState
+pub mod EachCall
+pub mod FewGroups
+pub mod Histories

@@ -1,0 +1,155 @@
+-- How many alerts the groups have, and which routes they are of.
+use Rattle.std.proofs.Common.{◌≡◌, ℕ, ◌+◌, ◌≤◌, Bool, true, false, cond, Some, None, List, [], ◌∷◌, length, refl, sym, ap, ◌∙◌, subst, arith}
+use Rattle.std.specs.Prelude.{find, filter, fold, sum_by, unwrap_or}
+use Rattle.std.specs.List.{AllByRecursion}
+use Rattle.std.specs.Option.{option_map}
+use Rattle.std.proofs.lemmas.List.{length-map}
+use Rattle.std.proofs.lemmas.List.Sums.{sum_by-cons}
+use Rattle.am_alerts.specs.Matcher.{match_all}
+use Rattle.am_alerts.specs.RoutingTree.{matching_from, or_root, routes_of}
+use Rattle.am_alerts.specs.declared.labels.Label.{Label}
+use Rattle.am_alerts.specs.declared.route.Child.{Child}
+use Rattle.am_alerts.proofs.Positions.{routes_of-exist}
+use Rattle.am_model.specs.declared.config.Config.{Config}
+use Rattle.am_model.specs.declared.group.GroupName.{GroupName}
+use Rattle.am_model.specs.Insert.{same_member, same_group, name_in, names_for, new_group, group_or_new, group_with, put_into_group}
+use Rattle.am_model.specs.Lists.{put_in, changed_where}
+use Rattle.am_model.specs.State.{MemberState, GroupState, same_name, is_named}
+use Rattle.am_model.proofs.lists.Words.{all-put_in}
+use Rattle.am_model.proofs.legal.ConsistentGroups.{same_name_equiv, members_of, members_of-in}
+use Rattle.am_model.proofs.lists.Distinct.{all_to, all-find, all-map, find-passes}
+
+-- ---- how many alerts there are
+
+abbrev pub count_alerts : List GroupState → ℕ
+count_alerts [] = 0
+count_alerts (g ∷ gs) = length g.members + count_alerts gs
+
+pub count_alerts-sum : (gs : List GroupState) → sum_by (λ g. length g.members) gs ≡ count_alerts gs
+count_alerts-sum [] = refl
+count_alerts-sum (g ∷ gs) = sum_by-cons (λ (g : GroupState). length g.members) g gs ∙ ap (λ n. length g.members + n) (count_alerts-sum gs)
+
+-- groups that go take their alerts along
+pub count-filter : (test : GroupState → Bool) (gs : List GroupState) → count_alerts (filter test gs) ≤ count_alerts gs
+count-filter test [] = omega arith
+count-filter test (g ∷ gs) =
+    let rest = count-filter test gs in
+    elim (test g) as (λ b. count_alerts (cond b (g ∷ filter test gs) (filter test gs)) ≤ length g.members + count_alerts gs) [
+      | true ↦ omega (arith, rest)
+      | false ↦ omega (arith, rest)
+    ]
+
+-- a change that adds no alerts
+pub count-changed : (test : GroupState → Bool) (f : GroupState → GroupState) → ((g : GroupState) → length (f g).members ≤ length g.members) → (gs : List GroupState) → count_alerts (changed_where test f gs) ≤ count_alerts gs
+count-changed test f fewer [] = omega arith
+count-changed test f fewer (g ∷ gs) =
+    let rest = count-changed test f fewer gs in
+    let here = fewer g in
+    elim (test g) as (λ b. length (cond b (f g) g).members + count_alerts (changed_where test f gs) ≤ length g.members + count_alerts gs) [
+      | true ↦ omega (arith, rest, here)
+      | false ↦ omega (arith, rest)
+    ]
+
+-- a filter leaves no more than there were
+pub length-filter : {X : Type 0} (test : X → Bool) (xs : List X) → length (filter test xs) ≤ length xs
+length-filter test [] = omega arith
+length-filter test (x ∷ xs) =
+    let rest = length-filter test xs in
+    elim (test x) as (λ b. length (cond b (x ∷ filter test xs) (filter test xs)) ≤ length (x ∷ xs)) [
+      | true ↦ omega (arith, rest)
+      | false ↦ omega (arith, rest)
+    ]
+
+-- what is put in adds one at most
+pub length-put_in : {X : Type 0} (like : X → X → Bool) (x : X) (xs : List X) → length (put_in like x xs) ≤ length xs + 1
+length-put_in like x [] = omega arith
+length-put_in like x (y ∷ ys) =
+    let rest = length-put_in like x ys in
+    elim (like x y) as (λ b. length (cond b (x ∷ ys) (y ∷ put_in like x ys)) ≤ length (y ∷ ys) + 1) [
+      | true ↦ omega arith
+      | false ↦ omega (arith, rest)
+    ]
+
+-- a group takes the place of the one of its name, with one alert more
+count-put_in : (name : GroupName) (g : GroupState) (gs : List GroupState) → ((k : GroupState) → same_group g k ≡ is_named name k) → length g.members ≤ length (members_of gs name) + 1 → count_alerts (put_in same_group g gs) ≤ count_alerts gs + 1
+count-put_in name g [] same more = omega (arith, more)
+count-put_in name g (k ∷ gs) same more = by (same_group g k) (is_named name k) (same k) (count-put_in name g gs same) more
+  where
+    by : (b c : Bool) → b ≡ c → (length g.members ≤ length (members_of gs name) + 1 → count_alerts (put_in same_group g gs) ≤ count_alerts gs + 1) → length g.members ≤ length (cond c k.members (members_of gs name)) + 1 → count_alerts (cond b (g ∷ gs) (k ∷ put_in same_group g gs)) ≤ length k.members + count_alerts gs + 1
+    by true true e rest h = omega (arith, h)
+    by true false e rest h = absurd (cc)
+    by false true e rest h = absurd (cc)
+    by false false e rest h = let less = rest h in omega (arith, less)
+
+module _ (config : Config) (t : ℕ) (m : MemberState) where
+  -- the group of a name, made if it is missing, has the alerts of that name, and it is of that name
+  members-or_new : (gs : List GroupState) (name : GroupName) → (group_or_new config t gs name).members ≡ members_of gs name
+  members-or_new gs name =
+      (elim (find (is_named name) gs) as (λ o. (unwrap_or o (new_group config t name)).members ≡ unwrap_or (option_map (λ g. g.members) o) []) [
+        | None ↦ refl
+        | Some g ↦ refl
+      ]) ∙ members_of-in gs name
+
+  pub named-or_new : (gs : List GroupState) (name : GroupName) → same_name name (group_or_new config t gs name).name ≡ true
+  named-or_new gs name =
+      elim (find (is_named name) gs) as (λ o. find (is_named name) gs ≡ o → same_name name (unwrap_or o (new_group config t name)).name ≡ true) [
+        | None ↦ λ e. same_name_equiv.refl name
+        | Some g ↦ λ e. find-passes (is_named name) g gs e
+      ] refl
+
+  count-into : (gs : List GroupState) (name : GroupName) → count_alerts (put_into_group config t m gs name) ≤ count_alerts gs + 1
+  count-into gs name =
+      let g = group_or_new config t gs name in
+      let longer : length (put_in same_member m g.members) ≤ length g.members + 1 = length-put_in same_member m g.members in
+      count-put_in name (group_with config t m g) gs
+      (λ k. sym (same_name_equiv.congr name g.name k.name (named-or_new gs name)))
+      (subst (λ ms. length (put_in same_member m g.members) ≤ length ms + 1) (members-or_new gs name) longer)
+
+  pub count-each : (names : List GroupName) (gs : List GroupState) → count_alerts (fold (put_into_group config t m) gs names) ≤ count_alerts gs + length names
+  count-each [] gs = omega arith
+  count-each (name ∷ names) gs =
+      let here = count-into gs name in
+      let rest = count-each names (put_into_group config t m gs name) in
+      omega (arith, here, rest)
+
+  -- ---- which routes the groups are of
+
+  routed-or_new : (most : ℕ) (gs : List GroupState) (name : GroupName) → name.route ≤ most → AllByRecursion (λ g. g.name.route ≤ most) gs → (group_or_new config t gs name).name.route ≤ most
+  routed-or_new most gs name least all =
+      elim (find (is_named name) gs) as (λ o. find (is_named name) gs ≡ o → (unwrap_or o (new_group config t name)).name.route ≤ most) [
+        | None ↦ λ e. least
+        | Some g ↦ λ e. all-find (λ (g : GroupState). g.name.route ≤ most) (is_named name) g gs all e
+      ] refl
+
+  pub routed-each : (most : ℕ) (names : List GroupName) (gs : List GroupState) → AllByRecursion (λ n. n.route ≤ most) names → AllByRecursion (λ g. g.name.route ≤ most) gs → AllByRecursion (λ g. g.name.route ≤ most) (fold (put_into_group config t m) gs names)
+  routed-each most [] gs routed all = all
+  routed-each most (name ∷ names) gs routed all =
+      let g = group_or_new config t gs name in
+      routed-each most names (put_into_group config t m gs name) routed.1
+      (all-put_in same_group (group_with config t m g) (λ g. g.name.route ≤ most) gs (routed-or_new most gs name routed.0 all) all)
+
+-- ---- the groups of an alert
+
+pub routed-names : (config : Config) (labels : List Label) → AllByRecursion (λ n. n.route ≤ length config.routes.children) (names_for config labels)
+routed-names config labels =
+    let P : GroupName → Type 0 = λ n. n.route ≤ length config.routes.children in
+    let Q : ℕ → Type 0 = λ p. p ≤ length config.routes.children in
+    all-map (name_in config labels) P (routes_of config.routes labels) (all_to Q (routes_of config.routes labels) (routes_of-exist config.routes labels))
+
+length-matching : (p : ℕ) (cs : List Child) (labels : List Label) → length (matching_from p cs labels) ≤ length cs
+length-matching p [] labels = omega arith
+length-matching p (c ∷ cs) labels = by (match_all c.matchers labels) c.goes_on (matching_from (p + 1) cs labels) (length-matching (p + 1) cs labels)
+  where
+    by : (m on : Bool) (rest : List ℕ) → length rest ≤ length cs → length (cond m (p ∷ cond on rest []) rest) ≤ length (c ∷ cs)
+    by true true rest h = omega (arith, h)
+    by true false rest h = omega arith
+    by false on rest h = omega (arith, h)
+
+pub length-names : (config : Config) (labels : List Label) → length (names_for config labels) ≤ length config.routes.children + 1
+length-names config labels =
+    let few = by (matching_from 1 config.routes.children labels) (length-matching 1 config.routes.children labels) in
+    omega (arith, few, length-map (routes_of config.routes labels) (name_in config labels))
+  where
+    by : (ps : List ℕ) → length ps ≤ length config.routes.children → length (or_root ps) ≤ length config.routes.children + 1
+    by [] h = omega arith
+    by (p ∷ ps) h = omega (arith, h)

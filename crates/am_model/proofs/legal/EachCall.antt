@@ -1,0 +1,69 @@
+-- What holds of each accepted call: it is enough to say it of each kind of call, with the reply that it is told and the state that it leads to.
+use Rattle.std.proofs.Common.{◌≡◌, ℕ, true, false, Option, Some, None, List, refl, ap, subst, if◌then◌else◌}
+use Rattle.std.specs.Prelude.{unwrap_or}
+use Rattle.std.specs.Option.{option_map}
+use Rattle.am_alerts.specs.AlertData.{AlertData}
+use Rattle.am_alerts.specs.declared.matcher.MatcherParts.{MatcherParts}
+use Rattle.am_mute.specs.Silence.{silence_of}
+use Rattle.am_retry.specs.declared.outcome.Outcome.{Outcome}
+use Rattle.am_model.specs.declared.config.Config.{Config}
+use Rattle.am_model.specs.declared.config.Integration.{Integration}
+use Rattle.am_model.specs.declared.record.Call.{Call}
+use Rattle.am_model.specs.declared.record.Call.TheVariants.{Insert, Silence, Begin, Finish, Maintain, Note}
+use Rattle.am_model.specs.declared.record.Reply.{Reply}
+use Rattle.am_model.specs.declared.record.Reply.TheVariants as reply_is
+use Rattle.am_model.specs.Begin.{asked_of, taken, after_asking, after_taking, reply_asking, reply_taking, begun}
+use Rattle.am_model.specs.Finish.{finished, after_finish, after_finish_of}
+use Rattle.am_model.specs.Insert.{inserted, after_insert}
+use Rattle.am_model.specs.Note.{may_note, noted, after_note, after_note_of}
+use Rattle.am_model.specs.Replay.{reply, after_call}
+use Rattle.am_model.specs.State.{GroupState, FlushState, State, at_moment, moment, flush_numbered}
+use Rattle.am_model.specs.Upkeep.{silenced, after_silence, maintained, after_maintain}
+
+pub inside : {X : Type 0} (x y : X) → Some x ≡ Some y → x ≡ y
+inside x y e = ap (λ o. unwrap_or o x) e
+
+-- it holds of each kind of call
+pub record HoldsOfEach (config : Config) (id : ℕ) (s : State) (P : Call → State → Reply → Type 0) : Type 0 where
+  pub insert : (now : ℕ) (a : AlertData) → P (Insert now a) (after_insert config s (moment s now) a) (reply_is.Inserted (inserted config s a))
+  pub silence : (now number : ℕ) (matchers : List MatcherParts) (start end : ℕ)
+      → P (Silence now number matchers start end) (after_silence s (moment s now) (silence_of number matchers start end)) (reply_is.Silenced (silenced s (silence_of number matchers start end)))
+  pub nothing : (now : ℕ) → taken s (moment s now) ≡ None → P (Begin now) (at_moment s (moment s now)) reply_is.NothingDue
+  pub begin : (now : ℕ) (g : GroupState) → taken s (moment s now) ≡ Some g → (asked : List (ℕ × Integration)) → asked_of config s (moment s now) g ≡ asked
+      → P (Begin now) (after_asking config s (moment s now) g asked) (reply_asking config id s (moment s now) g asked)
+  pub finish : (now number : ℕ) (outcomes : List (ℕ × Outcome)) (f : FlushState) → flush_numbered s.flushes number ≡ Some f
+      → P (Finish now number outcomes) (after_finish config s (moment s now) outcomes f) (reply_is.Finished (finished s outcomes f))
+  pub maintain : (now : ℕ) → P (Maintain now) (after_maintain s (moment s now)) (reply_is.Maintained (maintained s (moment s now)))
+  pub note : (now number integration : ℕ) (outcome : Option Outcome) (f : FlushState) → flush_numbered s.flushes number ≡ Some f → may_note integration outcome f ≡ true
+      → P (Note now number integration outcome) (after_note config s (moment s now) integration f) reply_is.Noted
+
+-- so it holds of any that was told its reply
+module _ (config : Config) (id : ℕ) (s : State) (P : Call → State → Reply → Type 0) (each : HoldsOfEach config id s P) where
+  begins : (now : ℕ) (o : Option GroupState) → taken s (moment s now) ≡ o → P (Begin now) (after_taking config s (moment s now) o) (reply_taking config id s (moment s now) o)
+  begins now None e = each.nothing now e
+  begins now (Some g) e = each.begin now g e (asked_of config s (moment s now) g) refl
+
+  finishes : (now number : ℕ) (outcomes : List (ℕ × Outcome)) (o : Option FlushState) (p : Reply) → flush_numbered s.flushes number ≡ o → option_map (λ f. reply_is.Finished (finished s outcomes f)) o ≡ Some p
+      → P (Finish now number outcomes) (after_finish_of config s (moment s now) outcomes o) p
+  finishes now number outcomes None p is e = absurd (cc)
+  finishes now number outcomes (Some f) p is e =
+      subst (P (Finish now number outcomes) (after_finish config s (moment s now) outcomes f)) (inside (reply_is.Finished (finished s outcomes f)) p e) (each.finish now number outcomes f is)
+
+  notes : (now number integration : ℕ) (outcome : Option Outcome) (o : Option FlushState) (p : Reply) → flush_numbered s.flushes number ≡ o → noted integration outcome o ≡ Some p
+      → P (Note now number integration outcome) (after_note_of config s (moment s now) integration outcome o) p
+  notes now number integration outcome None p is e = absurd (cc)
+  notes now number integration outcome (Some f) p is e =
+      elim (may_note integration outcome f) as (λ b. may_note integration outcome f ≡ b → (if b then Some reply_is.Noted else None) ≡ Some p → P (Note now number integration outcome) (if b then after_note config s (moment s now) integration f else at_moment s (moment s now)) p) [
+        | true ↦ λ may told. subst (P (Note now number integration outcome) (after_note config s (moment s now) integration f)) (inside reply_is.Noted p told) (each.note now number integration outcome f is may)
+        | false ↦ λ may told. absurd (cc)
+      ] refl e
+
+  pub each_call : (c : Call) (p : Reply) → reply config id s c ≡ Some p → P c (after_call config s c) p
+  each_call (Insert now a) p e = subst (P (Insert now a) (after_insert config s (moment s now) a)) (inside (reply_is.Inserted (inserted config s a)) p e) (each.insert now a)
+  each_call (Silence now number matchers start end) p e =
+      subst (P (Silence now number matchers start end) (after_silence s (moment s now) (silence_of number matchers start end)))
+      (inside (reply_is.Silenced (silenced s (silence_of number matchers start end))) p e) (each.silence now number matchers start end)
+  each_call (Begin now) p e = subst (P (Begin now) (after_call config s (Begin now))) (inside (begun config id s (moment s now)) p e) (begins now (taken s (moment s now)) refl)
+  each_call (Finish now number outcomes) p e = finishes now number outcomes (flush_numbered s.flushes number) p refl e
+  each_call (Maintain now) p e = subst (P (Maintain now) (after_maintain s (moment s now))) (inside (reply_is.Maintained (maintained s (moment s now))) p e) (each.maintain now)
+  each_call (Note now number integration outcome) p e = notes now number integration outcome (flush_numbered s.flushes number) p refl e

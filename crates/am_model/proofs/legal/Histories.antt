@@ -1,0 +1,75 @@
+-- A history with one record more.
+use Rattle.std.proofs.Common.{◌≡◌, ℕ, true, false, cond, max, min, Option, Some, None, List, [], ◌∷◌, ◌++◌, refl, ap, ◌∙◌}
+use Rattle.std.specs.Prelude.{fold}
+use Rattle.std.proofs.lemmas.List.Sums.{fold-append}
+use Rattle.am_retry.specs.declared.outcome.Outcome.{Outcome}
+use Rattle.am_alerts.specs.declared.limits.TheConstants.{MAX_MOMENT}
+use Rattle.am_model.specs.declared.config.Config.{Config}
+use Rattle.am_model.specs.declared.config.Integration.{Integration}
+use Rattle.am_model.specs.declared.record.Call.{Call}
+use Rattle.am_model.specs.declared.record.Call.TheVariants.{Insert, Silence, Begin, Finish, Maintain, Note}
+use Rattle.am_model.specs.declared.record.Record.{Record}
+use Rattle.am_model.specs.Begin.{taken, asked_of, after_asking, after_taking}
+use Rattle.am_model.specs.Finish.{after_finish_of}
+use Rattle.am_model.specs.Note.{may_note, after_note, after_note_of}
+use Rattle.am_model.specs.Records.{now_of}
+use Rattle.am_model.specs.Laws.{ReplayAppends, LegalAppends, ClockIsMoment}
+use Rattle.am_model.specs.Replay.{reply, after, after_call, replay_from, IsLegalFrom}
+use Rattle.am_model.specs.State.{GroupState, FlushState, State, opening_state, moment, at_moment, flush_numbered}
+
+pub replay_appends : ReplayAppends
+replay_appends config history r = fold-append (after config) opening_state history (r ∷ [])
+
+-- what was legal before stays so, and the last reply is the one that is given
+legal_parts : (config : Config) (id : ℕ) (s : State) (history : List Record) (r : Record) → IsLegalFrom config id s (history ++ r ∷ []) → IsLegalFrom config id s history × (reply config id (replay_from config s history) r.call ≡ Some r.reply)
+legal_parts config id s [] r h = (tt, h.0)
+legal_parts config id s (q ∷ history) r h =
+    let rest = legal_parts config id (after config s q) history r h.1 in
+    ((h.0, rest.0), rest.1)
+
+-- a legal history and a reply that is given
+legal_whole : (config : Config) (id : ℕ) (s : State) (history : List Record) (r : Record) → IsLegalFrom config id s history × (reply config id (replay_from config s history) r.call ≡ Some r.reply) → IsLegalFrom config id s (history ++ r ∷ [])
+legal_whole config id s [] r h = (h.1, tt)
+legal_whole config id s (q ∷ history) r h = (h.0.0, legal_whole config id (after config s q) history r (h.0.1, h.1))
+
+pub legal_appends : LegalAppends
+legal_appends config id history r = (legal_parts config id opening_state history r, legal_whole config id opening_state history r)
+
+-- each begin leaves the clock at its moment
+asking_clock : (config : Config) (s : State) (t : ℕ) (g : GroupState) (asked : List (ℕ × Integration)) → (after_asking config s t g asked).clock ≡ t
+asking_clock config s t g [] = refl
+asking_clock config s t g (i ∷ is) = refl
+
+taking_clock : (config : Config) (s : State) (t : ℕ) (g : Option GroupState) → (after_taking config s t g).clock ≡ t
+taking_clock config s t None = refl
+taking_clock config s t (Some g) = asking_clock config s t g (asked_of config s t g)
+
+-- so does each finish
+finish_clock : (config : Config) (s : State) (t : ℕ) (outcomes : List (ℕ × Outcome)) (f : Option FlushState) → (after_finish_of config s t outcomes f).clock ≡ t
+finish_clock config s t outcomes None = refl
+finish_clock config s t outcomes (Some f) = refl
+
+-- and each note
+note_clock : (config : Config) (s : State) (t integration : ℕ) (outcome : Option Outcome) (f : Option FlushState) → (after_note_of config s t integration outcome f).clock ≡ t
+note_clock config s t integration outcome None = refl
+note_clock config s t integration outcome (Some f) =
+    elim (may_note integration outcome f) as (λ b. (cond b (after_note config s t integration f) (at_moment s t)).clock ≡ t) [ true ↦ refl | false ↦ refl ]
+
+-- each call leaves the clock at its moment
+pub after_clock : (config : Config) (s : State) (c : Call) → (after_call config s c).clock ≡ moment s (now_of c)
+after_clock config s (Insert now alert) = refl
+after_clock config s (Silence now number matchers start end) = refl
+after_clock config s (Begin now) = taking_clock config s (moment s now) (taken s (moment s now))
+after_clock config s (Finish now number outcomes) = finish_clock config s (moment s now) outcomes (flush_numbered s.flushes number)
+after_clock config s (Maintain now) = refl
+after_clock config s (Note now number integration outcome) =
+    note_clock config s (moment s now) integration outcome (flush_numbered s.flushes number)
+
+clock_from : (config : Config) (s : State) (history : List Record) → (replay_from config s history).clock ≡ fold (λ t r. max t (min (now_of r.call) MAX_MOMENT)) s.clock history
+clock_from config s [] = refl
+clock_from config s (r ∷ history) =
+    clock_from config (after config s r) history
+    ∙ ap (λ t. fold (λ t r. max t (min (now_of r.call) MAX_MOMENT)) t history) (after_clock config s r.call)
+
+pub clock_is_moment : ClockIsMoment
+clock_is_moment config history = clock_from config opening_state history

@@ -1,0 +1,8 @@
+pub mod Alone
+pub mod Distinct
+pub mod Exchanges
+pub mod InOrder
+pub mod Places
+pub mod Removals
+pub mod Sets
+pub mod Words

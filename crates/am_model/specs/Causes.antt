@@ -1,0 +1,93 @@
+-- Causes: why a call is refused at a state after so many records, where memory is ample; the first that holds.
+use Rattle.std.specs.Prelude.{ℕ, ◌+◌, Bool, true, false, not, ◌&&◌, ◌==◌, nat_lt, nat_le, List, [], ◌∷◌, length, Option, Some, None, slice_get, if◌then◌else◌}
+use Rattle.std.specs.List.{list_any}
+use Rattle.am_alerts.specs.AlertData.{AlertData}
+use Rattle.am_mute.specs.Silence.{SilenceData}
+use Rattle.am_retry.specs.declared.outcome.Outcome.{Outcome}
+use Rattle.am_model.specs.declared.config.Config.{Config}
+use Rattle.am_model.specs.declared.config.Integration.{Integration}
+use Rattle.am_model.specs.declared.fault.Fault.{Fault}
+use Rattle.am_model.specs.declared.fault.Fault.TheVariants.{TooManyNames, TooManyGroups, TooManySilences, TooManyOpen, HistoryFull}
+use Rattle.am_model.specs.declared.fault.NoteFault.{NoteFault}
+use Rattle.am_model.specs.declared.fault.NoteFault.TheVariants as note
+use Rattle.am_model.specs.Begin.{taken, asked_of}
+use Rattle.am_model.specs.Notice.{NoticeData}
+use Rattle.am_model.specs.Ticket.{TicketData, outcome_of}
+use Rattle.am_model.specs.Insert.{inserted, same_alert}
+use Rattle.am_model.specs.Note.{is_ready, asked_by}
+use Rattle.am_model.specs.State.{GroupState, AskedState, FlushState, State, flush_numbered}
+use Rattle.am_model.specs.Upkeep.{silenced}
+
+-- whether a history has no room for so many records more, beside one for the finish of each open flush
+abbrev pub is_full : Config → ℕ → State → ℕ → Bool
+is_full config records s more = nat_lt config.limits.history (records + length s.flushes + more)
+
+-- whether an alert is new and no more may be known
+abbrev pub is_name_too_many : Config → State → AlertData → Bool
+is_name_too_many config s a = nat_le config.limits.names (length s.known) && not (list_any (same_alert a) s.known)
+
+-- whether an insert would make more groups than there may be
+abbrev pub makes_too_many : Config → State → AlertData → Bool
+makes_too_many config s a = nat_lt config.limits.groups (length s.groups + (inserted config s a).made)
+
+-- why an insert is refused
+abbrev pub insert_cause : Config → ℕ → State → AlertData → Option Fault
+insert_cause config records s a =
+    if is_full config records s 1 then Some HistoryFull
+    else (if is_name_too_many config s a then Some TooManyNames
+    else (if makes_too_many config s a then Some TooManyGroups else None))
+
+-- whether a silence is new and there may be no more
+abbrev pub is_silence_too_many : Config → State → SilenceData → Bool
+is_silence_too_many config s silence = nat_le config.limits.silences (length s.silences) && not (silenced s silence).replaced
+
+-- why a silence is refused
+abbrev pub silence_cause : Config → ℕ → State → SilenceData → Option Fault
+silence_cause config records s silence =
+    if is_full config records s 1 then Some HistoryFull
+    else (if is_silence_too_many config s silence then Some TooManySilences else None)
+
+-- whether a begin that asks these integrations opens a flush
+abbrev pub asks_some : List (ℕ × Integration) → Bool
+asks_some [] = false
+asks_some (i ∷ is) = true
+
+-- whether a begin at t that takes this group opens a flush
+abbrev pub opens_by : Config → State → ℕ → Option GroupState → Bool
+opens_by config s t None = false
+opens_by config s t (Some g) = asks_some (asked_of config s t g)
+
+-- why a begin at t is refused
+abbrev pub begin_cause : Config → ℕ → State → ℕ → Option Fault
+begin_cause config records s t =
+    if is_full config records s 2 then Some HistoryFull
+    else (if nat_le config.limits.flushes (length s.flushes) && opens_by config s t (taken s t) then Some TooManyOpen else None)
+
+-- why a maintenance is refused
+abbrev pub maintain_cause : Config → ℕ → State → Option Fault
+maintain_cause config records s = if is_full config records s 1 then Some HistoryFull else None
+
+-- why an integration isn't noted with this outcome, as a flush asked it
+abbrev pub asked_cause : Config → ℕ → State → Option Outcome → Option AskedState → Option NoteFault
+asked_cause config records s outcome None = Some note.NotReady
+asked_cause config records s outcome (Some a) =
+    if not (is_ready outcome a) then Some note.NotReady
+    else (if a.noted then Some note.Already
+    else (if is_full config records s 1 then Some note.HistoryFull else None))
+
+-- why this notice of a ticket isn't noted for its flush
+abbrev pub notice_cause : Config → ℕ → State → TicketData → Option NoticeData → FlushState → Option NoteFault
+notice_cause config records s ticket None f = Some note.NotReady
+notice_cause config records s ticket (Some n) f =
+    asked_cause config records s (outcome_of ticket.outcomes n.integration) (asked_by f n.integration)
+
+-- why the notice at a place of a ticket isn't noted for this flush
+abbrev pub flush_cause : Config → ℕ → State → TicketData → ℕ → Option FlushState → Option NoteFault
+flush_cause config records s ticket place None = Some note.NotOpen
+flush_cause config records s ticket place (Some f) = notice_cause config records s ticket (slice_get ticket.notices place) f
+
+-- why the notice at a place of a ticket isn't noted by the desk of this id
+abbrev pub note_cause : Config → ℕ → ℕ → State → TicketData → ℕ → Option NoteFault
+note_cause config id records s ticket place =
+    if ticket.desk == id then flush_cause config records s ticket place (flush_numbered s.flushes ticket.number)
+    else Some note.Foreign

@@ -1,0 +1,37 @@
+-- What a configuration says of a group.
+use Rattle.std.specs.Prelude.{ℕ, ◌+◌, ◌*◌, ◌≤◌, min, All, List, [], ◌∷◌, length, if◌then◌else◌}
+use Rattle.std.specs.List.{enumerate_from}
+use Rattle.std.specs.Str.{bytes_eq}
+use Rattle.am_alerts.specs.RoutingTree.{route_at}
+use Rattle.am_alerts.specs.declared.route.Route.{Route}
+use Rattle.am_mute.specs.Inhibit.{RuleData}
+use Rattle.am_model.specs.declared.config.Config.{Config}
+use Rattle.am_model.specs.declared.config.Integration.{Integration}
+use Rattle.am_model.specs.declared.config.Receiver.{Receiver}
+use Rattle.am_model.specs.declared.config.TheConstants.{MAX_INTEGRATIONS}
+use Rattle.am_model.specs.declared.group.GroupName.{GroupName}
+
+-- the inhibition rules of a configuration
+abbrev pub rules_of : Config → List RuleData
+rules_of config = config.rules
+
+-- the route of a group
+abbrev pub route_of : Config → GroupName → Route
+route_of config name = route_at config.routes name.route
+
+-- the integrations of the receiver of this name
+abbrev pub integrations_named : List ℕ → List Receiver → List Integration
+integrations_named name [] = []
+integrations_named name (r ∷ rs) = if bytes_eq r.name name then r.integrations else integrations_named name rs
+
+-- no receiver has more integrations than a receiver may have
+abbrev pub HaveFewIntegrations : Config → Type 0
+HaveFewIntegrations config = All (λ r. length r.integrations ≤ MAX_INTEGRATIONS) config.receivers
+
+-- the integrations of a group's receiver, each with its position
+abbrev pub integrations_of : Config → GroupName → List (ℕ × Integration)
+integrations_of config name = enumerate_from 0 (integrations_named (route_of config name).receiver config.receivers)
+
+-- the expiry of a log row of a group at t: twice the repeat interval later, or the retention if that is less (Alertmanager's SetNotifiesStage)
+abbrev pub expiry_at : Config → GroupName → ℕ → ℕ
+expiry_at config name t = t + min config.retention (2 * (route_of config name).repeat_interval)

@@ -1,0 +1,111 @@
+-- The laws of histories, record by record.
+use Rattle.std.specs.Prelude.{◌≡◌, ℕ, ◌+◌, ◌<◌, ◌≤◌, ◌↔◌, min, max, Bool, true, false, IsTrue, All, List, [], ◌∷◌, ◌++◌, fold, not, Option, Some, None, ◌==◌, if◌then◌else◌}
+use Rattle.std.specs.List.{IsDistinct}
+use Rattle.am_alerts.specs.declared.limits.TheConstants.{MAX_MOMENT}
+use Rattle.am_nflog.specs.Members.{is_empty}
+use Rattle.am_model.specs.declared.config.Config.{Config}
+use Rattle.am_model.specs.declared.group.GroupName.{GroupName}
+use Rattle.am_model.specs.declared.record.Record.{Record}
+use Rattle.am_model.specs.declared.record.Reply.{Reply}
+use Rattle.am_model.specs.declared.record.Reply.TheVariants.{Inserted, Silenced, NothingDue, Quiet, Flush, Finished, Maintained, Noted}
+use Rattle.am_model.specs.Records.{now_of}
+use Rattle.am_model.specs.Configured.{route_of}
+use Rattle.am_model.specs.Finish.{same_key}
+use Rattle.am_model.specs.Insert.{same_alert, same_member, same_group}
+use Rattle.am_model.specs.Replay.{reply, after, replay, IsLegal}
+use Rattle.am_model.specs.Upkeep.{same_silence}
+use Rattle.am_model.specs.State.{GroupState, AskedState, FlushState, State, opening_state, same_name, has_group, members_in}
+
+-- one record more is one step more
+abbrev pub ReplayAppends : Type 0
+ReplayAppends =
+    (config : Config) (history : List Record) (r : Record)
+    → replay config (history ++ r ∷ []) ≡ after config (replay config history) r
+
+-- a history with one record more is legal where the history is, and the record's reply is the one that the definitions give after it
+abbrev pub LegalAppends : Type 0
+LegalAppends =
+    (config : Config) (id : ℕ) (history : List Record) (r : Record)
+    → IsLegal config id (history ++ r ∷ []) ↔ (IsLegal config id history × (reply config id (replay config history) r.call ≡ Some r.reply))
+
+-- moment of a history: the greatest moment that its calls handed in, each at most the greatest there is
+abbrev pub moment_of : List Record → ℕ
+moment_of history = fold (λ t r. max t (min (now_of r.call) MAX_MOMENT)) 0 history
+
+-- each call leaves the clock at the history's moment
+abbrev pub ClockIsMoment : Type 0
+ClockIsMoment = (config : Config) (history : List Record) → (replay config history).clock ≡ moment_of history
+
+-- the moment of the last begin of a group since it was made, after a record that leaves the clock at t; a maintenance that finds the group without alerts ends it
+abbrev pub last_begin_after : GroupName → State → ℕ → Option ℕ → Reply → Option ℕ
+last_begin_after name s t last (Inserted inserted) = last
+last_begin_after name s t last (Silenced silenced) = last
+last_begin_after name s t last NothingDue = last
+last_begin_after name s t last (Quiet group removed) = if same_name name group then Some t else last
+last_begin_after name s t last (Flush number group deadline notices) = if same_name name group then Some t else last
+last_begin_after name s t last (Finished finished) = last
+last_begin_after name s t last (Maintained maintained) = if is_empty (members_in s.groups name) then None else last
+last_begin_after name s t last Noted = last
+
+-- the same after some records, from a state on
+abbrev pub last_begin_from : Config → GroupName → State → Option ℕ → List Record → Option ℕ
+last_begin_from config name s last [] = last
+last_begin_from config name s last (r ∷ rs) =
+    last_begin_from config name (after config s r) (last_begin_after name s (after config s r).clock last r.reply) rs
+
+-- the moment of the last begin of a group in a history since the group was made, if it was begun since
+abbrev pub last_begin : Config → GroupName → List Record → Option ℕ
+last_begin config name history = last_begin_from config name opening_state None history
+
+-- a group that was begun since it was made is flushed, and due an interval after its last begin; any other isn't flushed
+abbrev pub IsBegunAt : Config → GroupState → Option ℕ → Type 0
+IsBegunAt config g None = g.flushed ≡ false
+IsBegunAt config g (Some t) = (g.flushed ≡ true) × (g.due ≡ t + (route_of config g.name).group_interval)
+
+-- a group that was begun since it was made is there
+abbrev pub IsThere : State → GroupName → Option ℕ → Type 0
+IsThere s name None = Unit {0}
+IsThere s name (Some t) = IsTrue (has_group s.groups name)
+
+-- the groups of a history are due as their begins say, and no group that was begun goes but by a maintenance
+pub record KeepsBegins (config : Config) (history : List Record) : Type 0 where
+  pub due : All (λ g. IsBegunAt config g (last_begin config g.name history)) (replay config history).groups
+  pub there : (name : GroupName) → IsThere (replay config history) name (last_begin config name history)
+
+-- whether two flushes are of one group
+abbrev pub same_flushed : FlushState → FlushState → Bool
+same_flushed f g = same_name f.group g.group
+
+-- whether two flushes have one number
+abbrev pub same_number : FlushState → FlushState → Bool
+same_number f g = f.number == g.number
+
+-- whether two entries are of one integration
+abbrev pub same_asked : AskedState → AskedState → Bool
+same_asked a b = a.integration == b.integration
+
+-- an open flush has a number that was given, asked some integrations, each once, and its group has alerts
+pub record IsHeld (s : State) (f : FlushState) : Type 0 where
+  pub number : f.number < s.next_number
+  pub asked : IsTrue (not (is_empty f.asked))
+  pub each_once : IsDistinct same_asked f.asked
+  pub alive : IsTrue (not (is_empty (members_in s.groups f.group)))
+
+-- what holds of the state after each legal history: no two of a kind are alike, and each open flush has its group
+pub record IsConsistent (s : State) : Type 0 where
+  pub clock : s.clock ≤ MAX_MOMENT
+  pub known : IsDistinct same_alert s.known
+  pub groups : IsDistinct same_group s.groups
+  pub members : All (λ g. IsDistinct same_member g.members) s.groups
+  pub stamps : All (λ g. All (λ m. m.stamp ≤ s.inserts) g.members) s.groups
+  pub silences : IsDistinct same_silence s.silences
+  pub rows : IsDistinct same_key s.rows
+  pub flushes : IsDistinct same_flushed s.flushes
+  pub numbers : IsDistinct same_number s.flushes
+  pub held : All (IsHeld s) s.flushes
+
+-- the invariants of legal histories
+abbrev pub LegalKeeps : Type 0
+LegalKeeps =
+    (config : Config) (id : ℕ) (history : List Record)
+    → IsLegal config id history → IsConsistent (replay config history) × KeepsBegins config history

@@ -1,0 +1,6 @@
+pub mod Entry
+pub mod Interval
+pub mod Laws
+pub mod Past
+pub mod Presence
+pub mod Reasons

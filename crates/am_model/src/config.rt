@@ -1,0 +1,286 @@
+//! What a dispatcher is configured with.
+ghost use Rattle.std.specs.Prelude.{◌≡◌, ◌≤◌, ◌↔◌, length, IfOk, IsTrue, OnOk, find, string_bytes};
+ghost use Rattle.std.specs.List.{list_all, list_any};
+ghost use Rattle.std.specs.Option.{option_copied};
+ghost use Rattle.std.specs.Str.{bytes_eq};
+ghost use Rattle.am_alerts.specs.Fault.{ok_unless};
+ghost use Rattle.am_model.specs.Config.{AreAllowed, IsWithin, is_within, are_allowed, has_receiver, has_receivers, has_receiver_twice, has_many_integrations, has_good_kinds, greatest_limits, receivers_fault, bounds_fault, config_fault, kind_at, integration_text};
+
+use am_alerts::labels::is_label_name;
+use am_alerts::limits::{MAX_CHILDREN, MAX_DURATION};
+use am_alerts::route::{Child, Routes};
+use am_alerts::sequence::Sequence;
+use am_alerts::text::Text;
+use am_mute::inhibit::InhibitRule;
+use std::alloc::{AllocError, Global};
+use thiserror::Error;
+
+/// How many receivers a configuration may have.
+pub const MAX_RECEIVERS: usize = 64;
+
+/// How many integrations a receiver may have.
+pub const MAX_INTEGRATIONS: usize = 8;
+
+/// How many inhibition rules a configuration may have.
+pub const MAX_RULES: usize = 256;
+
+/// How many alerts may be known.
+pub const MAX_NAMES: usize = 65_536;
+
+/// How many groups there may be.
+pub const MAX_GROUPS: usize = 4_096;
+
+/// How many silences there may be.
+pub const MAX_SILENCES: usize = 1_024;
+
+/// How many flushes may be open.
+pub const MAX_FLUSHES: usize = 64;
+
+/// How many records a history may have.
+pub const MAX_HISTORY: usize = 1_048_576;
+
+/// One way by which a receiver is notified.
+#[derive(Debug, Drop)]
+pub struct Integration {
+    /// What it is, as `hook`; it has the form of a label name.
+    pub kind: Text,
+    /// Whether resolved alerts are notified too.
+    pub send_resolved: bool,
+}
+
+/// Who is notified: its integrations are each asked by themselves.
+#[derive(Debug, Drop)]
+pub struct Receiver {
+    pub name: Text,
+    pub integrations: Sequence<Integration>,
+}
+
+/// How much a dispatcher holds. Each number is at least 1 and at most its default.
+#[derive(Clone, Copy, Debug, PartialEq, Eq)]
+pub struct Limits {
+    /// Known alerts.
+    pub names: usize,
+    pub groups: usize,
+    pub silences: usize,
+    /// Open flushes.
+    pub flushes: usize,
+    /// Records of the history.
+    pub history: usize,
+}
+
+impl Default for Limits {
+    ghost is_default = { λ limits. limits ≡ greatest_limits };
+
+    fn default() -> Limits {
+        Limits {
+            names: MAX_NAMES,
+            groups: MAX_GROUPS,
+            silences: MAX_SILENCES,
+            flushes: MAX_FLUSHES,
+            history: MAX_HISTORY,
+        }
+    }
+}
+
+/// The configuration of a dispatcher.
+#[derive(Debug, Drop)]
+pub struct Config {
+    pub routes: Routes,
+    pub receivers: Sequence<Receiver>,
+    pub rules: Sequence<InhibitRule>,
+    /// How long a log entry is kept at most, in milliseconds.
+    pub retention: u64,
+    pub limits: Limits,
+}
+
+/// Why a configuration is refused; the first cause that holds, in this order.
+#[derive(Clone, Copy, Debug, PartialEq, Eq, Error)]
+pub enum ConfigFault {
+    #[error("a route names a receiver that isn't there")]
+    UnknownReceiver = 1,
+    #[error("two receivers have one name")]
+    ReceiverTwice = 2,
+    #[error("there are too many receivers")]
+    TooManyReceivers = 3,
+    #[error("a receiver has too many integrations")]
+    TooManyIntegrations = 4,
+    #[error("the kind of an integration is no label name")]
+    BadKind = 5,
+    #[error("there are too many inhibition rules")]
+    TooManyRules = 6,
+    #[error("the retention is zero or above 10^12")]
+    BadRetention = 7,
+    #[error("a limit is zero or above its greatest value")]
+    BadLimit = 8,
+}
+
+impl Receiver {
+    /// The text of an integration: its kind, `/` and its position.
+    pub fn integration_text(&self, alloc: Global, position: u32) -> Result<String, AllocError>
+        ensures { IfOk result (λ text. string_bytes text ≡ integration_text self.now position) }
+    {
+        let kind = self.kind_at(position);
+        format!(in alloc; "{kind}/{position}")
+    }
+
+    /// The kind of the integration at a position; nothing at a position that isn't there.
+    fn kind_at(&self, position: u32) -> &str
+        ensures { result.now ≡ kind_at self.now.integrations position }
+    {
+        match self.integrations.as_slice().get(position as usize) {
+            None => "",
+            Some(integration) => integration.kind.as_str(),
+        }
+    }
+}
+
+impl Config {
+    /// The receiver of this name, if there is one.
+    pub fn receiver(&self, name: &str) -> Option<&Receiver>
+        ensures { option_copied result ≡ find (λ r. bytes_eq r.name name.now) self.now.receivers }
+    {
+        self.receivers
+            .as_slice()
+            .iter()
+            .find(|receiver| receiver.name.as_str() == name)
+    }
+
+    /// Whether a dispatcher may be configured so. Takes no memory.
+    ///
+    /// Refused by the first cause that holds, in the order of `ConfigFault`.
+    pub fn check(&self) -> Result<(), ConfigFault>
+        ensures fault { result ≡ ok_unless (config_fault self.now) tt }
+        ensures children { length self.now.routes.children ≤ MAX_CHILDREN }
+        ensures limits { OnOk result (AreAllowed self.now.limits) }
+    {
+        self.check_receivers()?;
+        self.check_bounds()
+    }
+
+    /// Refuses the routes' receivers and the receivers themselves.
+    fn check_receivers(&self) -> Result<(), ConfigFault>
+        ensures fault { result ≡ ok_unless (receivers_fault self.now) tt }
+        ensures children { length self.now.routes.children ≤ MAX_CHILDREN }
+    {
+        let receivers = self.receivers.as_slice();
+        if !self.has_receivers() {
+            return Err(ConfigFault::UnknownReceiver);
+        }
+        if has_receiver_twice(receivers) {
+            return Err(ConfigFault::ReceiverTwice);
+        }
+        if receivers.len() > MAX_RECEIVERS {
+            return Err(ConfigFault::TooManyReceivers);
+        }
+        if has_many_integrations(receivers) {
+            return Err(ConfigFault::TooManyIntegrations);
+        }
+        if !have_good_kinds(receivers) {
+            return Err(ConfigFault::BadKind);
+        }
+        Ok(())
+    }
+
+    /// Refuses the number of rules, the retention and the limits.
+    fn check_bounds(&self) -> Result<(), ConfigFault>
+        ensures fault { result ≡ ok_unless (bounds_fault self.now) tt }
+        ensures limits { OnOk result (AreAllowed self.now.limits) }
+    {
+        if self.rules.len() > MAX_RULES {
+            return Err(ConfigFault::TooManyRules);
+        }
+        if self.retention == 0 || self.retention > MAX_DURATION {
+            return Err(ConfigFault::BadRetention);
+        }
+        if !self.limits.are_allowed() {
+            return Err(ConfigFault::BadLimit);
+        }
+        Ok(())
+    }
+
+    /// Whether each route's receiver is there.
+    fn has_receivers(&self) -> bool
+        ensures value { result ≡ has_receivers self.now }
+        ensures children { length self.now.routes.children ≤ MAX_CHILDREN }
+    {
+        let receivers = self.receivers.as_slice();
+        let children = self.routes.children();
+        has_receiver(receivers, self.routes.root().receiver.as_str())
+            && have_receivers(receivers, children)
+    }
+}
+
+/// Whether the receiver of each of these routes is there.
+fn have_receivers(receivers: &[Receiver], children: &[Child]) -> bool
+    ensures { result ≡ list_all (λ c. has_receiver receivers.now c.route.receiver) children.now }
+{
+    children.iter().all(|child| has_receiver(receivers, child.route.receiver.as_str()))
+}
+
+/// Whether there is a receiver of this name.
+fn has_receiver(receivers: &[Receiver], name: &str) -> bool
+    ensures { result ≡ has_receiver receivers.now name.now }
+{
+    receivers
+        .iter()
+        .any(|receiver| receiver.name.as_str() == name)
+}
+
+/// Whether two receivers have one name.
+fn has_receiver_twice(receivers: &[Receiver]) -> bool
+    ensures { result ≡ has_receiver_twice receivers.now }
+{
+    for (i, receiver) in receivers.iter().enumerate() {
+        if has_receiver(&receivers[i + 1..], receiver.name.as_str()) {
+            return true;
+        }
+    }
+    false
+}
+
+/// Whether a receiver has more integrations than it may.
+fn has_many_integrations(receivers: &[Receiver]) -> bool
+    ensures { result ≡ list_any has_many_integrations receivers.now }
+{
+    receivers
+        .iter()
+        .any(|r| r.integrations.len() > MAX_INTEGRATIONS)
+}
+
+/// Whether the kinds of all integrations have the form of label names.
+fn have_good_kinds(receivers: &[Receiver]) -> bool
+    ensures { result ≡ list_all has_good_kinds receivers.now }
+{
+    receivers.iter().all(|receiver| receiver.has_good_kinds())
+}
+
+impl Receiver {
+    fn has_good_kinds(&self) -> bool
+        ensures { result ≡ has_good_kinds self.now }
+    {
+        self.integrations
+            .as_slice()
+            .iter()
+            .all(|i| is_label_name(i.kind.as_str()))
+    }
+}
+
+impl Limits {
+    fn are_allowed(&self) -> bool
+        ensures value { result ≡ are_allowed self.now }
+        ensures tells { IsTrue result ↔ AreAllowed self.now }
+    {
+        is_within(self.names, MAX_NAMES)
+            && is_within(self.groups, MAX_GROUPS)
+            && is_within(self.silences, MAX_SILENCES)
+            && is_within(self.flushes, MAX_FLUSHES)
+            && is_within(self.history, MAX_HISTORY)
+    }
+}
+
+fn is_within(limit: usize, most: usize) -> bool
+    ensures value { result ≡ is_within limit most }
+    ensures tells { IsTrue result ↔ IsWithin limit most }
+{
+    1 <= limit && limit <= most
+}

@@ -1,0 +1,93 @@
+//! Why calls of a dispatcher are refused.
+ghost use Rattle.std.specs.Prelude.{◌≡◌};
+ghost use Rattle.am_model.specs.declared.fault.Fault.TheVariants as fault;
+ghost use Rattle.am_model.specs.declared.fault.BoardFault.TheVariants as board_fault;
+ghost use Rattle.am_model.specs.Faults.{board_fault_number};
+
+use crate::config::ConfigFault;
+use std::alloc::AllocError;
+use thiserror::Error;
+
+/// Why an insert, a silence, a begin or a maintenance is refused. Where several causes hold, the
+/// order is `HistoryFull`, `TooManyNames`, `TooManyGroups`, `TooManySilences`, `TooManyOpen`,
+/// `NoMemory`; but memory that is refused while an insert's groups or a begin's asked integrations
+/// are worked out comes before `TooManyGroups` and `TooManyOpen`.
+#[derive(Clone, Copy, Debug, PartialEq, Eq, Error)]
+pub enum Fault {
+    #[error("out of memory")]
+    NoMemory = 1,
+    #[error("the label set is new, and as many alerts are known as may be")]
+    TooManyNames = 2,
+    #[error("the insert would make more groups than there may be")]
+    TooManyGroups = 3,
+    #[error("the silence is new, and there are as many as there may be")]
+    TooManySilences = 4,
+    #[error("the begin would open a flush, and as many are open as may be")]
+    TooManyOpen = 5,
+    #[error("the history has no room for the record")]
+    HistoryFull = 6,
+}
+
+impl From<AllocError> for Fault {
+    ghost from_gives = { λ _ e. e ≡ fault.NoMemory };
+
+    fn from(_error: AllocError) -> Fault {
+        Fault::NoMemory
+    }
+}
+
+/// Why no board is made.
+#[derive(Clone, Copy, Debug, PartialEq, Eq, Error)]
+pub enum BoardFault {
+    #[error("out of memory")]
+    NoMemory,
+    #[error("the configuration is refused: {0}")]
+    BadConfig(ConfigFault),
+}
+
+impl From<AllocError> for BoardFault {
+    ghost from_gives = { λ _ e. e ≡ board_fault.NoMemory };
+
+    fn from(_error: AllocError) -> BoardFault {
+        BoardFault::NoMemory
+    }
+}
+
+/// Why a note is refused; in the order `Foreign`, `NotOpen`, `NotReady`, `Already`, `HistoryFull`,
+/// `NoMemory`. Neither board nor ticket changes.
+#[derive(Clone, Copy, Debug, PartialEq, Eq, Error)]
+pub enum NoteFault {
+    #[error("out of memory")]
+    NoMemory = 1,
+    #[error("the history has no room for the record")]
+    HistoryFull = 6,
+    #[error("the ticket names another desk")]
+    Foreign = 7,
+    #[error("no open flush has the ticket's number")]
+    NotOpen = 8,
+    #[error("there is no such notice, or it isn't reported delivered")]
+    NotReady = 9,
+    #[error("the integration was noted before")]
+    Already = 10,
+}
+
+/// Why a report isn't recorded; in the order `Stranger`, `Twice`. The ticket stays as it was.
+#[derive(Clone, Copy, Debug, PartialEq, Eq, Error)]
+pub enum ReportFault {
+    #[error("the report is of no notice of this ticket that has something to send")]
+    Stranger = 1,
+    #[error("the notice has a report already")]
+    Twice = 2,
+}
+
+impl BoardFault {
+    /// The number of this fault.
+    pub fn number(&self) -> u8
+        ensures { result ≡ board_fault_number self.now }
+    {
+        match self {
+            BoardFault::NoMemory => 1,
+            BoardFault::BadConfig(_) => 2,
+        }
+    }
+}

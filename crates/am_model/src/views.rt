@@ -1,0 +1,51 @@
+//! What is shown of what a dispatcher holds.
+use crate::group::GroupName;
+use am_alerts::alert::Alert;
+use am_alerts::labels::Labels;
+use am_alerts::sequence::Sequence;
+
+/// A log row. Moments are in milliseconds, and label sets in their order.
+#[derive(Debug, Drop)]
+pub struct RowView {
+    pub group: GroupName,
+    pub integration: u32,
+    pub moment: u64,
+    pub expiry: u64,
+    pub firing: Sequence<Labels>,
+    pub resolved: Sequence<Labels>,
+}
+
+/// A group. Its alerts are in the order of their labels.
+#[derive(Debug, Drop)]
+pub struct GroupView {
+    pub group: GroupName,
+    /// When it is flushed next, in milliseconds.
+    pub due: u64,
+    /// Whether it was flushed since it was made.
+    pub flushed: bool,
+    pub alerts: Sequence<Alert>,
+}
+
+/// How much there is on a board.
+#[derive(Clone, Copy, Debug, PartialEq, Eq)]
+pub struct Summary {
+    /// Accepted calls.
+    pub calls: usize,
+    pub groups: usize,
+    /// Alerts over all groups.
+    pub alerts: usize,
+    /// Open flushes.
+    pub flushes: usize,
+    /// Rows of the log.
+    pub entries: usize,
+}
+
+/// How much there is on a board, without its alerts and rows.
+#[derive(Clone, Copy, Debug, PartialEq, Eq)]
+pub struct Glance {
+    /// Accepted calls.
+    pub calls: usize,
+    pub groups: usize,
+    /// Open flushes.
+    pub flushes: usize,
+}

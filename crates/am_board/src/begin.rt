@@ -19,8 +19,6 @@ ghost use Rattle.am_model.specs.declared.config.Config.{Config as ConfigData};
 ghost use Rattle.am_board.specs.declared.group.Group.{Group};
 ghost use Rattle.am_model.specs.declared.group.GroupName.{GroupName};
 
-pub use am_model::notice::LEAST_TIME;
-
 use crate::config::Config;
 use crate::fault::Fault;
 use crate::flush::{OpenFlush, is_open};
@@ -31,6 +29,7 @@ use crate::state::State;
 use crate::ticket::Ticket;
 use am_alerts::labels::Labels;
 use am_alerts::limits::MAX_MOMENT;
+pub use am_model::notice::LEAST_TIME;
 use am_nflog::{LogKey, NfLog};
 use std::alloc::{AllocError, Global};
 

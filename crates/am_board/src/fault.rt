@@ -2,9 +2,8 @@
 ghost use Rattle.std.specs.Prelude.{◌≡◌};
 ghost use Rattle.am_board.specs.Faults.{finish_fault_number};
 
-pub use am_model::fault::{BoardFault, Fault, NoteFault, ReportFault};
-
 use crate::ticket::Ticket;
+pub use am_model::fault::{BoardFault, Fault, NoteFault, ReportFault};
 
 /// Why a finish is refused. It holds a ticket, which must be spent.
 pub enum FinishFault {

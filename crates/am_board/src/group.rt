@@ -8,10 +8,9 @@ ghost use Rattle.am_board.specs.Kept.{member_state, group_state};
 ghost use Rattle.am_model.specs.Lists.{put_in};
 ghost use Rattle.am_model.specs.declared.config.Config.{Config};
 
-pub use am_model::group::GroupName;
-
 use am_alerts::alert::Alert;
 use am_alerts::labels::Labels;
+pub use am_model::group::GroupName;
 use std::alloc::AllocError;
 
 /// An alert of a group, with the stamp of the insert that put it there.

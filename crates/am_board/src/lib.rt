@@ -21,8 +21,4 @@ mod state;
 pub mod ticket;
 pub mod views;
 
-pub use am_model::config;
-pub use am_model::law;
-pub use am_model::notice;
-pub use am_model::reason;
-pub use am_model::record;
+pub use am_model::{config, law, notice, reason, record};

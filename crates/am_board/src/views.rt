@@ -10,8 +10,6 @@ ghost use Rattle.am_board.specs.LogRows.{row_under, log_rows};
 ghost use Rattle.am_model.specs.Laws.{IsConsistent};
 ghost use Rattle.am_model.specs.Views.{row_views, group_view, group_views, summary, summary_at, summary_data, glance, glance_at};
 
-pub use am_model::views::{Glance, GroupView, RowView, Summary};
-
 use crate::board::Board;
 use crate::found::by_labels;
 use crate::group::{Group, GroupName, Member};
@@ -19,6 +17,7 @@ use crate::state::State;
 use am_alerts::alert::Alert;
 use am_alerts::labels::Labels;
 use am_alerts::sequence::copy_all;
+pub use am_model::views::{Glance, GroupView, RowView, Summary};
 use am_nflog::{LogKey, LogRow, NfLog};
 use std::alloc::{AllocError, Global};
 

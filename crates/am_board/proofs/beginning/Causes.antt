@@ -22,7 +22,7 @@ use Rattle.am_board.specs.History.{reply_of, IsFresh}
 use Rattle.am_board.specs.Kept.{state_of, group_state, flush_state}
 use Rattle.am_board.specs.Beginning.{IsPlan, first_of, IsTaking, IsEnd}
 use Rattle.am_model.specs.State.{moment}
-use Rattle.am_board.specs.Step.{IsGood, Accepts, Stays, IsAnswer}
+use Rattle.am_board.specs.Step.{Accepts, Stays, IsAnswer}
 
 -- what a begin is to answer where this is the first cause other than memory
 abbrev pub IsTold : Config → ℕ → ℕ → ℕ → kept.State → kept.State → Option Fault → Result Begun Fault → Type 0
@@ -119,10 +119,6 @@ taking_found config s taking g groups flushes all open_now at within first is du
     }
 
 -- ---- what is worked out for the group that a begin takes
-
--- nothing changed
-pub stays_same : (config : Config) (s : kept.State) → IsGood config s → Stays config s s
-stays_same config s good = record { state = refl; routed = good.routed; prepared = good.prepared; history = refl; records = refl; room = good.room }
 
 module _ (config : Config) (id : ℕ) (s : kept.State) (taking : Taking) (g : Group) (takes : IsTaking config s taking g) where
   -- the plan is for this group

@@ -4,7 +4,6 @@ use Rattle.std.specs.Cmp.{on_equiv}
 use Rattle.std.proofs.Math.ListN.{set}
 use Rattle.std.proofs.lemmas.List.{get_or-map, length-map, map-set, map-append}
 use Rattle.std.proofs.lemmas.List.Elements.{All-append, All-cons, All-nil}
-use Rattle.std.proofs.lemmas.List.Sorted.{IsPermutation-refl}
 use Rattle.am_alerts.specs.declared.labels.Label.{Label}
 use Rattle.am_nflog.specs.Log.{Slots, is_known}
 use Rattle.am_nflog.specs.declared.key.LogKey.{LogKey}
@@ -25,7 +24,7 @@ use Rattle.am_model.specs.Configured.{route_of}
 use Rattle.am_board.specs.Group.{names_of, AreRouted}
 use Rattle.am_model.specs.Records.{entry}
 use Rattle.am_model.specs.Insert.{same_group}
-use Rattle.am_board.specs.Kept.{state_of, group_state, flush_state, Agrees, IsPrepared}
+use Rattle.am_board.specs.Kept.{state_of, group_state, flush_state, IsPrepared}
 use Rattle.am_board.specs.LogRows.{log_rows}
 use Rattle.am_model.specs.Lists.{changed_where}
 use Rattle.am_board.specs.Beginning.{IsOpening, IsTaking}
@@ -34,11 +33,8 @@ use Rattle.am_model.specs.State.{GroupState, FlushState, State, is_named, same_n
 use Rattle.am_board.specs.Step.{IsGood, Accepts}
 use Rattle.am_board.proofs.keeping.GroupNames.{names_set}
 use Rattle.am_model.proofs.lists.Alone.{changed_where-like}
-use Rattle.am_board.proofs.beginning.ReservedRows.{same_name-laws}
-
--- equal states agree
-pub agrees : (a b : State) → a ≡ b → Agrees a b
-agrees a b e = subst (Agrees a) e (record { rows = IsPermutation-refl a.rows; rest = refl })
+use Rattle.am_model.proofs.states.Alike.{same_name_equiv}
+use Rattle.am_board.proofs.keeping.Staying.{agrees_same}
 
 -- the reply and the state where some integrations are asked
 told_opened : (config : Config) (id : ℕ) (s : State) (t : ℕ) (g : GroupState) (asked : List (ℕ × Integration)) → asked ≢ []
@@ -84,7 +80,7 @@ module _ (config : Config) (id : ℕ) (old : kept.State) (taking : Taking) (g : 
       let there : get_or (map group_state old.groups.items) taking.place (group_state g) ≡ group_state g = get_or-map group_state old.groups.items taking.place g (group_state g) within ∙ ap group_state (takes.group g) in
       let place : taking.place < length (map group_state old.groups.items) = omega (arith, within, length-map old.groups.items group_state) in
       subst (λ (x : GroupState). changed_where (same_group x) change (map group_state old.groups.items) ≡ set (map group_state old.groups.items) taking.place (change x)) there
-      (changed_where-like same_group (on_equiv (λ (x : GroupState). x.name) same_name-laws) change (map group_state old.groups.items) taking.place (group_state g) good.consistent.groups place)
+      (changed_where-like same_group (on_equiv (λ (x : GroupState). x.name) same_name_equiv) change (map group_state old.groups.items) taking.place (group_state g) good.consistent.groups place)
 
   groups_after : (change : GroupState → GroupState) (h : Group) → group_state h ≡ change (group_state g)
       → map group_state (set old.groups.items taking.place h) ≡ changed_where (is_named g.name) change (map group_state old.groups.items)
@@ -129,7 +125,7 @@ module _ (config : Config) (id : ℕ) (old : kept.State) (taking : Taking) (g : 
             ∙ ap (λ asked. Some (reply_asking config id (state_of old) taking.t (group_state g) asked)) none
             ∙ (λ i. Some (Quiet (sym named i) (sym gone i)));
         state =
-            agrees _ _
+            agrees_same _ _
             (ap state_of is
             ∙ ap (λ gs. record (state_of old) { clock = taking.t; groups = gs }) groups
             ∙ sym (after_this (Quiet name removed) ∙ ap (λ asked. after_asking config (state_of old) taking.t (group_state g) asked) none));
@@ -175,7 +171,7 @@ module _ (config : Config) (id : ℕ) (old : kept.State) (taking : Taking) (g : 
             ∙ ap (λ r. Some r) (told_opened config id (state_of old) taking.t (group_state g) all_asked some)
             ∙ (λ i. Some (Flush (sym opening.number i) (sym opening.group i) (sym opening.deadline i) (sym opening.notices i)));
         state =
-            agrees _ _
+            agrees_same _ _
             (ap state_of is
             ∙ (λ i. record (state_of old) { clock = taking.t; groups = groups i; rows = rows i; flushes = opened i; next_number = old.next_number + 1 })
             ∙ sym (after_this (Flush o.number o.group o.deadline o.notices.items) ∙ after_opened config (state_of old) taking.t (group_state g) all_asked some));

@@ -1,42 +1,27 @@
 -- Making log keys known: the rows stay, and so do the known keys.
-use Rattle.std.proofs.Common.{◌≡◌, ℕ, ◌+◌, ◌<◌, true, false, cond, ◌||◌, List, [], ◌∷◌, ◌++◌, length, map, get_or, Option, None, IsTrue, inl, inr, refl, sym, ap, subst, ◌∙◌, arith}
-use Rattle.std.specs.Cmp.{IsEquivalence, and_equiv, on_equiv, nat_eq_equiv}
-use Rattle.std.specs.Option.{option_map}
+use Rattle.std.proofs.Common.{◌≡◌, ℕ, ◌+◌, ◌<◌, ◌||◌, List, length, get_or, IsTrue, inl, inr, sym, ap, subst, ◌∙◌, arith}
 use Rattle.std.proofs.Math.Bool.{or-true}
 use Rattle.std.proofs.lemmas.Bool.{cases_lt}
-use Rattle.std.proofs.lemmas.List.{append-nil, get_or_default}
-use Rattle.std.proofs.lemmas.List.Elements.{filter_map-append}
-use Rattle.am_alerts.specs.LabelOrder.{same_label_set_equiv}
+use Rattle.std.proofs.lemmas.List.{get_or_default}
 use Rattle.am_alerts.specs.declared.labels.Label.{Label}
 use Rattle.am_nflog.proofs.CallerLemmas.{is_known-with_key, key_eq-laws}
-use Rattle.am_nflog.specs.Log.{Slots, key_eq, is_known, rows_of, with_key}
+use Rattle.am_nflog.specs.Log.{Slots, key_eq, is_known, with_key}
 use Rattle.am_nflog.specs.declared.key.LogKey.{LogKey}
-use Rattle.am_nflog.specs.declared.row.LogRow.{LogRow}
-use Rattle.am_board.specs.LogRows.{row_under, log_rows}
+use Rattle.am_board.specs.LogRows.{log_rows}
 use Rattle.am_model.specs.State.{same_name}
 use Rattle.am_board.specs.declared.flush.Asked.{Asked}
 use Rattle.am_model.specs.declared.group.GroupName.{GroupName}
-
--- names are equal as lawfully as their parts are
-pub same_name-laws : IsEquivalence same_name
-same_name-laws = and_equiv (on_equiv (λ (n : GroupName). n.route) nat_eq_equiv) (on_equiv (λ (n : GroupName). n.labels) same_label_set_equiv)
-
--- a key that is made known has no row
-pub log_rows-with_key : (log : Slots GroupName (List Label)) (key : LogKey GroupName) → log_rows (with_key same_name log key) ≡ log_rows log
-log_rows-with_key log key =
-    elim (is_known same_name log key) as (λ b. log_rows (cond b log (log ++ (key, None) ∷ [])) ≡ log_rows log) [
-      | true ↦ refl
-      | false ↦ ap (map row_under) (filter_map-append (λ (slot : LogKey GroupName × Option (LogRow (List Label))). option_map (λ row. (slot.0, row)) slot.1) log ((key, None) ∷ []) ∙ append-nil (rows_of log))
-    ]
+use Rattle.am_model.proofs.states.Alike.{same_name_equiv}
+use Rattle.am_board.proofs.keeping.LogRows.{log_rows-with_key}
 
 -- a known key stays known
 pub known-with_key : (log : Slots GroupName (List Label)) (key q : LogKey GroupName) → IsTrue (is_known same_name log q) → IsTrue (is_known same_name (with_key same_name log key) q)
-known-with_key log key q known = is_known-with_key same_name log same_name-laws key q ∙ ap (λ b. b || key_eq same_name q key) known
+known-with_key log key q known = is_known-with_key same_name log same_name_equiv key q ∙ ap (λ b. b || key_eq same_name q key) known
 
 -- the key is known
 pub known-itself : (log : Slots GroupName (List Label)) (key : LogKey GroupName) → IsTrue (is_known same_name (with_key same_name log key) key)
 known-itself log key =
-    is_known-with_key same_name log same_name-laws key key ∙ ap (λ b. is_known same_name log key || b) ((key_eq-laws same_name-laws).refl key) ∙ or-true (is_known same_name log key)
+    is_known-with_key same_name log same_name_equiv key key ∙ ap (λ b. is_known same_name log key || b) ((key_eq-laws same_name_equiv).refl key) ∙ or-true (is_known same_name log key)
 
 -- what a walk over the integrations that a flush of this group asks, which makes their keys known, has done up to a place
 pub record ReservingRows (from log : Slots GroupName (List Label)) (items : List Asked) (group : GroupName) (upto : ℕ) : Type 0 where
@@ -50,7 +35,7 @@ pub reserving_rows_step : (from log : Slots GroupName (List Label)) (items : Lis
     → ReservingRows from log items group upto → ReservingRows from (with_key same_name log key) items group (upto + 1)
 reserving_rows_step from log items group upto key a within is keyed before =
     record {
-      rows = log_rows-with_key log key ∙ before.rows;
+      rows = log_rows-with_key same_name log key ∙ before.rows;
       known = λ q h. known-with_key log key q (before.known q h);
       asked = λ k d less same.
           elim (cases_lt k upto) [

@@ -1,9 +1,7 @@
 -- An open flush among those that are kept.
 use Rattle.std.proofs.Common.{◌≡◌, ℕ, zero, suc, ◌+◌, ◌<◌, ◌==◌, Some, List, [], ◌∷◌, length, map, get_or, fold, refl, sym, ap, ◌∙◌, subst, arith}
 use Rattle.std.specs.Prelude.{All}
-use Rattle.std.specs.Cmp.{IsEquivalence}
 use Rattle.std.specs.List.{remove}
-use Rattle.std.proofs.lemmas.Cmp.{on_equiv, nat_eq_equiv}
 use Rattle.std.proofs.lemmas.List.{length-map, get_or-map}
 use Rattle.std.proofs.lemmas.List.Elements.{All-append, All-take, All-drop, All-weaker}
 use Rattle.am_alerts.specs.declared.labels.Label.{Label}
@@ -22,9 +20,7 @@ use Rattle.am_board.specs.declared.state.State as kept
 use Rattle.am_model.specs.declared.views.RowView.{RowView}
 use Rattle.am_model.proofs.lists.Alone.{IsAlone, find-alone, alone-distinct}
 use Rattle.am_board.proofs.finishing.Logging.{asked-of}
-
-number-laws : IsEquivalence same_number
-number-laws = on_equiv (λ (f : FlushState). f.number) nat_eq_equiv
+use Rattle.am_model.proofs.states.Alike.{same_number_equiv}
 
 -- the flush at a place is the one of its number
 module _ (config : Config) (s : kept.State) (f : ℕ) (o : OpenFlush) (within : f < length s.flushes.items) (is : o ≡ get_or s.flushes.items f o) (good : IsGood config s) where
@@ -33,9 +29,9 @@ module _ (config : Config) (s : kept.State) (f : ℕ) (o : OpenFlush) (within : 
 
   pub open-alone : IsAlone (λ g. g.number == o.number) (map flush_state s.flushes.items) f
   open-alone =
-      alone-distinct same_number number-laws (λ g. g.number == o.number) (map flush_state s.flushes.items) f (flush_state o)
+      alone-distinct same_number same_number_equiv (λ g. g.number == o.number) (map flush_state s.flushes.items) f (flush_state o)
       (omega (arith, length-map s.flushes.items flush_state)) good.consistent.numbers
-      (λ y. number-laws.symm y (flush_state o) ∙ ap (λ (x : FlushState). x.number == y.number) (sym at_place))
+      (λ y. same_number_equiv.symm y (flush_state o) ∙ ap (λ (x : FlushState). x.number == y.number) (sym at_place))
 
   pub open-found : flush_numbered (map flush_state s.flushes.items) o.number ≡ Some (flush_state o)
   open-found = find-alone (λ g. g.number == o.number) (map flush_state s.flushes.items) f (flush_state o) open-alone ∙ ap Some at_place

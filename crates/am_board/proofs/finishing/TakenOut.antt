@@ -17,7 +17,7 @@ use Rattle.am_board.specs.declared.flush.OpenFlush.{OpenFlush}
 use Rattle.am_board.specs.declared.group.Group.{Group}
 use Rattle.am_model.specs.declared.group.GroupName.{GroupName}
 use Rattle.am_model.proofs.lists.Alone.{IsAlone, find-position, find-no_position, find-mapped, none-find, filter-none, all-never, without-none, changed_where-none, changed_where-same, changed_where-alone, alone-distinct}
-use Rattle.am_model.proofs.states.InOrder.{same_name-laws, same_group-laws}
+use Rattle.am_model.proofs.states.Alike.{same_group_equiv, same_name_equiv}
 
 -- ---- a name that no group has, and one that a group has
 
@@ -45,8 +45,8 @@ changed-found name groups i d change g at distinct is =
     let there : get_or (map group_state groups) i (group_state d) ≡ group_state (get_or groups i d) = get_or-map group_state groups i d (group_state d) h.0 in
     let within : i < length (map group_state groups) = omega (arith, h.0, length-map groups group_state) in
     let like : (y : GroupState) → is_named name y ≡ same_group (get_or (map group_state groups) i (group_state d)) y =
-    λ y. same_name-laws.congr name (get_or groups i d).name y.name h.1 ∙ ap (λ (x : GroupState). same_name x.name y.name) (sym there) in
-    let alone : IsAlone (is_named name) (map group_state groups) i = alone-distinct same_group same_group-laws (is_named name) (map group_state groups) i (group_state d) within distinct like in
+    λ y. same_name_equiv.congr name (get_or groups i d).name y.name h.1 ∙ ap (λ (x : GroupState). same_name x.name y.name) (sym there) in
+    let alone : IsAlone (is_named name) (map group_state groups) i = alone-distinct same_group same_group_equiv (is_named name) (map group_state groups) i (group_state d) within distinct like in
     map-set group_state groups i g ∙ ap (set (map group_state groups) i) (is ∙ ap change (sym there)) ∙ sym (changed_where-alone (is_named name) change (map group_state groups) i (group_state d) alone)
 
 -- ---- whether all succeeded

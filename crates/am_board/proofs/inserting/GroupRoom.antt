@@ -1,14 +1,11 @@
 -- The groups as they are kept: a change of one, and room in the one of a name.
-use Rattle.std.proofs.Common.{◌≡◌, ℕ, zero, suc, ◌<◌, Bool, true, false, true≢false, ◌&&◌, eqb-true, Some, None, List, [], ◌∷◌, length, get_or, get_or-set_same, slice_get, set, refl, sym, ap, ◌∙◌, subst}
-use Rattle.std.specs.Prelude.{◌==◌}
+use Rattle.std.proofs.Common.{◌≡◌, ℕ, zero, suc, ◌<◌, false, true≢false, Some, None, List, [], ◌∷◌, length, get_or, get_or-set_same, slice_get, set, sym, ap, ◌∙◌, subst}
 use Rattle.std.specs.List.{position, AllByRecursion, IsDistinct}
 use Rattle.std.specs.Map.{values_of}
 use Rattle.std.proofs.lemmas.List.{get_or_default}
 use Rattle.std.proofs.lemmas.List.Elements.{All-nil, All-cons}
 use Rattle.std.proofs.lemmas.List.Quantifiers.{position-Some}
 use Rattle.indexmap.specs.Layout.{set_value_at}
-use Rattle.am_alerts.specs.Labels.{same_label_set}
-use Rattle.am_alerts.specs.LabelOrder.{same_label_set-decides}
 use Rattle.am_board.specs.Group.{names_of, HasRoom, Fits}
 use Rattle.am_board.specs.GroupList.{GroupList}
 use Rattle.am_board.specs.Groups.{Changes}
@@ -16,9 +13,9 @@ use Rattle.am_model.specs.State.{same_name}
 use Rattle.am_board.specs.declared.group.Group.{Group}
 use Rattle.am_model.specs.declared.group.GroupName.{GroupName}
 use Rattle.am_model.proofs.lists.Alone.{IsAlone, alone-distinct, find-no_position, none-find}
-use Rattle.am_model.proofs.states.InOrder.{same_name-laws}
 use Rattle.am_board.proofs.keeping.Keyed.{value_at, values-set}
 use Rattle.am_model.proofs.lists.Places.{position-map}
+use Rattle.am_model.proofs.states.Alike.{same_name_equiv, same_name-is}
 
 -- the groups of these entries
 abbrev pub listed : List (GroupName × Group) → ℕ → GroupList
@@ -52,28 +49,16 @@ module _ (es : List (GroupName × Group)) (room : ℕ) (k : GroupList) (seen : l
         changed = is;
       }
 
-both : (p q : Bool) → (p && q) ≡ true → (p ≡ true) × (q ≡ true)
-both true q e = (refl, e)
-both false q e = absurd (cc)
-
--- names that are one
-pub same_name-decides : (a b : GroupName) → same_name a b ≡ true → a ≡ b
-same_name-decides a b e =
-    let h = both (a.route == b.route) (same_label_set a.labels b.labels) e in
-    let route = eqb-true a.route b.route h.0 in
-    let labels = (same_label_set-decides a.labels b.labels).0 h.1 in
-    λ i. record { route = route i; labels = labels i }
-
 -- the group that is found has the name
 pub named_at : (name : GroupName) (gs : List Group) (i : ℕ) (d : Group) → position (λ g. same_name name g.name) gs ≡ Some i → (get_or gs i d).name ≡ name
-named_at name gs i d at = sym (same_name-decides name (get_or gs i d).name (position-Some (λ (g : Group). same_name name g.name) gs i d at).1)
+named_at name gs i d at = sym (same_name-is name (get_or gs i d).name (position-Some (λ (g : Group). same_name name g.name) gs i d at).1)
 
 module _ (name : GroupName) (more : ℕ) where
   abbrev Has : Group → Type 0
   Has g = g.name ≡ name → Fits more g
 
   other : (g : Group) → same_name name g.name ≡ false → Has g
-  other g apart same = absurd (true≢false (sym (same_name-laws.refl name) ∙ (ap (same_name name) (sym same) ∙ apart)))
+  other g apart same = absurd (true≢false (sym (same_name_equiv.refl name) ∙ (ap (same_name name) (sym same) ∙ apart)))
 
   room_none : (gs : List Group) → AllByRecursion (λ n. same_name name n ≡ false) (names_of gs) → HasRoom more name gs
   room_none [] all = All-nil Has
@@ -96,5 +81,5 @@ module _ (name : GroupName) (more : ℕ) where
       let place = position-map (λ (g : Group). g.name) (same_name name) old ∙ at in
       let h = position-Some (same_name name) (names_of old) i name place in
       let alone : IsAlone (same_name name) (names_of old) i =
-      alone-distinct same_name same_name-laws (same_name name) (names_of old) i name h.0 distinct (λ y. same_name-laws.congr name (get_or (names_of old) i name) y h.1) in
+      alone-distinct same_name same_name_equiv (same_name name) (names_of old) i name h.0 distinct (λ y. same_name_equiv.congr name (get_or (names_of old) i name) y h.1) in
       room_alone new i (subst (λ ns. IsAlone (same_name name) ns i) (sym named) alone) fits

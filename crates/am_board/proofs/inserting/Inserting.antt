@@ -4,7 +4,6 @@ use Rattle.std.specs.Prelude.{All, is_none, is_some, if◌then◌else◌}
 use Rattle.std.specs.List.{count_by, list_any, position}
 use Rattle.std.proofs.lemmas.Bool.Decides.{nat_tests}
 use Rattle.std.proofs.lemmas.List.{length-map}
-use Rattle.std.proofs.lemmas.List.Sorted.{IsPermutation-refl}
 use Rattle.am_alerts.specs.AlertData.{AlertData}
 use Rattle.am_alerts.specs.declared.labels.Label.{Label}
 use Rattle.am_alerts.specs.declared.limits.TheConstants.{MAX_MOMENT}
@@ -19,11 +18,12 @@ use Rattle.am_board.specs.declared.state.State as kept
 use Rattle.am_model.specs.Causes.{insert_cause, is_full, is_name_too_many, makes_too_many}
 use Rattle.am_model.specs.Insert.{names_for, same_alert, inserted, after_insert}
 use Rattle.am_board.specs.Group.{AreRouted}
-use Rattle.am_board.specs.Kept.{state_of, group_state, flush_state, Agrees, IsPrepared}
+use Rattle.am_board.specs.Kept.{state_of, group_state, IsPrepared}
 use Rattle.am_board.specs.Inserting.{IsReservedState, IsPlacementOf, stamped_alert}
 use Rattle.am_model.specs.State.{State, moment, has_group, is_named, same_name}
 use Rattle.am_board.specs.Step.{IsGood, Stays, IsAnswer}
 use Rattle.am_model.proofs.lists.Places.{none_any, position-map, count_told}
+use Rattle.std.proofs.lemmas.Bool.{and_right}
 
 more_is : (a b : ℕ) → a < b → nat_lt a b ≡ true
 more_is a b h = grind (arith, nat_tests)
@@ -79,19 +79,9 @@ module _ (config : Config) (s : State) (a : AlertData) where
       let spare : nat_le config.limits.names (length s.known) ≡ false = grind (arith, nat_tests) in
       ap (λ b. b && not (list_any (same_alert a) s.known)) spare
 
-  nothing_and : (b : Bool) → (b && false) ≡ false
-  nothing_and true = refl
-  nothing_and false = refl
-
   pub names_known : (place : Option ℕ) → place ≡ position (same_alert a) s.known → is_none place ≡ false → is_name_too_many config s a ≡ false
   names_known place e some =
-      new_is place e ∙ (ap (λ b. nat_le config.limits.names (length s.known) && b) some ∙ nothing_and (nat_le config.limits.names (length s.known)))
-
--- a history has room
-pub not_full : (config : Config) (s : kept.State) → vec_len s.history + vec_len s.flushes + 1 ≤ config.limits.history → is_full config (vec_len s.history) (state_of s) 1 ≡ false
-not_full config s room =
-    let count : length (map flush_state s.flushes.items) ≡ vec_len s.flushes = length-map s.flushes.items flush_state ∙ sym s.flushes.ok.0 in
-    ap (λ n. nat_lt config.limits.history (vec_len s.history + n + 1)) count ∙ grind (arith, nat_tests)
+      new_is place e ∙ (ap (λ b. nat_le config.limits.names (length s.known) && b) some ∙ and_right (nat_le config.limits.names (length s.known)) false refl)
 
 -- the groups that have to be made, counted in what is kept
 missing_is : (gs : List Group) (name : GroupName) → is_none (position (λ g. same_name name g.name) gs) ≡ not (has_group (map group_state gs) name)
@@ -117,13 +107,6 @@ stays_reserved config old new good kept =
       records = kept.records;
       room = omega (arith, good.room, kept.records, kept.capacity, ap (λ (fs : Vec OpenFlush Global). vec_len fs) kept.flushes);
     }
-
-pub stays_itself : (config : Config) (s : kept.State) → IsGood config s → Stays config s s
-stays_itself config s good = record { state = refl; routed = good.routed; prepared = good.prepared; history = refl; records = refl; room = good.room }
-
--- states that are one agree
-pub agrees_same : (a b : State) → a ≡ b → Agrees a b
-agrees_same a b e = subst (λ (c : State). Agrees a c) e (record { rows = IsPermutation-refl a.rows; rest = refl })
 
 -- the same, as the code counts in what it lent
 pub made_told : (config : Config) (labels : List Label) (gs lent_gs : List Group) (ps lent_ps : List Placement) (made : ℕ) → lent_gs ≡ gs → lent_ps ≡ ps → made ≡ count_by (λ p. is_none (position (λ g. same_name p.name g.name) lent_gs)) lent_ps → map (λ p. p.name) ps ≡ names_for config labels → made ≡ count_by (λ name. not (has_group (map group_state gs) name)) (names_for config labels)

@@ -33,8 +33,9 @@ use Rattle.am_model.specs.declared.record.Reply.TheVariants as reply_is
 use Rattle.am_model.specs.declared.views.RowView.{RowView}
 use Rattle.am_board.specs.Kept.{Agrees}
 use Rattle.am_model.proofs.lists.Exchanges.{put_in-permutation, count_by-permutation, without-permutation, IsDistinct-permutation}
-use Rattle.am_model.proofs.states.InOrder.{same_key-laws, in_order-rows}
+use Rattle.am_model.proofs.states.InOrder.{in_order-rows}
 use Rattle.am_board.proofs.keeping.LogRows.{entry_of-permutation}
+use Rattle.am_model.proofs.states.Alike.{same_key_equiv}
 
 -- a state with its rows in another order
 abbrev with_rows : List RowView → State → State
@@ -45,7 +46,7 @@ rows_after-fold : (config : Config) (t : ℕ) (f : FlushState) (asked : List Ask
 rows_after-fold config t f [] xs ys moved apart = moved
 rows_after-fold config t f (a ∷ asked) xs ys moved apart =
     let row = row_at config t f a.integration in
-    rows_after-fold config t f asked (log_with row xs) (log_with row ys) (put_in-permutation same_key same_key-laws row xs ys moved apart) (IsDistinct-put_in same_key same_key-laws row xs apart)
+    rows_after-fold config t f asked (log_with row xs) (log_with row ys) (put_in-permutation same_key same_key_equiv row xs ys moved apart) (IsDistinct-put_in same_key same_key_equiv row xs apart)
 
 -- a finish logs the same rows, whatever the order of those before
 pub rows_after-permutation : (config : Config) (t : ℕ) (outcomes : List (ℕ × Outcome)) (f : FlushState) (xs ys : List RowView) → IsPermutation xs ys → IsDistinct same_key xs → IsPermutation (rows_after config t outcomes f xs) (rows_after config t outcomes f ys)
@@ -94,7 +95,7 @@ module _ (config : Config) (s : State) (rows : List RowView) (moved : IsPermutat
   after_note_of-rows t integration outcome None = record { rows = moved; rest = refl }
   after_note_of-rows t integration outcome (Some f) =
       elim (may_note integration outcome f) as (λ b. Agrees (if b then after_note config (with_rows rows s) t integration f else at_moment (with_rows rows s) t) (if b then after_note config s t integration f else at_moment s t)) [
-        | true ↦ record { rows = put_in-permutation same_key same_key-laws (row_at config t f integration) rows s.rows moved apart; rest = refl }
+        | true ↦ record { rows = put_in-permutation same_key same_key_equiv (row_at config t f integration) rows s.rows moved apart; rest = refl }
         | false ↦ record { rows = moved; rest = refl }
       ]
 
@@ -152,11 +153,11 @@ module _ (a b : State) (agrees : Agrees a b) where
   Agrees-sym = record { rows = IsPermutation-sym a.rows b.rows agrees.rows; rest = sym (ap (with_rows b.rows) agrees.rest) }
 
   pub IsDistinct-agrees : IsDistinct same_key a.rows → IsDistinct same_key b.rows
-  IsDistinct-agrees h = IsDistinct-permutation same_key same_key-laws a.rows b.rows agrees.rows h
+  IsDistinct-agrees h = IsDistinct-permutation same_key same_key_equiv a.rows b.rows agrees.rows h
 
   -- from the other's
   pub IsDistinct-agrees_back : IsDistinct same_key b.rows → IsDistinct same_key a.rows
-  IsDistinct-agrees_back h = IsDistinct-permutation same_key same_key-laws b.rows a.rows (IsPermutation-sym a.rows b.rows agrees.rows) h
+  IsDistinct-agrees_back h = IsDistinct-permutation same_key same_key_equiv b.rows a.rows (IsPermutation-sym a.rows b.rows agrees.rows) h
 
   pub IsConsistent-agrees : IsConsistent b → IsConsistent a
   IsConsistent-agrees h = from_rows IsConsistent (consistent-rows b a.rows (IsDistinct-agrees_back h.rows) h)

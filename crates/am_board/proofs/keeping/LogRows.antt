@@ -1,11 +1,11 @@
 -- The notification log against the list of its rows, which the definitions read.
-use Rattle.std.proofs.Common.{◌≡◌, ℕ, ◌+◌, Bool, true, false, cond, not, ◌&&◌, nat_eq, nat_le, Option, Some, None, List, [], ◌∷◌, ◌++◌, find, count_by, refl, sym, ap, ◌∙◌, subst, eqb-true, zero-add}
+use Rattle.std.proofs.Common.{◌≡◌, ℕ, ◌+◌, Bool, true, false, cond, not, nat_eq, nat_le, Option, Some, None, List, [], ◌∷◌, ◌++◌, find, count_by, refl, sym, ap, ◌∙◌, subst, eqb-true, zero-add}
 use Rattle.std.specs.Prelude.{IsPermutation}
 use Rattle.std.specs.Cmp.{IsEquivalence}
 use Rattle.std.specs.List.{AllByRecursion, IsDistinct}
 use Rattle.std.specs.Map.{keys_of, lookup}
 use Rattle.std.specs.Option.{option_map, option_flatten, is_some}
-use Rattle.std.proofs.lemmas.Bool.{false≢true}
+use Rattle.std.proofs.lemmas.Bool.{false≢true, and_parts}
 use Rattle.std.proofs.lemmas.List.Sorted.{IsPermutation-refl, IsPermutation-cons, IsPermutation-sym, IsPermutation-trans, IsPermutation-to_front}
 use Rattle.std.proofs.lemmas.List.Sums.{sum_by-cons}
 use Rattle.std.proofs.lemmas.Map.Keys.{IsDistinct-head, IsDistinct-tail, IsDistinct-cons}
@@ -22,15 +22,14 @@ use Rattle.am_model.specs.Upkeep.{has_expired}
 use Rattle.am_model.specs.declared.group.GroupName.{GroupName}
 use Rattle.am_model.specs.declared.views.RowView.{RowView}
 use Rattle.am_board.specs.LogRows.{row_under, log_rows}
-use Rattle.am_model.proofs.states.Names.{both_are, same_name-is}
 use Rattle.am_model.proofs.lists.Exchanges.{find-permutation, put_in-permutation, count_by-permutation, without-permutation}
-use Rattle.am_model.proofs.states.InOrder.{same_name-laws, same_key-laws}
 use Rattle.am_model.proofs.lists.Distinct.{IsDistinct-nil}
+use Rattle.am_model.proofs.states.Alike.{same_key_equiv, same_name-is, same_name_equiv}
 
 -- ---- under the definitions' test of names
 
 log_key-laws : IsEquivalence (key_eq same_name)
-log_key-laws = key_eq-laws same_name-laws
+log_key-laws = key_eq-laws same_name_equiv
 
 -- no row stands under a key that no slot has
 nothing_under : (key : LogKey GroupName) (log : Slots GroupName (List Label)) → AllByRecursion (λ k. key_eq same_name key k ≡ false) (keys_of log) → find (is_entry_of key.group key.integration) (log_rows log) ≡ None
@@ -74,7 +73,7 @@ distinct_rows ((k, Some row) ∷ log) h =
 -- keys that the test takes for one are one
 key_is : (a b : LogKey GroupName) → key_eq same_name a b ≡ true → a ≡ b
 key_is a b h =
-    let parts = both_are (same_name a.group b.group) (nat_eq a.integration b.integration) h in
+    let parts = and_parts (same_name a.group b.group) (nat_eq a.integration b.integration) h in
     let group = same_name-is a.group b.group parts.0 in
     let integration = eqb-true a.integration b.integration parts.1 in
     λ i. record { group = group i; integration = integration i }
@@ -107,7 +106,7 @@ put_rows : (log : Slots GroupName (List Label)) (rows : List RowView) (key : Log
     → IsPermutation (log_rows (with_row same_name log key row)) (log_with (row_under (key, row)) rows)
 put_rows log rows key row h known moved =
     IsPermutation-trans (log_rows (with_row same_name log key row)) (log_with (row_under (key, row)) (log_rows log)) (log_with (row_under (key, row)) rows) (put_row log key row h known)
-    (put_in-permutation same_key same_key-laws (row_under (key, row)) (log_rows log) rows moved (distinct_rows log h))
+    (put_in-permutation same_key same_key_equiv (row_under (key, row)) (log_rows log) rows moved (distinct_rows log h))
 
 -- ---- the rows that are collected
 
@@ -148,7 +147,7 @@ one_entry name integration a b e f =
 -- the entry of an integration is the same in any order of the rows
 pub entry_of-permutation : (rows others : List RowView) → IsPermutation rows others → IsDistinct same_key rows → (name : GroupName) (integration : ℕ) → entry_of rows name integration ≡ entry_of others name integration
 entry_of-permutation rows others moved apart name integration =
-    ap (option_map log_row) (find-permutation same_key same_key-laws (is_entry_of name integration) (one_entry name integration) rows others moved apart)
+    ap (option_map log_row) (find-permutation same_key same_key_equiv (is_entry_of name integration) (one_entry name integration) rows others moved apart)
 
 -- ---- under the names' own test
 

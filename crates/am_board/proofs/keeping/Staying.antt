@@ -1,5 +1,5 @@
 -- Calls that are refused, and what each accepted call does to a state's room and history.
-use Rattle.std.proofs.Common.{◌≡◌, ℕ, ◌+◌, ◌≤◌, false, length, map, Option, Some, None, Ok, Err, refl, inl, vec_len, arith}
+use Rattle.std.proofs.Common.{◌≡◌, ℕ, ◌+◌, ◌≤◌, false, length, map, Option, Some, None, Ok, Err, refl, inl, vec_len, arith, nat_lt, sym, ap, ◌∙◌, subst}
 use Rattle.std.proofs.lemmas.Bool.Decides.{nat_tests}
 use Rattle.std.proofs.lemmas.List.{length-map}
 use Rattle.am_alerts.specs.Fault.{ok_unless}
@@ -8,8 +8,10 @@ use Rattle.am_model.specs.declared.fault.Fault.{Fault}
 use Rattle.am_model.specs.declared.fault.Fault.TheVariants.{NoMemory, TooManyNames, TooManyGroups, TooManySilences, TooManyOpen, HistoryFull}
 use Rattle.am_board.specs.declared.state.State as kept
 use Rattle.am_model.specs.Causes.{is_full}
-use Rattle.am_board.specs.Kept.{state_of, flush_state}
-use Rattle.am_board.specs.Step.{IsAnswer}
+use Rattle.am_board.specs.Kept.{state_of, flush_state, Agrees}
+use Rattle.am_board.specs.Step.{IsAnswer, IsGood, Stays}
+use Rattle.std.proofs.lemmas.List.Sorted.{IsPermutation-refl}
+use Rattle.am_model.specs.State.{State}
 
 -- the first cause may be answered
 pub cause_answered : (fault : Fault) → IsAnswer (Some fault) fault
@@ -26,6 +28,20 @@ module _ (config : Config) (s : kept.State) (more : ℕ) (counted : vec_len s.fl
   not_full h =
       let m : length (map flush_state s.flushes.items) ≡ length s.flushes.items = length-map s.flushes.items flush_state in
       grind (arith, nat_tests)
+
+-- a history has room
+pub has_room : (config : Config) (s : kept.State) → vec_len s.history + vec_len s.flushes + 1 ≤ config.limits.history → is_full config (vec_len s.history) (state_of s) 1 ≡ false
+has_room config s room =
+    let count : length (map flush_state s.flushes.items) ≡ vec_len s.flushes = length-map s.flushes.items flush_state ∙ sym s.flushes.ok.0 in
+    ap (λ n. nat_lt config.limits.history (vec_len s.history + n + 1)) count ∙ grind (arith, nat_tests)
+
+-- nothing changed
+pub stays_itself : (config : Config) (s : kept.State) → IsGood config s → Stays config s s
+stays_itself config s good = record { state = refl; routed = good.routed; prepared = good.prepared; history = refl; records = refl; room = good.room }
+
+-- states that are one agree
+pub agrees_same : (a b : State) → a ≡ b → Agrees a b
+agrees_same a b e = subst (λ (c : State). Agrees a c) e (record { rows = IsPermutation-refl a.rows; rest = refl })
 
 -- what is there unless there is a fault
 pub no_fault : {T F : Type 0} (fault : Option F) (x y : T) → Ok y ≡ ok_unless fault x → fault ≡ None

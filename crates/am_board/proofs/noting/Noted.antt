@@ -1,11 +1,9 @@
 -- A note that did its parts is the note of the definitions.
 use Rattle.std.proofs.Common.{◌≡◌, ℕ, ◌+◌, ◌<◌, ◌≤◌, ◌*◌, ◌==◌, min, max, Bool, true, false, not, ◌&&◌, Option, Some, None, is_none, List, [], ◌∷◌, ◌++◌, length, map, get_or, set, refl, sym, ap, ◌∙◌, subst, arith, eqb-true, vec_len, vec_capacity, if◌then◌else◌}
 use Rattle.std.specs.Prelude.{All, IsPermutation, Result, Ok, Err, is_err, OnOk, IsErr, IfErr, MatchResult, IsSome, IfSome, position, slice_get}
-use Rattle.std.specs.Cmp.{IsEquivalence}
 use Rattle.std.specs.List.{IsDistinct}
 use Rattle.std.specs.Option.{option_map}
-use Rattle.std.proofs.lemmas.Bool.{lt-ltb, le-ltb}
-use Rattle.std.proofs.lemmas.Cmp.{on_equiv, nat_eq_equiv}
+use Rattle.std.proofs.lemmas.Bool.{lt-ltb}
 use Rattle.std.proofs.lemmas.List.{length-map, get_or-map, map-set, get_or_default}
 use Rattle.std.proofs.lemmas.List.Elements.{All-set, All-weaker}
 use Rattle.std.proofs.lemmas.List.Quantifiers.{position-Some}
@@ -29,7 +27,7 @@ use Rattle.am_board.specs.Finishing.{row_for, without_told, KnowTheSame, IsReady
 use Rattle.am_model.specs.Note.{is_ready, asked_by, may_be_noted, may_note, as_noted, with_note, after_note, after_note_of, noted}
 use Rattle.am_board.specs.Noting.{IsNoting}
 use Rattle.am_model.specs.State.{AskedState, at_moment, moment, flush_numbered}
-use Rattle.am_board.specs.Step.{IsGood, Accepts, Stays, IsNoteAnswer}
+use Rattle.am_board.specs.Step.{IsGood, Accepts, IsNoteAnswer}
 use Rattle.am_model.specs.declared.config.Config.{Config}
 use Rattle.am_model.specs.declared.fault.NoteFault.{NoteFault}
 use Rattle.am_model.specs.declared.fault.NoteFault.TheVariants as note
@@ -45,6 +43,7 @@ use Rattle.am_model.specs.declared.views.RowView.{RowView}
 use Rattle.am_model.proofs.lists.Alone.{IsAlone, changed_where-alone, alone-distinct}
 use Rattle.am_board.proofs.finishing.Flushes.{open-alone, at_place, row_for-prepared, all_prepared, prepared-of, open-prepared}
 use Rattle.am_board.proofs.noting.Noting.{asked-found, flush-found, notice-found}
+use Rattle.am_model.proofs.states.Alike.{same_asked_equiv}
 
 -- ---- an element that a place is of
 
@@ -57,13 +56,7 @@ element test (x ∷ xs) i at =
 told-there : {X : Type 0} (o : Option X) → IsSome o → is_none o ≡ false
 told-there o h = ap not h
 
-asked-laws : IsEquivalence same_asked
-asked-laws = on_equiv (λ (a : AskedState). a.integration) nat_eq_equiv
-
 -- ---- a refusal
-
-pub stays-so : (config : Config) (s : kept.State) → IsGood config s → Stays config s s
-stays-so config s good = record { state = refl; routed = good.routed; prepared = good.prepared; history = refl; records = refl; room = good.room }
 
 -- whether the history is full, as it is counted
 pub full-of : (config : Config) (s : kept.State) → (vec_len s.history + vec_len s.flushes + 1 ≤ config.limits.history → ⊥) → is_full config (vec_len s.history) (state_of s) 1 ≡ true
@@ -72,13 +65,6 @@ full-of config s none =
     let len = s.flushes.ok.0 in
     let some : config.limits.history < vec_len s.history + length (map flush_state s.flushes.items) + 1 = omega (arith, counted, len, none) in
     lt-ltb config.limits.history (vec_len s.history + length (map flush_state s.flushes.items) + 1) some
-
-pub not-full-of : (config : Config) (s : kept.State) → vec_len s.history + vec_len s.flushes + 1 ≤ config.limits.history → is_full config (vec_len s.history) (state_of s) 1 ≡ false
-not-full-of config s room =
-    let counted = length-map s.flushes.items flush_state in
-    let len = s.flushes.ok.0 in
-    let some : vec_len s.history + length (map flush_state s.flushes.items) + 1 ≤ config.limits.history = omega (arith, counted, len, room) in
-    le-ltb config.limits.history (vec_len s.history + length (map flush_state s.flushes.items) + 1) some
 
 -- ---- what a note finds
 
@@ -140,9 +126,9 @@ module _ (o : OpenFlush) (integration a : ℕ) (d : Asked) (at : position (λ x.
 
   asked-alone : IsAlone (λ x. x.integration == integration) (map asked_state_of o.asked.items) a
   asked-alone =
-      alone-distinct same_asked asked-laws (λ x. x.integration == integration) (map asked_state_of o.asked.items) a (asked_state_of d)
+      alone-distinct same_asked same_asked_equiv (λ x. x.integration == integration) (map asked_state_of o.asked.items) a (asked_state_of d)
       (omega (arith, length-map o.asked.items asked_state_of, (position-Some (λ (x : Asked). x.key.integration == integration) o.asked.items a d at).0)) once
-      (λ y. ap (λ i. y.integration == i) (sym integration-is) ∙ asked-laws.symm y (asked_state_of (get_or o.asked.items a d)) ∙ ap (λ (x : AskedState). x.integration == y.integration) (sym asked-at))
+      (λ y. ap (λ i. y.integration == i) (sym integration-is) ∙ same_asked_equiv.symm y (asked_state_of (get_or o.asked.items a d)) ∙ ap (λ (x : AskedState). x.integration == y.integration) (sym asked-at))
 
   asked-noted : map asked_state_of (set o.asked.items a (without_told (get_or o.asked.items a d))) ≡ changed_where (λ x. x.integration == integration) as_noted (map asked_state_of o.asked.items)
   asked-noted =

@@ -10,6 +10,7 @@ use Rattle.am_alerts.specs.Labels.{stands_in}
 use Rattle.am_model.specs.declared.config.Receiver.{Receiver}
 use Rattle.am_model.specs.declared.config.TheConstants.{MAX_INTEGRATIONS}
 use Rattle.am_model.specs.Config.{has_many_integrations, has_receiver, has_receiver_twice}
+use Rattle.std.proofs.lemmas.Bool.{or_parts}
 
 -- a name stands among the names of receivers where one has it
 pub stands_in-receivers : (name : List ℕ) (receivers : List Receiver) → stands_in name (map (λ r. r.name) receivers) ≡ has_receiver receivers name
@@ -34,12 +35,8 @@ module _ (receivers : List Receiver) (i : ℕ) (d : Receiver) (within : i < leng
 pub few_integrations : (receivers : List Receiver) → list_any has_many_integrations receivers ≡ false → All (λ (r : Receiver). length r.integrations ≤ MAX_INTEGRATIONS) receivers
 few_integrations [] none = All-nil (λ (r : Receiver). length r.integrations ≤ MAX_INTEGRATIONS)
 few_integrations (r ∷ receivers) none =
-    let both = neither (has_many_integrations r) (list_any has_many_integrations receivers) none in
+    let both = or_parts (has_many_integrations r) (list_any has_many_integrations receivers) none in
     All-cons (λ (q : Receiver). length q.integrations ≤ MAX_INTEGRATIONS) r receivers (not_more MAX_INTEGRATIONS (length r.integrations) both.0) (few_integrations receivers both.1)
   where
-    neither : (a b : Bool) → (a || b) ≡ false → (a ≡ false) × (b ≡ false)
-    neither true b h = absurd (cc)
-    neither false b h = (refl, h)
-
     not_more : (m n : ℕ) → nat_lt m n ≡ false → n ≤ m
     not_more m n h = grind (arith, nat_tests)

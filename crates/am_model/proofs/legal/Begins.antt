@@ -6,7 +6,7 @@ use Rattle.std.proofs.lemmas.Map.Keys.{IsDistinct-head, IsDistinct-tail}
 use Rattle.std.specs.List.{list_any, AllByRecursion, IsDistinct}
 use Rattle.std.specs.Ordering.{is_gt}
 use Rattle.std.specs.declared.cmp.Ordering.{Ordering}
-use Rattle.std.proofs.lemmas.Bool.{false≢true}
+use Rattle.std.proofs.lemmas.Bool.{false≢true, or_left, or_right}
 use Rattle.std.proofs.lemmas.List.Elements.{All-from_recursion}
 use Rattle.am_nflog.specs.Members.{is_empty}
 use Rattle.am_retry.specs.declared.outcome.Outcome.{Outcome}
@@ -29,8 +29,9 @@ use Rattle.am_model.specs.declared.record.Call.TheVariants.{Insert, Silence, Beg
 use Rattle.am_model.specs.declared.record.Record.{Record}
 use Rattle.am_model.specs.declared.record.Reply.{Reply}
 use Rattle.am_model.specs.declared.record.Reply.TheVariants as reply_is
-use Rattle.am_model.proofs.states.InOrder.{same_name-laws, same_group-laws}
 use Rattle.am_model.proofs.lists.Distinct.{IsDistinct-nil, IsDistinct-told, IsDistinct-filter, all-weaker, all-filter, all-both}
+use Rattle.am_model.proofs.states.Alike.{same_group_equiv, same_name_equiv}
+use Rattle.am_model.proofs.legal.EachCall.{inside}
 
 -- ---- words on lists
 
@@ -64,21 +65,13 @@ module _ {X : Type 0} where
   any-find test [] = refl
   any-find test (x ∷ xs) = elim (test x) as (λ b. (b || list_any test xs) ≡ is_some (cond b (Some x) (find test xs))) [ true ↦ refl | false ↦ any-find test xs ]
 
-or_right : (a b : Bool) → b ≡ true → (a || b) ≡ true
-or_right true b h = refl
-or_right false b h = h
-
-or_left : (a b : Bool) → a ≡ true → (a || b) ≡ true
-or_left true b h = refl
-or_left false b h = absurd (false≢true h)
-
 -- ---- which groups there are
 
 -- each group of a list is there
 each_there : (groups : List GroupState) → AllByRecursion (λ g. has_group groups g.name ≡ true) groups
 each_there [] = tt
 each_there (g ∷ groups) = (
-  or_left (same_name g.name g.name) (has_group groups g.name) (same_name-laws.refl g.name),
+  or_left (same_name g.name g.name) (has_group groups g.name) (same_name_equiv.refl g.name),
   all-weaker (λ h. has_group groups h.name ≡ true) (λ h. has_group (g ∷ groups) h.name ≡ true) (λ h there. or_right (same_name h.name g.name) (has_group groups h.name) there) groups (each_there groups),
 )
 
@@ -88,7 +81,7 @@ there-put_in name g [] there = absurd (false≢true there)
 there-put_in name g (h ∷ groups) there =
     elim (same_group g h) as (λ b. same_group g h ≡ b → has_group (cond b (g ∷ groups) (h ∷ put_in same_group g groups)) name ≡ true) [
       | true ↦ λ e.
-          let same : same_name name g.name ≡ same_name name h.name = same_name-laws.symm name g.name ∙ same_name-laws.congr g.name h.name name e ∙ same_name-laws.symm h.name name in
+          let same : same_name name g.name ≡ same_name name h.name = same_name_equiv.symm name g.name ∙ same_name_equiv.congr g.name h.name name e ∙ same_name_equiv.symm h.name name in
           ap (λ b. b || has_group groups name) same ∙ there
       | false ↦ λ e.
           elim (same_name name h.name) as (λ b. (b || has_group groups name) ≡ true → (b || has_group (put_in same_group g groups) name) ≡ true) [
@@ -140,7 +133,7 @@ there-alike : (n name : GroupName) (groups : List GroupState) → same_name n na
 there-alike n name [] e h = h
 there-alike n name (g ∷ groups) e h =
     elim (same_name name g.name) as (λ b. same_name name g.name ≡ b → (b || has_group groups name) ≡ true → (same_name n g.name || has_group groups n) ≡ true) [
-      | true ↦ λ f _. or_left (same_name n g.name) (has_group groups n) (same_name-laws.congr n name g.name e ∙ f)
+      | true ↦ λ f _. or_left (same_name n g.name) (has_group groups n) (same_name_equiv.congr n name g.name e ∙ f)
       | false ↦ λ f rest. or_right (same_name n g.name) (has_group groups n) (there-alike n name groups e rest)
     ] refl h
 
@@ -169,7 +162,7 @@ module _ (config : Config) (last : GroupName → Option ℕ) where
       record {
         due = all-put_in same_group new (λ h. IsBegunAt config h (last h.name)) groups (due-group_with config t m g (last g.name) found) k.due;
         there = λ n. still_in n groups (put_in same_group new groups) (there-put_in n new groups) (last n) (k.there n);
-        apart = IsDistinct-put_in same_group same_group-laws new groups k.apart;
+        apart = IsDistinct-put_in same_group same_group_equiv new groups k.apart;
       }
 
   keeps-put_all : (t : ℕ) (m : MemberState) (names : List GroupName) (groups : List GroupState) → Keeps config groups last → Keeps config (fold (put_into_group config t m) groups names) last
@@ -199,10 +192,10 @@ module _ (config : Config) (last : GroupName → Option ℕ) where
         due = all-map (λ g. IsBegunAt config g (last g.name)) (λ g. IsBegunAt config g (now g.name)) (λ g. if same_name name g.name then change g else g) (λ g h.
             elim (same_name name g.name) as (λ b. same_name name g.name ≡ b → IsBegunAt config (if b then change g else g) (now (if b then change g else g).name)) [
               | true ↦ λ e.
-                  let same : same_name g.name name ≡ true = same_name-laws.symm g.name name ∙ e in
+                  let same : same_name g.name name ≡ true = same_name_equiv.symm g.name name ∙ e in
                   subst (λ n. IsBegunAt config (change g) (now n)) (sym (named g)) (subst (λ b. IsBegunAt config (change g) (if b then Some t else last g.name)) (sym same) (begun g))
               | false ↦ λ e.
-                  let other : same_name g.name name ≡ false = same_name-laws.symm g.name name ∙ e in
+                  let other : same_name g.name name ≡ false = same_name_equiv.symm g.name name ∙ e in
                   subst (λ b. IsBegunAt config g (if b then Some t else last g.name)) (sym other) h
             ] refl) groups k.due;
         there = λ n.
@@ -220,9 +213,9 @@ module _ (config : Config) (last : GroupName → Option ℕ) where
 own_members : (groups : List GroupState) → IsDistinct same_group groups → AllByRecursion (λ g. members_in groups g.name ≡ g.members) groups
 own_members [] h = tt
 own_members (g ∷ groups) h = (
-  ap (λ b. unwrap_or (option_map (λ x. x.members) (cond b (Some g) (find (is_named g.name) groups))) []) (same_name-laws.refl g.name),
+  ap (λ b. unwrap_or (option_map (λ x. x.members) (cond b (Some g) (find (is_named g.name) groups))) []) (same_name_equiv.refl g.name),
   all-both (λ x. same_group g x ≡ false) (λ x. members_in groups x.name ≡ x.members) (λ x. members_in (g ∷ groups) x.name ≡ x.members)
-      (λ x apart own. ap (λ b. unwrap_or (option_map (λ y. y.members) (cond b (Some g) (find (is_named x.name) groups))) []) (same_name-laws.symm x.name g.name ∙ apart) ∙ own)
+      (λ x apart own. ap (λ b. unwrap_or (option_map (λ y. y.members) (cond b (Some g) (find (is_named x.name) groups))) []) (same_name_equiv.symm x.name g.name ∙ apart) ∙ own)
       groups (IsDistinct-head same_group g groups h) (own_members groups (IsDistinct-tail same_group g groups h)),
 )
 
@@ -265,9 +258,6 @@ module _ (config : Config) (last : GroupName → Option ℕ) where
           by false e = refl
 
 -- ---- each legal call
-
-inside : {X : Type 0} (x y : X) → Some x ≡ Some y → x ≡ y
-inside x y e = ap (λ o. unwrap_or o x) e
 
 taken_there : (s : State) (t : ℕ) → IfSome (taken s t) (λ g. has_group s.groups g.name ≡ true)
 taken_there s t = all-least (λ g. has_group s.groups g.name ≡ true) due_cmp (filter (may_begin s t) s.groups) (all-filter (λ g. has_group s.groups g.name ≡ true) (may_begin s t) s.groups (each_there s.groups))

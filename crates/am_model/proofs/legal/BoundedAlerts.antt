@@ -16,8 +16,9 @@ use Rattle.am_model.specs.Insert.{same_member, same_group, name_in, names_for, n
 use Rattle.am_model.specs.Lists.{put_in, changed_where}
 use Rattle.am_model.specs.State.{MemberState, GroupState, same_name, is_named}
 use Rattle.am_model.proofs.lists.Words.{all-put_in}
-use Rattle.am_model.proofs.legal.ConsistentGroups.{same_name_equiv, members_of, members_of-in}
+use Rattle.am_model.proofs.legal.ConsistentGroups.{members_of, members_of-in}
 use Rattle.am_model.proofs.lists.Distinct.{all_to, all-find, all-map, find-passes}
+use Rattle.am_model.proofs.states.Alike.{same_name_equiv}
 
 -- ---- how many alerts there are
 
@@ -83,7 +84,7 @@ count-put_in name g (k ∷ gs) same more = by (same_group g k) (is_named name k)
 
 module _ (config : Config) (t : ℕ) (m : MemberState) where
   -- the group of a name, made if it is missing, has the alerts of that name, and it is of that name
-  members-or_new : (gs : List GroupState) (name : GroupName) → (group_or_new config t gs name).members ≡ members_of gs name
+  pub members-or_new : (gs : List GroupState) (name : GroupName) → (group_or_new config t gs name).members ≡ members_of gs name
   members-or_new gs name =
       (elim (find (is_named name) gs) as (λ o. (unwrap_or o (new_group config t name)).members ≡ unwrap_or (option_map (λ g. g.members) o) []) [
         | None ↦ refl

@@ -17,9 +17,10 @@ use Rattle.am_model.specs.Laws.{same_flushed, same_number, same_asked}
 use Rattle.am_model.specs.Lists.{changed_where}
 use Rattle.am_model.specs.State.{MemberState, GroupState, FlushState, State, same_name, is_named, is_flushing}
 use Rattle.am_model.proofs.legal.ConsistentFinish.{steady-at, tidy-fewer, tidy-changed, distinct-changed}
-use Rattle.am_model.proofs.legal.ConsistentGroups.{same_flushed_equiv, same_number_equiv, members_of, members_of-own, members_of-elsewhere, members_of-kept}
+use Rattle.am_model.proofs.legal.ConsistentGroups.{members_of, members_of-own, members_of-elsewhere, members_of-kept}
 use Rattle.am_model.proofs.lists.Distinct.{IsDistinct-nil, IsDistinct-filter, IsDistinct-map, all-filter, all-least, all-none, all-passes, all-push, all-weaker, all-both}
 use Rattle.am_model.proofs.legal.ConsistentState.{IsOpen, IsSteady}
+use Rattle.am_model.proofs.states.Alike.{same_flushed_equiv, same_number_equiv}
 
 -- ---- the group that is taken
 

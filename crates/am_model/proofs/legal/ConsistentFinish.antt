@@ -17,9 +17,11 @@ use Rattle.am_model.specs.Note.{as_noted, with_note, may_note, after_note, after
 use Rattle.am_model.specs.State.{MemberState, GroupState, AskedState, FlushState, State, at_moment, same_name, is_named, flush_numbered}
 use Rattle.am_model.specs.Upkeep.{is_deserted, has_expired, after_maintain}
 use Rattle.am_model.proofs.lists.Words.{IsDistinct-put_in}
-use Rattle.am_model.proofs.legal.ConsistentGroups.{same_flushed_equiv, same_key_equiv, members_of-elsewhere, alive-kept}
+use Rattle.am_model.proofs.legal.ConsistentGroups.{members_of-elsewhere, alive-kept}
 use Rattle.am_model.proofs.lists.Distinct.{IsDistinct-filter, IsDistinct-changed, all-filter, all-find, all-passes, all-weaker, all-both, all-map}
 use Rattle.am_model.proofs.legal.ConsistentState.{IsTidy, IsOpen, IsSteady}
+use Rattle.am_model.proofs.states.Alike.{same_flushed_equiv, same_key_equiv}
+use Rattle.std.proofs.lemmas.Bool.{not-true}
 
 -- the clock alone
 pub steady-at : (s : State) (t : ℕ) → t ≤ MAX_MOMENT → IsSteady s → IsSteady (at_moment s t)
@@ -97,10 +99,6 @@ others_apart number f fs h found =
     all-both (λ k. test k ≡ true) P (λ k. same_name f.group k.group ≡ false)
     (λ k passes apart. apart (not-true (k.number == f.number) passes))
     (filter test fs) (all-passes test fs) (all-filter P test fs (apart_from_found (λ k. k.number == number) f fs h found))
-  where
-    not-true : (b : Bool) → not b ≡ true → b ≡ false
-    not-true true e = absurd (cc)
-    not-true false e = refl
 
 -- rows that are logged one by one
 distinct-rows : (config : Config) (t : ℕ) (f : FlushState) (asked : List AskedState) (rows : List RowView) → IsDistinct same_key rows → IsDistinct same_key (fold (λ log a. log_with (row_at config t f a.integration) log) rows asked)

@@ -1,50 +1,17 @@
--- When things of a state are alike, and the alerts of the group of a name.
+-- The alerts of the group of a name.
 use Rattle.std.proofs.Common.{◌≡◌, Bool, true, false, cond, not, Option, Some, List, [], ◌∷◌, map, refl, sym, ap, ◌∙◌}
 use Rattle.std.specs.Prelude.{find, unwrap_or}
 use Rattle.std.specs.Option.{option_map}
 use Rattle.std.specs.List.{AllByRecursion, IsDistinct}
-use Rattle.std.specs.Cmp.{IsEquivalence}
-use Rattle.std.proofs.lemmas.Cmp.{nat_eq_equiv, on_equiv, and_equiv}
 use Rattle.std.proofs.lemmas.Map.Keys.{IsDistinct-head, IsDistinct-tail}
-use Rattle.am_alerts.specs.AlertData.{AlertData}
-use Rattle.am_alerts.specs.LabelOrder.{same_label_set_equiv}
-use Rattle.am_mute.specs.Silence.{SilenceData}
 use Rattle.am_nflog.specs.Members.{is_empty}
 use Rattle.am_model.specs.declared.group.GroupName.{GroupName}
-use Rattle.am_model.specs.declared.views.RowView.{RowView}
-use Rattle.am_model.specs.Finish.{same_key}
-use Rattle.am_model.specs.Insert.{same_alert, same_member, same_group}
-use Rattle.am_model.specs.Laws.{same_flushed, same_number}
+use Rattle.am_model.specs.Insert.{same_group}
 use Rattle.am_model.specs.Lists.{put_in, without, changed_where}
-use Rattle.am_model.specs.State.{MemberState, GroupState, FlushState, same_name, is_named, members_in}
-use Rattle.am_model.specs.Upkeep.{same_silence, is_deserted}
+use Rattle.am_model.specs.State.{MemberState, GroupState, same_name, is_named, members_in}
+use Rattle.am_model.specs.Upkeep.{is_deserted}
 use Rattle.am_model.proofs.lists.Distinct.{all-both}
-
--- ---- each test of two things is an equivalence
-
-pub same_name_equiv : IsEquivalence same_name
-same_name_equiv = and_equiv (on_equiv (λ (n : GroupName). n.route) nat_eq_equiv) (on_equiv (λ (n : GroupName). n.labels) same_label_set_equiv)
-
-pub same_alert_equiv : IsEquivalence same_alert
-same_alert_equiv = on_equiv (λ (a : AlertData). a.labels) same_label_set_equiv
-
-pub same_member_equiv : IsEquivalence same_member
-same_member_equiv = on_equiv (λ (m : MemberState). m.alert) same_alert_equiv
-
-pub same_group_equiv : IsEquivalence same_group
-same_group_equiv = on_equiv (λ (g : GroupState). g.name) same_name_equiv
-
-pub same_key_equiv : IsEquivalence same_key
-same_key_equiv = and_equiv (on_equiv (λ (r : RowView). r.group) same_name_equiv) (on_equiv (λ (r : RowView). r.integration) nat_eq_equiv)
-
-pub same_silence_equiv : IsEquivalence same_silence
-same_silence_equiv = on_equiv (λ (x : SilenceData). x.id) nat_eq_equiv
-
-pub same_flushed_equiv : IsEquivalence same_flushed
-same_flushed_equiv = on_equiv (λ (f : FlushState). f.group) same_name_equiv
-
-pub same_number_equiv : IsEquivalence same_number
-same_number_equiv = on_equiv (λ (f : FlushState). f.number) nat_eq_equiv
+use Rattle.am_model.proofs.states.Alike.{same_name_equiv}
 
 -- ---- the alerts of the group of a name, by recursion
 

@@ -13,9 +13,10 @@ use Rattle.am_model.specs.Lists.{put_in}
 use Rattle.am_model.specs.State.{MemberState, GroupState, State, is_named}
 use Rattle.am_model.specs.Upkeep.{same_silence, after_silence}
 use Rattle.am_model.proofs.lists.Words.{all-put_in, IsDistinct-put_in}
-use Rattle.am_model.proofs.legal.ConsistentGroups.{same_alert_equiv, same_member_equiv, same_group_equiv, same_silence_equiv, IsAlive, alive-put_in}
+use Rattle.am_model.proofs.legal.ConsistentGroups.{IsAlive, alive-put_in}
 use Rattle.am_model.proofs.lists.Distinct.{IsDistinct-nil, all-find, all-weaker}
 use Rattle.am_model.proofs.legal.ConsistentState.{IsTidy, IsOpen, IsSteady}
+use Rattle.am_model.proofs.states.Alike.{same_alert_equiv, same_group_equiv, same_member_equiv, same_silence_equiv}
 
 -- a list that something was put into isn't empty
 put_in-some : {X : Type 0} (like : X → X → Bool) (x : X) (xs : List X) → is_empty (put_in like x xs) ≡ false

@@ -25,7 +25,7 @@ use Rattle.am_model.specs.State.{MemberState, GroupState, FlushState, State, at_
 use Rattle.am_model.specs.Upkeep.{is_deserted}
 use Rattle.am_model.proofs.legal.Begins.{there-put_in}
 use Rattle.am_model.proofs.legal.BoundedAlerts.{length-put_in, length-filter, named-or_new}
-use Rattle.am_model.proofs.legal.ConsistentGroups.{same_name_equiv}
+use Rattle.am_model.proofs.states.Alike.{same_name_equiv}
 
 -- a group that takes the place of another adds none
 length-known : (g : GroupState) (gs : List GroupState) → list_any (same_group g) gs ≡ true → length (put_in same_group g gs) ≡ length gs

@@ -9,7 +9,7 @@ use Rattle.std.specs.List.{list_all, AllByRecursion, IsDistinct}
 use Rattle.std.specs.Ordering.{is_lt, is_eq, is_gt, eq_by_cmp, ordering_reverse}
 use Rattle.std.specs.declared.cmp.Ordering.{Ordering}
 use Rattle.std.specs.declared.cmp.Ordering.TheVariants.{Less, Equal, Greater}
-use Rattle.std.proofs.lemmas.Bool.{false≢true}
+use Rattle.std.proofs.lemmas.Bool.{false≢true, and_from, and_parts}
 use Rattle.std.proofs.lemmas.Fn.{always_returns_same}
 use Rattle.std.proofs.lemmas.List.Folds.{list_all-map}
 use Rattle.std.proofs.lemmas.List.Sorted.{IsPermutation-cons, length_permutation, ranks_by}
@@ -18,17 +18,6 @@ use Rattle.am_nflog.specs.Members.{is_ascending}
 use Rattle.am_model.proofs.lists.Words.{in_order-moves}
 use Rattle.am_model.specs.Lists.{put_in_order, in_order}
 use Rattle.am_model.proofs.lists.Exchanges.{by_exchanges_distinct, IsDistinct-permutation}
-
-both : (a b : Bool) → a ≡ true → b ≡ true → (a && b) ≡ true
-both a b e f = ap (λ c. c && b) e ∙ f
-
-first_true : (a b : Bool) → (a && b) ≡ true → a ≡ true
-first_true true b h = refl
-first_true false b h = absurd (false≢true h)
-
-second_true : (a b : Bool) → (a && b) ≡ true → b ≡ true
-second_true true b h = h
-second_true false b h = absurd (false≢true h)
 
 turned : (o : Ordering) → is_gt (ordering_reverse o) ≡ is_lt o
 turned Less = refl
@@ -137,20 +126,20 @@ module _ {X : Type 0} (cmp : X → X → Ordering) (order : IsTotalOrder cmp) wh
   -- ---- it rises
 
   all-put : (test : X → Bool) (x : X) (zs : List X) → test x ≡ true → list_all test zs ≡ true → list_all test (put_in_order cmp x zs) ≡ true
-  all-put test x [] e all = both (test x) true e refl
+  all-put test x [] e all = and_from (test x) true e refl
   all-put test x (z ∷ zs) e all =
       elim (is_gt (cmp x z)) as (λ b. list_all test (cond b (z ∷ put_in_order cmp x zs) (x ∷ z ∷ zs)) ≡ true) [
-        | true ↦ both (test z) (list_all test (put_in_order cmp x zs)) (first_true (test z) (list_all test zs) all) (all-put test x zs e (second_true (test z) (list_all test zs) all))
-        | false ↦ both (test x) (list_all test (z ∷ zs)) e all
+        | true ↦ and_from (test z) (list_all test (put_in_order cmp x zs)) (and_parts (test z) (list_all test zs) all).0 (all-put test x zs e (and_parts (test z) (list_all test zs) all).1)
+        | false ↦ and_from (test x) (list_all test (z ∷ zs)) e all
       ]
 
   -- what is below z is below all that z is below
   all_below : (x z : X) → is_lt (cmp x z) ≡ true → (ws : List X) → list_all (λ w. is_lt (cmp z w)) ws ≡ true → list_all (λ w. is_lt (cmp x w)) ws ≡ true
   all_below x z e [] all = refl
   all_below x z e (w ∷ ws) all =
-      both (is_lt (cmp x w)) (list_all (λ v. is_lt (cmp x v)) ws)
-      (below (cmp x z) (cmp z w) refl refl e (first_true (is_lt (cmp z w)) (list_all (λ v. is_lt (cmp z v)) ws) all))
-      (all_below x z e ws (second_true (is_lt (cmp z w)) (list_all (λ v. is_lt (cmp z v)) ws) all))
+      and_from (is_lt (cmp x w)) (list_all (λ v. is_lt (cmp x v)) ws)
+      (below (cmp x z) (cmp z w) refl refl e (and_parts (is_lt (cmp z w)) (list_all (λ v. is_lt (cmp z v)) ws) all).0)
+      (all_below x z e ws (and_parts (is_lt (cmp z w)) (list_all (λ v. is_lt (cmp z v)) ws) all).1)
     where
       below : (o p : Ordering) → cmp x z ≡ o → cmp z w ≡ p → is_lt o ≡ true → is_lt p ≡ true → is_lt (cmp x w) ≡ true
       below Less Less f g h k = ap is_lt (order.trans x z w f g)
@@ -162,14 +151,14 @@ module _ {X : Type 0} (cmp : X → X → Ordering) (order : IsTotalOrder cmp) wh
   ascending-put : (x : X) (zs : List X) → AllByRecursion (λ z. eq_by_cmp cmp x z ≡ false) zs → is_ascending cmp zs ≡ true → is_ascending cmp (put_in_order cmp x zs) ≡ true
   ascending-put x [] apart up = refl
   ascending-put x (z ∷ zs) apart up =
-      let later : list_all (λ w. is_lt (cmp z w)) zs ≡ true = first_true (list_all (λ w. is_lt (cmp z w)) zs) (is_ascending cmp zs) up in
-      let rest : is_ascending cmp zs ≡ true = second_true (list_all (λ w. is_lt (cmp z w)) zs) (is_ascending cmp zs) up in
+      let later : list_all (λ w. is_lt (cmp z w)) zs ≡ true = (and_parts (list_all (λ w. is_lt (cmp z w)) zs) (is_ascending cmp zs) up).0 in
+      let rest : is_ascending cmp zs ≡ true = (and_parts (list_all (λ w. is_lt (cmp z w)) zs) (is_ascending cmp zs) up).1 in
       elim (is_gt (cmp x z)) as (λ b. is_gt (cmp x z) ≡ b → is_ascending cmp (cond b (z ∷ put_in_order cmp x zs) (x ∷ z ∷ zs)) ≡ true) [
         | true ↦ λ e.
-            both (list_all (λ w. is_lt (cmp z w)) (put_in_order cmp x zs)) (is_ascending cmp (put_in_order cmp x zs)) (all-put (λ w. is_lt (cmp z w)) x zs (sym (gt-lt x z) ∙ e) later) (ascending-put x zs apart.1 rest)
+            and_from (list_all (λ w. is_lt (cmp z w)) (put_in_order cmp x zs)) (is_ascending cmp (put_in_order cmp x zs)) (all-put (λ w. is_lt (cmp z w)) x zs (sym (gt-lt x z) ∙ e) later) (ascending-put x zs apart.1 rest)
         | false ↦ λ e.
             let lt = neither (cmp x z) e apart.0 in
-            both (list_all (λ w. is_lt (cmp x w)) (z ∷ zs)) (is_ascending cmp (z ∷ zs)) (both (is_lt (cmp x z)) (list_all (λ w. is_lt (cmp x w)) zs) lt (all_below x z lt zs later)) up
+            and_from (list_all (λ w. is_lt (cmp x w)) (z ∷ zs)) (is_ascending cmp (z ∷ zs)) (and_from (is_lt (cmp x z)) (list_all (λ w. is_lt (cmp x w)) zs) lt (all_below x z lt zs later)) up
       ] refl
 
   -- elements of which no two tie rise strictly in order

@@ -3,7 +3,7 @@ use Rattle.std.proofs.Common.{◌≡◌, Bool, true, false, cond, not, ◌&&◌,
 use Rattle.std.specs.Prelude.{find, filter}
 use Rattle.std.specs.Cmp.{IsEquivalence}
 use Rattle.std.specs.List.{AllByRecursion, IsDistinct, list_any, filter_map, cons_option}
-use Rattle.std.proofs.lemmas.Bool.{false≢true}
+use Rattle.std.proofs.lemmas.Bool.{false≢true, not-true}
 use Rattle.std.proofs.lemmas.Map.Keys.{IsDistinct-head, IsDistinct-tail, IsDistinct-cons}
 use Rattle.am_model.specs.Lists.{put_in, without}
 use Rattle.am_model.proofs.lists.Alone.{without-none}
@@ -57,12 +57,8 @@ module _ {X : Type 0} where
   pub latest-distinct : (like : X → X → Bool) (x : X) (xs : List X) → IsDistinct like xs → IsDistinct like (x ∷ without (like x) xs)
   latest-distinct like x xs h =
       IsDistinct-cons like x (without (like x) xs)
-      (all-weaker (λ y. not (like x y) ≡ true) (λ y. like x y ≡ false) (λ y e. no (like x y) e) (without (like x) xs) (all-passes (λ y. not (like x y)) xs))
+      (all-weaker (λ y. not (like x y) ≡ true) (λ y. like x y ≡ false) (λ y e. not-true (like x y) e) (without (like x) xs) (all-passes (λ y. not (like x y)) xs))
       (IsDistinct-filter like (λ y. not (like x y)) xs h)
-    where
-      no : (b : Bool) → not b ≡ true → b ≡ false
-      no true e = absurd (false≢true e)
-      no false e = refl
 
 -- whether there is one, and it passes a test
 abbrev pub passes : {X : Type 0} → (X → Bool) → Option X → Bool

@@ -32,12 +32,12 @@ use Rattle.am_model.proofs.legal.EachCall.{HoldsOfEach, each_call}
 use Rattle.am_model.proofs.looking_back.FoundAlerts.{steady_past, finds_past}
 use Rattle.am_model.proofs.looking_back.FoundRows.{tells_past}
 use Rattle.am_model.proofs.looking_back.FoundSteps.{clock-step}
-use Rattle.am_model.proofs.states.Names.{same_name-is}
 use Rattle.am_model.proofs.looking_back.Opened.{Finds, members-tidy}
 use Rattle.am_model.proofs.looking_back.Pasts.{state_after, at_each, legal_past}
 use Rattle.am_model.proofs.looking_back.RowSteps.{Tells}
 use Rattle.am_model.proofs.lists.Sets.{any-found, each-found, passes}
 use Rattle.am_model.proofs.looking_back.ToldSets.{firing-same, resolved-same, firing-found, resolved-found, count-same}
+use Rattle.am_model.proofs.states.Alike.{same_name-is}
 
 module _ (config : Config) (id : ℕ) (s : State) (past : List Record) (pass : ℕ) (steady : IsSteady s) (k : Finds config s past) (l : Tells config s past) where
   -- what is said of a begin

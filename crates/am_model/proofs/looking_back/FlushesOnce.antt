@@ -4,7 +4,7 @@ use Rattle.std.specs.Prelude.{find, filter, ◌==◌, nat_le}
 use Rattle.std.specs.List.{AllByRecursion, list_any}
 use Rattle.std.specs.Option.{option_map}
 use Rattle.std.proofs.Math.Bool.{or-false}
-use Rattle.std.proofs.lemmas.Bool.{false≢true, eqb-true, ne_eqb, leb-true}
+use Rattle.std.proofs.lemmas.Bool.{false≢true, eqb-true, ne_eqb, leb-true, and_parts}
 use Rattle.std.proofs.lemmas.Cmp.{nat_eq_equiv}
 use Rattle.std.proofs.lemmas.List.Folds.{list_any-append}
 use Rattle.am_alerts.specs.LabelOrder.{same_label_set_equiv}
@@ -47,12 +47,12 @@ use Rattle.am_model.proofs.legal.ConsistentState.{IsOpen, IsSteady}
 use Rattle.am_model.proofs.legal.EachCall.{HoldsOfEach, each_call}
 use Rattle.am_model.proofs.looking_back.FoundAlerts.{steady_past, finds_past}
 use Rattle.am_model.proofs.looking_back.FoundSteps.{clock-step}
-use Rattle.am_model.proofs.states.Names.{same_name-is}
 use Rattle.am_model.proofs.looking_back.Opened.{notices_at, asked_as, IsOpened, Finds}
 use Rattle.am_model.proofs.looking_back.Pasts.{state_after, IsLegalPast, at_each, legal_past}
 use Rattle.am_model.proofs.looking_back.PastWords.{has_labels}
 use Rattle.am_model.proofs.lists.Sets.{any-filter, any-alike, any-and, any-map, passes}
 use Rattle.am_model.proofs.looking_back.ToldSets.{present-passes}
+use Rattle.am_model.proofs.states.Alike.{same_name-is}
 
 -- whether a reply is a flush whose group and number pass a test
 abbrev pub flush_passes : (GroupName → ℕ → Bool) → Reply → Bool
@@ -224,14 +224,10 @@ module _ (config : Config) (id : ℕ) (s : State) (past : List Record) (pass : �
       let R : GroupState → Type 0 = λ h. IsLater (route_of config h.name).group_interval t (begun_at config h.name past) in
       all-least R due_cmp g (filter test s.groups) (all-both P Q R (λ h passes is. due h (begun_at config h.name past) passes is) (filter test s.groups) (all-passes test s.groups) (all-filter Q test s.groups n.keeps.due)) e
     where
-      first : (a b : Bool) → (a && b) ≡ true → a ≡ true
-      first true b h = refl
-      first false b h = absurd (false≢true h)
-
       due : (h : GroupState) (o : Option ℕ) → may_begin s t h ≡ true → IsBegunAt config h o → IsLater (route_of config h.name).group_interval t o
       due h None passes is = tt
       due h (Some last) passes is =
-          let come : h.due ≤ t = leb-true h.due t (first (nat_le h.due t) (not (is_flushing s.flushes h.name)) passes) in
+          let come : h.due ≤ t = leb-true h.due t (and_parts (nat_le h.due t) (not (is_flushing s.flushes h.name)) passes).0 in
           subst (λ d. d ≤ t) is.1 come
 
   none-begun : (c : Call) (p : Reply) → ((number : ℕ) → is_flush number p ≡ false) → ((number : ℕ) → is_finish number c ≡ false) → ((number i : ℕ) → is_note number i c ≡ false) → ((name : GroupName) → takes name p ≡ false) → IsOneFlushAtATime (entry pass c p) past
@@ -384,9 +380,9 @@ module _ (config : Config) (id : ℕ) (s : State) (past : List Record) (pass : �
           begun_before = λ number h. absurd (false≢true h);
           first_finish = λ number h. absurd (false≢true h);
           note_open = λ number j h.
-              subst (λ x. (has_begun x past ≡ true) × (has_finished x past ≡ false)) (eqb-true m number (both (m == number) (i == j) h).0) (two (has_begun m past) (has_finished m past) is_open);
+              subst (λ x. (has_begun x past ≡ true) × (has_finished x past ≡ false)) (eqb-true m number (and_parts (m == number) (i == j) h).0) (two (has_begun m past) (has_finished m past) is_open);
           note_once = λ number j h.
-              let are = both (m == number) (i == j) h in
+              let are = and_parts (m == number) (i == j) h in
               subst (λ x. was_noted number x past ≡ false) (eqb-true i j are.1) (subst (λ x. was_noted x i past ≡ false) (eqb-true m number are.0) unnoted);
           none_open = λ name h. absurd (false≢true h);
         },
@@ -404,10 +400,6 @@ module _ (config : Config) (id : ℕ) (s : State) (past : List Record) (pass : �
       kept : (test : GroupName → ℕ → Bool) (h : FlushState) (b : Bool) → test h.group h.number ≡ test (cond b (with_note i h) h).group (cond b (with_note i h) h).number
       kept test h true = refl
       kept test h false = refl
-
-      both : (a b : Bool) → (a && b) ≡ true → (a ≡ true) × (b ≡ true)
-      both true b h = (refl, h)
-      both false b h = absurd (false≢true h)
 
   -- a begin that takes a group comes at least an interval after the last
   interval-over : (now : ℕ) (g : GroupState) (p : Reply) → taken s (moment s now) ≡ Some g → ((name : GroupName) → takes name p ≡ same_name name g.name) → IsIntervalOver config (entry pass (Begin now) p) past

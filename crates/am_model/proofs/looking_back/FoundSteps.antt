@@ -2,7 +2,6 @@
 use Rattle.std.proofs.Common.{◌≡◌, ℕ, ◌+◌, ◌≤◌, Bool, true, false, cond, not, ◌&&◌, ◌||◌, min, max, Option, Some, None, List, [], ◌∷◌, ◌++◌, map, length, refl, sym, ap, ◌∙◌, subst, arith}
 use Rattle.std.proofs.Math.Bool.{or-false}
 use Rattle.std.specs.Prelude.{find, fold, filter, unwrap_or, ◌==◌}
-use Rattle.std.specs.Option.{option_map}
 use Rattle.std.specs.List.{AllByRecursion, IsDistinct, list_any}
 use Rattle.std.proofs.lemmas.Bool.{false≢true, ne_eqb, eqb-true, eq-eqb}
 use Rattle.std.proofs.lemmas.Cmp.{nat_eq_equiv}
@@ -32,23 +31,18 @@ use Rattle.am_model.specs.look_back.Presence.{goes_to, inserts, begin_since, res
 use Rattle.am_model.specs.State.{MemberState, GroupState, FlushState, State, moment, same_name, is_named, flush_numbered}
 use Rattle.am_model.specs.Upkeep.{after_maintain, maintained}
 use Rattle.am_model.proofs.legal.ConsistentBegin.{IsTaken}
-use Rattle.am_model.proofs.legal.ConsistentGroups.{members_of, members_of-in, members_of-kept}
+use Rattle.am_model.proofs.legal.ConsistentGroups.{members_of, members_of-kept}
 use Rattle.am_model.proofs.lists.Distinct.{all-find, all-filter, all-map, all-push, all-weaker, all-both, find-passes}
 use Rattle.am_model.proofs.legal.ConsistentState.{IsOpen, IsSteady}
-use Rattle.am_model.proofs.states.Names.{same_name-is}
 use Rattle.am_model.proofs.looking_back.Opened.{notices_at, asked_noted, asked_as, IsOpened, Finds, open-step, success-found, leaving-older, members-tidy}
 use Rattle.am_model.proofs.looking_back.Pasts.{presence-step, presence-insert, unless-some}
 use Rattle.am_model.proofs.looking_back.PastWords.{unless, has_labels, member-put, member-without, member-labels, members_of-put, members_of-changed_own, members_of-kept_some, leaving-found}
+use Rattle.am_model.proofs.states.Alike.{same_name-is}
+use Rattle.am_model.proofs.legal.BoundedAlerts.{members-or_new}
 
 -- ---- an insert puts an alert into the groups of its routes
 
 module _ (config : Config) (t : ℕ) (m : MemberState) (labels : List Label) (name : GroupName) where
-  -- the alerts of the group that a name has, made if it is missing
-  new_members : (gs : List GroupState) (n : GroupName) → (group_or_new config t gs n).members ≡ members_of gs n
-  new_members gs n =
-      elim (find (is_named n) gs) as (λ o. (unwrap_or o (new_group config t n)).members ≡ unwrap_or (option_map (λ (g : GroupState). g.members) o) []) [ None ↦ refl | Some g ↦ refl ]
-      ∙ members_of-in gs n
-
   new_name : (gs : List GroupState) (n : GroupName) → (group_or_new config t gs n).name ≡ n
   new_name gs n =
       elim (find (is_named n) gs) as (λ o. find (is_named n) gs ≡ o → (unwrap_or o (new_group config t n)).name ≡ n) [
@@ -61,7 +55,7 @@ module _ (config : Config) (t : ℕ) (m : MemberState) (labels : List Label) (na
       let g = group_or_new config t gs n in
       ap (member_with labels) (members_of-put name (group_with config t m g) gs)
       ∙ ap (λ k. member_with labels (cond (same_name name k) (put_in same_member m g.members) (members_of gs name))) (new_name gs n)
-      ∙ ap (λ ms. member_with labels (cond (same_name name n) (put_in same_member m ms) (members_of gs name))) (new_members gs n)
+      ∙ ap (λ ms. member_with labels (cond (same_name name n) (put_in same_member m ms) (members_of gs name))) (members-or_new config t m gs n)
       ∙ by (same_name name n) refl
     where
       out : (b : Bool) (o : Option MemberState) → o ≡ cond (b && false) (Some m) o

@@ -1,7 +1,7 @@
 -- What the open flushes of a state are in the past that led to it, and what one record more leaves of it.
 use Rattle.std.proofs.Common.{◌≡◌, ℕ, ◌+◌, ◌≤◌, Bool, true, false, cond, ◌&&◌, ◌||◌, Some, List, [], ◌∷◌, map, refl, sym, ap, ◌∙◌, arith}
 use Rattle.std.specs.List.{list_all, AllByRecursion}
-use Rattle.std.proofs.lemmas.Bool.{false≢true, ne_eqb}
+use Rattle.std.proofs.lemmas.Bool.{false≢true, ne_eqb, and_right}
 use Rattle.std.proofs.lemmas.List.Folds.{list_all-map}
 use Rattle.am_alerts.specs.Labels.{same_label_set}
 use Rattle.am_alerts.specs.declared.labels.Label.{Label}
@@ -48,10 +48,6 @@ pub record Finds (config : Config) (s : State) (past : List Record) : Type 0 whe
   pub opened : AllByRecursion (IsOpened config s.inserts past) s.flushes
   pub fresh : (number integration : ℕ) → s.next_number ≤ number → was_noted number integration past ≡ false
 
-and_none : (a : Bool) → (a && false) ≡ false
-and_none true = refl
-and_none false = refl
-
 -- ---- one record more that is no begin of the flush, and no note of it
 
 module _ (config : Config) (r : Record) (past : List Record) where
@@ -65,7 +61,7 @@ module _ (config : Config) (r : Record) (past : List Record) where
             elim (inserts m.alert.labels r.call) as (λ b. inserts m.alert.labels r.call ≡ b → resolved_at_begin name m.alert (begin_since m.alert.labels f.number (r ∷ past)) ≡ (same_name name f.group && is_leaving f.leaving m)) [
               | true ↦ λ e.
                   ap (λ b. resolved_at_begin name m.alert (cond b [] (cond (is_flush f.number r.reply) (r ∷ past) (begin_since m.alert.labels f.number past)))) e
-                  ∙ sym (ap (λ b. same_name name f.group && b) (new name m e is) ∙ and_none (same_name name f.group))
+                  ∙ sym (ap (λ b. same_name name f.group && b) (new name m e is) ∙ and_right (same_name name f.group) false refl)
               | false ↦ λ e.
                   ap (λ b. resolved_at_begin name m.alert (cond b [] (cond (is_flush f.number r.reply) (r ∷ past) (begin_since m.alert.labels f.number past)))) e
                   ∙ ap (λ b. resolved_at_begin name m.alert (cond b (r ∷ past) (begin_since m.alert.labels f.number past))) other
@@ -98,7 +94,7 @@ pub leaving-older : (n : ℕ) (m : MemberState) (leaving : List Stamped) → All
 leaving-older n m [] all later = refl
 leaving-older n m (l ∷ ls) all later =
     ap (λ b. (same_label_set l.labels m.alert.labels && b) || is_leaving ls m) (ne_eqb l.stamp m.stamp (λ e. omega (arith, e, all.0, later)))
-    ∙ ap (λ b. b || is_leaving ls m) (and_none (same_label_set l.labels m.alert.labels))
+    ∙ ap (λ b. b || is_leaving ls m) (and_right (same_label_set l.labels m.alert.labels) false refl)
     ∙ leaving-older n m ls all.1 later
 
 -- the alerts of a name differ, and have stamps that were given

@@ -16,9 +16,10 @@ use Rattle.am_model.specs.look_back.Laws.{member_with}
 use Rattle.am_model.specs.State.{MemberState, GroupState, Stamped, same_name, is_named}
 use Rattle.am_model.specs.Finish.{is_leaving}
 use Rattle.am_model.specs.Upkeep.{is_deserted}
-use Rattle.am_model.proofs.legal.ConsistentGroups.{members_of, same_name_equiv}
+use Rattle.am_model.proofs.legal.ConsistentGroups.{members_of}
 use Rattle.am_model.proofs.lists.Alone.{find-none}
 use Rattle.am_model.proofs.lists.Distinct.{all-filter, all-weaker, find-passes}
+use Rattle.am_model.proofs.states.Alike.{same_name_equiv}
 
 -- an element, unless it passes a test
 abbrev pub unless : {X : Type 0} → (X → Bool) → Option X → Option X

@@ -1,7 +1,7 @@
 -- An alert that fires again while a flush of its group is open is in the group after the finish.
 use Rattle.std.proofs.Common.{◌≡◌, ℕ, Bool, true, false, cond, not, ◌&&◌, ◌||◌, Some, None, List, [], ◌∷◌, refl, sym, ap, ◌∙◌, subst}
 use Rattle.std.specs.List.{list_any}
-use Rattle.std.proofs.lemmas.Bool.{false≢true, eqb-true}
+use Rattle.std.proofs.lemmas.Bool.{false≢true, eqb-true, or_parts}
 use Rattle.am_alerts.specs.AlertData.{is_resolved}
 use Rattle.am_alerts.specs.LabelOrder.{same_label_set-decides}
 use Rattle.am_alerts.specs.declared.labels.Label.{Label}
@@ -20,10 +20,6 @@ use Rattle.am_model.specs.State.{MemberState, members_in}
 use Rattle.am_model.proofs.looking_back.FlushesOnce.{flushes_end_once}
 use Rattle.am_model.proofs.looking_back.FoundAlerts.{members-found}
 use Rattle.am_model.proofs.looking_back.Pasts.{IsLegalPast, replay_of_past, legal_past, last_insert-labels}
-
-neither : (a b : Bool) → (a || b) ≡ false → (a ≡ false) × (b ≡ false)
-neither true b h = absurd (false≢true (sym h))
-neither false b h = (refl, h)
 
 -- the number of a flush
 number-is : (number : ℕ) (p : Reply) → is_flush number p ≡ true → number_in p ≡ number
@@ -73,8 +69,8 @@ module _ (config : Config) (name : GroupName) (number : ℕ) where
         elim (is_flush number r.reply) as (λ b. is_flush number r.reply ≡ b → begins_group name (cond b (r ∷ past) (begin_of number past)) ≡ true → cond b None (cond (inserts labels r.call) (inserted_by (stamp_told r.reply) r.call) (insert_during number labels past)) ≡ Some m → resolved_at_begin name m.alert (begin_since m.alert.labels n (r ∷ past)) ≡ false) [
           | true ↦ λ e h is. absurd (cc)
           | false ↦ λ e h is.
-              let before = (neither (is_finish number r.call) (has_finished number past) unfinished).1 in
-              let free = neither (is_quiet name r.reply) (is_flush_of name r.reply) (not-taken r past each.0 h before) in
+              let before = (or_parts (is_finish number r.call) (has_finished number past) unfinished).1 in
+              let free = or_parts (is_quiet name r.reply) (is_flush_of name r.reply) (not-taken r past each.0 h before) in
               elim (inserts labels r.call) as (λ b. inserts labels r.call ≡ b → cond b (inserted_by (stamp_told r.reply) r.call) (insert_during number labels past) ≡ Some m → resolved_at_begin name m.alert (begin_since m.alert.labels n (r ∷ past)) ≡ false) [
                 | true ↦ λ e is. ap (λ b. resolved_at_begin name m.alert (cond b [] (cond (is_flush n r.reply) (r ∷ past) (begin_since m.alert.labels n past)))) (subst (λ l. inserts l r.call ≡ true) own e)
                 | false ↦ λ e is.
@@ -100,7 +96,7 @@ module _ (config : Config) (name : GroupName) (number : ℕ) where
     stays-one : (r : Record) (past : List Record) → IsOneFlushAtATime r past → AtEach IsOneFlushAtATime past → begins_group name (begin_of number past) ≡ true → has_finished number past ≡ false → insert_during number labels past ≡ Some m
         → removes name m.alert r past ≡ false
     stays-one r past one each begun unfinished is =
-        let free = neither (is_quiet name r.reply) (is_flush_of name r.reply) (not-taken r past one begun unfinished) in
+        let free = or_parts (is_quiet name r.reply) (is_flush_of name r.reply) (not-taken r past one begun unfinished) in
         ap (λ b. (b && is_resolved m.alert (moment_at (r ∷ past))) || finish_removes name m.alert past r.call) free.0
         ∙ none-removed past r.call (λ n. none-resolved n past each begun unfinished is)
 
@@ -110,7 +106,7 @@ module _ (config : Config) (name : GroupName) (number : ℕ) where
         elim (is_flush number r.reply) as (λ b. is_flush number r.reply ≡ b → begins_group name (cond b (r ∷ past) (begin_of number past)) ≡ true → cond b None (cond (inserts labels r.call) (inserted_by (stamp_told r.reply) r.call) (insert_during number labels past)) ≡ Some m → has_left name m.alert (r ∷ past) ≡ false) [
           | true ↦ λ e h is. absurd (cc)
           | false ↦ λ e h is.
-              let before = (neither (is_finish number r.call) (has_finished number past) unfinished).1 in
+              let before = (or_parts (is_finish number r.call) (has_finished number past) unfinished).1 in
               elim (inserts labels r.call) as (λ b. inserts labels r.call ≡ b → cond b (inserted_by (stamp_told r.reply) r.call) (insert_during number labels past) ≡ Some m → has_left name m.alert (r ∷ past) ≡ false) [
                 | true ↦ λ e is. ap (λ b. cond b false (removes name m.alert r past || has_left name m.alert past)) (subst (λ l. inserts l r.call ≡ true) own e)
                 | false ↦ λ e is.

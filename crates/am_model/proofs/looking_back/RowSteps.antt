@@ -4,7 +4,7 @@ use Rattle.std.specs.Prelude.{find, fold, ◌==◌}
 use Rattle.std.specs.Option.{option_or}
 use Rattle.std.specs.Cmp.{IsEquivalence}
 use Rattle.std.specs.List.{AllByRecursion, IsDistinct, list_any}
-use Rattle.std.proofs.lemmas.Bool.{ne_eqb, eqb-true}
+use Rattle.std.proofs.lemmas.Bool.{ne_eqb, eqb-true, and_right}
 use Rattle.std.proofs.lemmas.Cmp.{nat_eq_equiv}
 use Rattle.am_alerts.specs.AlertData.{AlertData}
 use Rattle.am_alerts.specs.declared.labels.Label.{Label}
@@ -33,7 +33,6 @@ use Rattle.am_model.specs.look_back.Past.{moment_at, is_flush, begin_of, was_not
 use Rattle.am_model.specs.State.{AskedState, FlushState, GroupState, State, moment, is_named, same_name, flush_numbered}
 use Rattle.am_model.specs.Upkeep.{same_silence, silenced, after_silence, has_expired, maintained, after_maintain}
 use Rattle.am_model.proofs.legal.ConsistentBegin.{IsTaken}
-use Rattle.am_model.proofs.legal.ConsistentGroups.{same_key_equiv, same_alert_equiv, same_silence_equiv}
 use Rattle.am_model.proofs.lists.Distinct.{all-find, all-filter, all-map, all-push, all-weaker, all-both, find-passes}
 use Rattle.am_model.proofs.legal.ConsistentState.{IsOpen, IsSteady}
 use Rattle.am_model.proofs.looking_back.FoundSteps.{clock-step}
@@ -41,6 +40,7 @@ use Rattle.am_model.proofs.looking_back.Opened.{notices_at, asked_as, IsOpened, 
 use Rattle.am_model.proofs.looking_back.PastWords.{unless, find-put, find-without}
 use Rattle.am_model.proofs.lists.Sets.{any-filter, any-alike, any-and, any-put, any-map}
 use Rattle.am_model.proofs.looking_back.ToldSets.{firing-found, resolved-found}
+use Rattle.am_model.proofs.states.Alike.{same_alert_equiv, same_key_equiv, same_silence_equiv}
 
 -- what an open flush tells is what looking back finds at its begin
 pub record IsToldBy (config : Config) (past : List Record) (f : FlushState) : Type 0 where
@@ -132,10 +132,6 @@ logged-found config n past f o outcomes i =
     begun [] = refl
     begun (r ∷ before) = refl
 
-    none : (b : Bool) → (b && false) ≡ false
-    none true = refl
-    none false = refl
-
     ends : (b : Bool) → (b && true) ≡ b
     ends true = refl
     ends false = refl
@@ -146,7 +142,7 @@ logged-found config n past f o outcomes i =
         ∙ ap (λ m. succeeded f.number outcomes past x && not (was_noted f.number m past)) (sym (eqb-true i x.integration e))
         ∙ sym (ap (λ b. (b && succeeded f.number outcomes past x) && not (was_noted f.number i past)) (nat_eq_equiv.symm x.integration i ∙ e))
     one x false e =
-        none (succeeded f.number outcomes past x && not (was_noted f.number x.integration past))
+        and_right (succeeded f.number outcomes past x && not (was_noted f.number x.integration past)) false refl
         ∙ sym (ap (λ b. (b && succeeded f.number outcomes past x) && not (was_noted f.number i past)) (nat_eq_equiv.symm x.integration i ∙ e))
 
 -- ---- one record more

@@ -3,7 +3,7 @@ use Rattle.std.proofs.Common.{◌≡◌, ℕ, Bool, true, false, cond, not, ◌&
 use Rattle.std.specs.Prelude.{All, IsTrue, find, ◌==◌}
 use Rattle.std.specs.List.{AllByRecursion, list_any}
 use Rattle.std.specs.Option.{option_or}
-use Rattle.std.proofs.lemmas.Bool.{false≢true, eqb-true}
+use Rattle.std.proofs.lemmas.Bool.{false≢true, eqb-true, and_parts, not-true, or_right}
 use Rattle.std.proofs.lemmas.Cmp.{nat_eq_equiv}
 use Rattle.std.proofs.lemmas.List.Sorted.{All-permutation}
 use Rattle.am_retry.specs.declared.outcome.Outcome.{Outcome}
@@ -28,7 +28,6 @@ use Rattle.am_model.specs.State.{AskedState, FlushState, State, flush_numbered}
 use Rattle.am_model.specs.Ticket.{outcome_of}
 use Rattle.am_model.specs.Upkeep.{has_expired}
 use Rattle.am_model.specs.Views.{row_cmp, row_views}
-use Rattle.am_model.proofs.legal.ConsistentGroups.{same_key_equiv}
 use Rattle.am_model.proofs.lists.Distinct.{all_from, all-find, all-weaker, find-passes}
 use Rattle.am_model.proofs.legal.EachCall.{each_call}
 use Rattle.am_model.proofs.looking_back.FoundAlerts.{steady_past, finds_past}
@@ -38,18 +37,7 @@ use Rattle.am_model.proofs.looking_back.Opened.{notices_at, asked_as, IsOpened, 
 use Rattle.am_model.proofs.looking_back.Pasts.{state_after, IsLegalPast, replay_of_past, at_each, legal_past, replay_is_past}
 use Rattle.am_model.proofs.looking_back.RowSteps.{Tells}
 use Rattle.am_model.proofs.lists.Sets.{any-alike, any-map, each-found}
-
-or_right : (a b : Bool) → b ≡ true → (a || b) ≡ true
-or_right true b h = refl
-or_right false b h = h
-
-two : (a b : Bool) → (a && b) ≡ true → (a ≡ true) × (b ≡ true)
-two true b h = (refl, h)
-two false b h = absurd (false≢true h)
-
-no : (b : Bool) → not b ≡ true → b ≡ false
-no true e = absurd (false≢true e)
-no false e = refl
+use Rattle.am_model.proofs.states.Alike.{same_key_equiv}
 
 -- ---- words on lists
 
@@ -74,9 +62,9 @@ delivered_in name i outcome (q ∷ before) e h = ap (λ b. b && is_delivered_to 
 finish_reports : (name : GroupName) (i now number : ℕ) (outcomes : List (ℕ × Outcome)) (past : List Record) → logs name i past (Finish now number outcomes) ≡ true → reports_delivery name i past (Finish now number outcomes) ≡ true
 finish_reports name i now number outcomes past h =
     let begin = begin_of number past in
-    let both = two (begins_group name begin) (asked_and_succeeded number outcomes past i begin && not (was_noted number i past)) h in
-    let rest = two (asked_and_succeeded number outcomes past i begin) (not (was_noted number i past)) both.1 in
-    delivered_in name i (outcome_of outcomes i) begin both.0 (asked begin (no (was_noted number i past) rest.1) rest.0)
+    let both = and_parts (begins_group name begin) (asked_and_succeeded number outcomes past i begin && not (was_noted number i past)) h in
+    let rest = and_parts (asked_and_succeeded number outcomes past i begin) (not (was_noted number i past)) both.1 in
+    delivered_in name i (outcome_of outcomes i) begin both.0 (asked begin (not-true (was_noted number i past) rest.1) rest.0)
   where
     one : (n : NoticeData) (b : Bool) → (n.integration == i) ≡ b → was_noted number i past ≡ false → (b && succeeded number outcomes past n) ≡ (b && (is_nothing n || is_delivered (outcome_of outcomes i)))
     one n true e unnoted =
@@ -96,7 +84,7 @@ note_reports : (config : Config) (s : State) (past : List Record) → Finds conf
 note_reports config s past k l now number i outcome f is may name j h =
     let same : f.number ≡ number = eqb-true f.number number (find-passes (λ (h : FlushState). h.number == number) f s.flushes is) in
     let o = all-find (IsOpened config s.inserts past) (λ h. h.number == number) f s.flushes k.opened is in
-    let both = two (begins_group name (begin_of number past)) (i == j) h in
+    let both = and_parts (begins_group name (begin_of number past)) (i == j) h in
     let test : AskedState → Bool = λ a. (a.integration == i) && (a.nothing || is_delivered outcome) in
     let asked : list_any (λ n. (n.integration == i) && (is_nothing n || is_delivered outcome)) (notices_at (begin_of f.number past)) ≡ true =
     sym (any-map test (asked_as f.number past) (notices_at (begin_of f.number past))) ∙ ap (list_any test) (sym o.asked) ∙ ready (asked_by f i) refl may in
@@ -106,7 +94,7 @@ note_reports config s past k l now number i outcome f is may name j h =
   where
     ready : (a : Option AskedState) → asked_by f i ≡ a → may_be_noted outcome a ≡ true → list_any (λ (x : AskedState). (x.integration == i) && (x.nothing || is_delivered outcome)) f.asked ≡ true
     ready None found e = absurd (false≢true e)
-    ready (Some a) found e = any-of_found (λ (x : AskedState). x.integration == i) (λ x. x.nothing || is_delivered outcome) a f.asked found (two (is_ready outcome a) (not a.noted) e).0
+    ready (Some a) found e = any-of_found (λ (x : AskedState). x.integration == i) (λ x. x.nothing || is_delivered outcome) a f.asked found (and_parts (is_ready outcome a) (not a.noted) e).0
 
 logged_delivered : (config : Config) (id : ℕ) (past : List Record) → IsLegalPast config id past → AtEach LogsDelivered past
 logged_delivered config id =
@@ -168,9 +156,9 @@ logs_begin name i past (Insert now alert) e = absurd (false≢true e)
 logs_begin name i past (Silence now id matchers start end) e = absurd (false≢true e)
 logs_begin name i past (Begin now) e = absurd (false≢true e)
 logs_begin name i past (Finish now number outcomes) e =
-    (two (begins_group name (begin_of number past)) (asked_and_succeeded number outcomes past i (begin_of number past) && not (was_noted number i past)) e).0
+    (and_parts (begins_group name (begin_of number past)) (asked_and_succeeded number outcomes past i (begin_of number past) && not (was_noted number i past)) e).0
 logs_begin name i past (Maintain now) e = absurd (false≢true e)
-logs_begin name i past (Note now number j outcome) e = (two (begins_group name (begin_of number past)) (j == i) e).0
+logs_begin name i past (Note now number j outcome) e = (and_parts (begins_group name (begin_of number past)) (j == i) e).0
 
 -- what a maintenance leaves was there
 left_there : (t : ℕ) (c : Call) (row : RowView) (o : Option RowView) → unless_collected t c o ≡ Some row → o ≡ Some row

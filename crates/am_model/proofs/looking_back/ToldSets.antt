@@ -32,6 +32,7 @@ use Rattle.am_model.proofs.looking_back.Pasts.{last_insert-labels}
 use Rattle.am_model.proofs.looking_back.PastWords.{has_labels}
 use Rattle.am_model.proofs.looking_back.SameAlerts.{same-members}
 use Rattle.am_model.proofs.lists.Sets.{any-filter, any-alike, any-and, any-filter_map, latest-distinct, passes}
+use Rattle.std.proofs.lemmas.Bool.{and_right}
 
 -- ---- the known alerts of a past
 
@@ -64,11 +65,7 @@ known-inserted labels (r ∷ past) = by (stamp_told r.reply) r.call (known-inser
 
         one : (a : AlertData) (b : Bool) → same_label_set labels a.labels ≡ b → same_label_set labels alert.labels ≡ false → (not (same_alert alert a) && b) ≡ b
         one a true own e = ap (λ c. not c && true) (other a own e)
-        one a false own e = none (not (same_alert alert a))
-          where
-            none : (c : Bool) → (c && false) ≡ false
-            none true = refl
-            none false = refl
+        one a false own e = and_right (not (same_alert alert a)) false refl
     by stamp (Silence now id matchers start end) rest = rest
     by stamp (Begin now) rest = rest
     by stamp (Finish now number outcomes) rest = rest
@@ -105,11 +102,7 @@ module _ (config : Config) (name : GroupName) (past : List Record) where
       ∙ known (presence config name labels past) refl
     where
       known : (o : Option MemberState) → presence config name labels past ≡ o → (is_some (last_insert labels past) && passes also o) ≡ passes also o
-      known None e = none (is_some (last_insert labels past))
-        where
-          none : (b : Bool) → (b && false) ≡ false
-          none true = refl
-          none false = refl
+      known None e = and_right (is_some (last_insert labels past)) false refl
       known (Some m) e = ap (λ o. is_some o && also m) (presence-inserted labels m e)
 
       one : (a : AlertData) (o : Option MemberState) → presence config name a.labels past ≡ o → (b : Bool) → same_label_set labels a.labels ≡ b → passes (λ m. has_labels labels m && also m) o ≡ (b && passes also (presence config name labels past))

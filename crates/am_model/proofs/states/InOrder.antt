@@ -3,14 +3,14 @@ use denote.Param.Members.{Mut}
 use Rattle.std.proofs.Common.{◌≡◌, ℕ, Bool, true, false, not, List, map, refl, sym, ap, ◌∙◌, subst}
 use Rattle.std.specs.Prelude.{IsPermutation, IsSorted, IsSortedBy, filter, None, if◌then◌else◌}
 use Rattle.std.specs.Borrow.{Bor}
-use Rattle.std.specs.Cmp.{IsTotalOrder, IsStrictWeakOrder, IsEquivalence, both_tied, unsigned_ties}
+use Rattle.std.specs.Cmp.{IsTotalOrder, IsStrictWeakOrder, both_tied, unsigned_ties}
 use Rattle.std.specs.Fn.{Called, ComparesAs}
 use Rattle.std.specs.List.{IsDistinct}
 use Rattle.std.specs.Ordering.{eq_by_cmp, nat_cmp}
 use Rattle.std.specs.declared.cmp.Ordering.{Ordering}
-use Rattle.std.proofs.lemmas.Cmp.{nat_cmp_total, on_total, then_total, on_equiv, and_equiv, nat_eq_equiv}
+use Rattle.std.proofs.lemmas.Cmp.{nat_cmp_total, on_total, then_total}
 use Rattle.am_alerts.specs.AlertData.{AlertData, alert_of, is_resolved}
-use Rattle.am_alerts.specs.LabelOrder.{label_set_cmp_total, same_label_set-cmp, same_label_set_equiv}
+use Rattle.am_alerts.specs.LabelOrder.{label_set_cmp_total, same_label_set-cmp}
 use Rattle.am_alerts.specs.Labels.{same_label_set, label_set_cmp}
 use Rattle.am_mute.specs.Inhibit.{RuleData}
 use Rattle.am_mute.specs.Mute.{is_muted}
@@ -40,18 +40,6 @@ group_cmp_total = on_total (λ (g : GroupState). g.name) name_cmp_total
 
 pub row_cmp_total : IsTotalOrder row_cmp
 row_cmp_total = then_total (on_total (λ (r : RowView). r.group) name_cmp_total) (on_total (λ (r : RowView). r.integration) nat_cmp_total)
-
-pub same_name-laws : IsEquivalence same_name
-same_name-laws = and_equiv (on_equiv (λ (n : GroupName). n.route) nat_eq_equiv) (on_equiv (λ (n : GroupName). n.labels) same_label_set_equiv)
-
-pub same_alert-laws : IsEquivalence same_alert
-same_alert-laws = on_equiv (λ (a : AlertData). a.labels) same_label_set_equiv
-
-pub same_group-laws : IsEquivalence same_group
-same_group-laws = on_equiv (λ (g : GroupState). g.name) same_name-laws
-
-pub same_key-laws : IsEquivalence same_key
-same_key-laws = and_equiv (on_equiv (λ (r : RowView). r.group) same_name-laws) (on_equiv (λ (r : RowView). r.integration) nat_eq_equiv)
 
 pub same_alert-ties : (a b : AlertData) → same_alert a b ≡ eq_by_cmp alert_cmp a b
 same_alert-ties a b = same_label_set-cmp a.labels b.labels

@@ -6,10 +6,11 @@ use Rattle.am_model.specs.Causes.{begin_cause, opens_by}
 use Rattle.am_board.specs.Kept.{state_of, group_state}
 use Rattle.am_board.specs.Beginning.{IsPlan, IsTaking}
 use Rattle.am_model.specs.State.{moment}
-use Rattle.am_board.proofs.beginning.Causes.{told, taken-none, cause-closed, cause-few, cause-quiet, planned_none, planned_some, planned_err, stays_same, taking_found}
+use Rattle.am_board.proofs.beginning.Causes.{told, taken-none, cause-closed, cause-few, cause-quiet, planned_none, planned_some, planned_err, taking_found}
 use Rattle.am_board.proofs.keeping.GroupNames.{routed_at}
 use Rattle.am_board.proofs.begin.take_group.Goals as goal
 use Rattle.am_board.proofs.begin.take_group.Goals.{After-at, After-due_again-due, In-Some-2}
+use Rattle.am_board.proofs.keeping.Staying.{stays_itself}
 
 within : (c : After-at) → c.in-Some.place < length c.args.state.now.groups.items
 within c = omega (arith, c.in-Some.ensures.within, ap (λ (gs : List Group). length gs) c.as_slice.ensures.value)
@@ -41,7 +42,7 @@ returns-in_err-plan c =
     let at = (goal.at.returns-in_err-plan c).After-due_again-due in
     let p = err_from_is_err_and c.from_residual.result c.from_residual.ensures.1 in
     rw (p.1, p.2)
-    (planned_err c.args.config.now c.args.id c.args.state.now (taking at) c.at.result.now (takes at) (c.has_room.ensures.0 c.if-not-has_room.false) c.in_err-plan.field-0.0 c.in_err-plan.ensures, stays_same c.args.config.now c.args.state.now c.requires.good)
+    (planned_err c.args.config.now c.args.id c.args.state.now (taking at) c.at.result.now (takes at) (c.has_room.ensures.0 c.if-not-has_room.false) c.in_err-plan.field-0.0 c.in_err-plan.ensures, stays_itself c.args.config.now c.args.state.now c.requires.good)
 
 -- the flush that is opened, where the begin takes the group
 opened : (c : In-Some-2) → IsTaking c.args.config.now c.args.state.now (record { pass = c.args.pass; now = c.args.now; t = c.moment-t.result; place = c.in-Some.place; due = c.due_again-due.result }) c.at.result.now

@@ -4,9 +4,10 @@ use Rattle.am_alerts.specs.AlertData.{AlertData}
 use Rattle.am_alerts.specs.Labels.{same_label_set}
 use Rattle.am_alerts.specs.declared.labels.Label.{Label}
 use Rattle.am_board.specs.Kept.{state_of}
-use Rattle.am_board.proofs.inserting.Inserting.{answer_names, names_many, names_few, names_known, none_told, not_full}
+use Rattle.am_board.proofs.inserting.Inserting.{answer_names, names_many, names_few, names_known, none_told}
 use Rattle.am_board.proofs.insert.find_place.Goals as goal
 use Rattle.am_board.proofs.insert.find_place.Goals.{else-is_none-via-then-is_none+else-len-config, else-is_none-via-else-is_none}
+use Rattle.am_board.proofs.keeping.Staying.{has_room}
 
 abbrev found : List Label → List AlertData → Option ℕ
 found labels alerts = position (λ a. same_label_set labels a.labels) alerts
@@ -24,7 +25,7 @@ returns-then-len-config c =
       room = tt;
       names = tt;
       refused = answer_names c.args.config.now (vec_len c.args.state.now.history) (state_of c.args.state.now) c.args.alert.now
-          (not_full c.args.config.now c.args.state.now (c.has_room.ensures.0 c.if-not-has_room.false))
+          (has_room c.args.config.now c.args.state.now (c.has_room.ensures.0 c.if-not-has_room.false))
           (names_many c.args.config.now (state_of c.args.state.now) c.args.alert.now c.find-place.result place (none_told c.find-place.result c.is_none.result c.is_none.ensures ∙ c.if-is_none.true) (omega arith));
     }
 
@@ -33,7 +34,7 @@ returns-clause-place c =
     of_labels c.args.alert.now.labels c.labels.result.now c.args.state.now.known.items _ c.labels.ensures.labels c.find-place.ensures.place
 
 pub returns-clause-room : goal.returns-clause-room
-returns-clause-room c = not_full c.args.config.now c.args.state.now (c.has_room.ensures.0 c.if-not-has_room.false)
+returns-clause-room c = has_room c.args.config.now c.args.state.now (c.has_room.ensures.0 c.if-not-has_room.false)
 
 pub returns-clause-names : goal.returns-clause-names
 returns-clause-names c =

@@ -12,8 +12,9 @@ use Rattle.am_model.specs.declared.record.Call.TheVariants as call
 use Rattle.am_model.specs.declared.record.Reply.TheVariants as reply
 use Rattle.am_model.specs.Records.{entry}
 use Rattle.am_board.specs.declared.state.State as kept
-use Rattle.am_board.proofs.inserting.Inserting.{answer_groups, no_cause, makes_many, makes_few, made_told, count_is, told_is, insert_leaves, stays_itself, stays_reserved, agrees_same}
+use Rattle.am_board.proofs.inserting.Inserting.{answer_groups, no_cause, makes_many, makes_few, made_told, count_is, told_is, insert_leaves, stays_reserved}
 use Rattle.am_board.proofs.insert.put_alert.Goals as goal
+use Rattle.am_board.proofs.keeping.Staying.{stays_itself, agrees_same}
 
 pub returns-then-len-made : goal.returns-then-len-made
 returns-then-len-made c =

@@ -13,9 +13,10 @@ use Rattle.am_board.specs.declared.flush.OpenFlush.{OpenFlush}
 use Rattle.am_model.specs.declared.record.Call.TheVariants.{Note}
 use Rattle.am_model.specs.declared.record.Reply.TheVariants as replies
 use Rattle.am_board.specs.declared.state.State as kept
-use Rattle.am_board.proofs.noting.Noted.{element, stays-so, full-of, not-full-of, cause-left, note-accepted, answers, refused, the_notice, on-ok}
+use Rattle.am_board.proofs.noting.Noted.{element, full-of, cause-left, note-accepted, answers, refused, the_notice, on-ok}
 use Rattle.am_board.proofs.note.note_success.Goals as goal
 use Rattle.am_board.proofs.note.note_success.Goals.{In_ok-found}
+use Rattle.am_board.proofs.keeping.Staying.{stays_itself, has_room}
 
 -- what was found is among the flushes of the state
 found-in : (c : In_ok-found) → IsNoting c.args.state.now.flushes.items c.args.ticket.now c.args.place c.in_ok-found.found
@@ -34,17 +35,17 @@ returns-in_err-found c =
     let cause : IfErr c.from_residual.result (λ fault. flush_cause c.args.config.now (vec_len c.args.state.now.history) (state_of c.args.state.now) c.args.ticket.now c.args.place (flush_numbered (map flush_state c.args.state.now.flushes.items) c.args.ticket.now.number) ≡ Some fault) =
     search (rules, c.in_err-found.ensures.cause c.args.config.now (vec_len c.args.state.now.history) (state_of c.args.state.now) kept) in
     refused c.from_residual.result _ (flush_cause c.args.config.now (vec_len c.args.state.now.history) (state_of c.args.state.now) c.args.ticket.now c.args.place (flush_numbered (map flush_state c.args.state.now.flushes.items) c.args.ticket.now.number)) (Stays c.args.config.now c.args.state.now c.args.state.now) c.from_residual.ensures.0 cause
-    (stays-so c.args.config.now c.args.state.now c.requires.good)
+    (stays_itself c.args.config.now c.args.state.now c.requires.good)
 
 pub returns-then-not-has_room : goal.returns-then-not-has_room
 returns-then-not-has_room c =
     let full = full-of c.args.config.now c.args.state.now (λ room. cc (c.has_room.ensures.1 room)) in
-    (answers _ note.HistoryFull (left (goal.at.returns-then-not-has_room c).In_ok-found ∙ ap (λ b. if b then Some note.HistoryFull else None) full), stays-so c.args.config.now c.args.state.now c.requires.good)
+    (answers _ note.HistoryFull (left (goal.at.returns-then-not-has_room c).In_ok-found ∙ ap (λ b. if b then Some note.HistoryFull else None) full), stays_itself c.args.config.now c.args.state.now c.requires.good)
 
 pub returns-then-is_err : goal.returns-then-is_err
 returns-then-is_err c =
     let room : vec_len c.args.state.now.history + vec_len c.args.state.now.flushes + 1 ≤ c.args.config.now.limits.history = c.has_room.ensures.0 c.if-not-has_room.false in
-    let none = left (goal.at.returns-then-is_err c).In_ok-found ∙ ap (λ b. if b then Some note.HistoryFull else None) (not-full-of c.args.config.now c.args.state.now room) in (
+    let none = left (goal.at.returns-then-is_err c).In_ok-found ∙ ap (λ b. if b then Some note.HistoryFull else None) (has_room c.args.config.now c.args.state.now room) in (
       subst (λ o. IsNoteAnswer o note.NoMemory) (sym none) refl,
       record {
         state = refl;
@@ -61,7 +62,7 @@ returns c =
     let old = c.args.state.now in
     let found = found-in (goal.at.returns c).In_ok-found in
     let room : vec_len c.args.state.now.history + vec_len c.args.state.now.flushes + 1 ≤ c.args.config.now.limits.history = c.has_room.ensures.0 c.if-not-has_room.false in
-    let none = left (goal.at.returns c).In_ok-found ∙ ap (λ b. if b then Some note.HistoryFull else None) (not-full-of c.args.config.now c.args.state.now room) in
+    let none = left (goal.at.returns c).In_ok-found ∙ ap (λ b. if b then Some note.HistoryFull else None) (has_room c.args.config.now c.args.state.now room) in
     let new : kept.State = record {
       clock = c.moment-t.result;
       inserts = old.inserts;

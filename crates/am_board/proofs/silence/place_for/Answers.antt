@@ -13,6 +13,7 @@ use Rattle.am_model.proofs.lists.Places.{is_some-position}
 use Rattle.am_board.proofs.keeping.Staying.{not_full}
 use Rattle.am_board.proofs.silence.place_for.Goals as goal
 use Rattle.am_board.proofs.silence.place_for.Goals.{else-is_none-via-then-is_none+else-len-config, else-is_none-via-else-is_none}
+use Rattle.std.proofs.lemmas.Bool.{and_right}
 
 refused : {T : Type 0} (full many there : Bool) (x : T) → full ≡ false → many ≡ true → there ≡ false
     → ◌≡◌ {A = Result T Fault} (Err TooManySilences) (ok_unless (if full then Some HistoryFull else (if many && not there then Some TooManySilences else None)) x)
@@ -38,10 +39,6 @@ at_least m n h = grind (arith, nat_tests)
 
 below : (m n : ℕ) → n < m → nat_le m n ≡ false
 below m n h = grind (arith, nat_tests)
-
-and_false : (a : Bool) → (a && false) ≡ false
-and_false true = refl
-and_false false = refl
 
 pub returns-then-len-config : goal.returns-then-len-config
 returns-then-len-config c silence h =
@@ -69,5 +66,5 @@ returns c silence h =
       | else-is_none-via-then-is_none+else-len-config w ↦
           ap (λ b. b && not (list_any (same_silence silence) silences)) (below c.args.config.now.limits.silences (length silences) (omega arith))
       | else-is_none-via-else-is_none w ↦
-          ap (λ b. nat_le c.args.config.now.limits.silences (length silences) && not b) (told ∙ ap not w.if-is_none.false) ∙ and_false (nat_le c.args.config.now.limits.silences (length silences))
+          ap (λ b. nat_le c.args.config.now.limits.silences (length silences) && not b) (told ∙ ap not w.if-is_none.false) ∙ and_right (nat_le c.args.config.now.limits.silences (length silences)) false refl
     ])

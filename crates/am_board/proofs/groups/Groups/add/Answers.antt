@@ -9,11 +9,11 @@ use Rattle.am_model.specs.Lists.{put_in}
 use Rattle.am_model.specs.State.{same_name}
 use Rattle.am_board.specs.declared.group.Group.{Group}
 use Rattle.am_model.specs.declared.group.GroupName.{GroupName}
-use Rattle.am_board.proofs.inserting.GroupRoom.{same_name-decides}
 use Rattle.am_board.proofs.keeping.Keyed.{same_key, put_in-entries, AreKeyed-insert}
 use Rattle.am_model.proofs.lists.Places.{put_new}
 use Rattle.am_board.proofs.groups.Groups.add.Goals as goal
 use Rattle.am_board.proofs.groups.Groups.add.Goals.{After-unwrap}
+use Rattle.am_model.proofs.states.Alike.{same_name-is}
 
 -- there is room, so that the entry was made
 entered : (c : After-unwrap) → c.insert.new.self.entries ≡ insert_entry same_name c.self.inside.groups.entries c.args.group.name c.args.group
@@ -22,7 +22,7 @@ entered c =
     ∙ ap (λ n. insert_entry same_name c.self.inside.groups.entries n c.args.group) c.requires.name
 
 keyed : (c : After-unwrap) → AreKeyed name_of c.insert.new.self.entries
-keyed c = subst (AreKeyed name_of) (sym (entered c)) (AreKeyed-insert same_name name_of same_name-decides c.args.group c.self.inside.groups.entries c.self.invariant)
+keyed c = subst (AreKeyed name_of) (sym (entered c)) (AreKeyed-insert same_name name_of same_name-is c.args.group c.self.inside.groups.entries c.self.invariant)
 
 added : (c : After-unwrap) → values_of c.insert.new.self.entries ≡ c.args.self.now.items ++ c.args.group ∷ []
 added c =

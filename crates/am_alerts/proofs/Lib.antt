@@ -7,6 +7,7 @@ pub mod Pairs
 pub mod Patterns
 pub mod PatternLaws
 pub mod Positions
+pub mod MetPatterns
 pub mod Trees
 pub mod Durations
 pub mod DurationTexts

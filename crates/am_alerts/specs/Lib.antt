@@ -4,7 +4,9 @@ pub mod Fault
 pub mod LabelOrder
 pub mod LabelText
 pub mod Labels
+pub mod Laws
 pub mod Matcher
 pub mod Pattern
 pub mod Route
 pub mod RoutingTree
+pub mod Searchers

@@ -32,6 +32,13 @@ passes NotEqual wanted value = not (bytes_eq value wanted)
 passes Like wanted value = has_match (anchored wanted) value
 passes NotLike wanted value = not (has_match (anchored wanted) value)
 
+-- whether a test is passed by a value, where that is, or matches, what is wanted, or else isn't or doesn't
+abbrev pub is_passed : Operator → Bool → Bool
+is_passed Equal same = same
+is_passed NotEqual same = not same
+is_passed Like same = same
+is_passed NotLike same = not same
+
 -- match: whether a label set's value of the matcher's name passes its test; a label that isn't there has the empty text
 abbrev pub matches_parts : MatcherParts → List Label → Bool
 matches_parts m labels = passes m.op m.value (value_of m.name labels)

@@ -1,7 +1,8 @@
 -- Patterns: regular expressions in the syntax of the crate `regex`.
 use Rattle.std.specs.Prelude.{◌≡◌, ◌↔◌, ℕ, Bool, true, false, List, [], ◌++◌, Option, None, Some, IsSomeAnd, IsCharBoundary, codes, chars, is_some, nat_le}
 use Rattle.regex.specs.Patterns.{Re, Matches, find_str, default_config}
-use Rattle.regex.specs.Strings.{regex_config, IsReadFromSource}
+use Rattle.regex.specs.Strings.{matcher_pattern, regex_config, regex_pattern, IsReadFromSource}
+use Rattle.regex.specs.declared.string.matcher.Matcher.{Matcher}
 use Rattle.regex.specs.declared.string.regex.Regex.{Regex}
 use Rattle.regex_syntax.specs.Grammar.{Names, read}
 use Rattle.regex_syntax.specs.Brackets.{Nested}
@@ -35,6 +36,10 @@ has_match p text = finds (read_pattern p) text
 -- a regex is its text, read with the default options
 abbrev pub IsCompiled : Regex → Type 0
 IsCompiled r = (regex_config r ≡ default_config) × IsReadFromSource r
+
+-- what searches is for the pattern of a regex
+abbrev pub SearchesFor : Regex → Matcher → Type 0
+SearchesFor r m = IsCompiled r × (matcher_pattern m ≡ regex_pattern r)
 
 -- a pattern matches a part of a text that begins between characters, up to some place
 abbrev pub MatchesSome : Option (Nested Re × Names) → List ℕ → Type 0

@@ -205,6 +205,3 @@ fn count_of(digits: &[u8]) -> u64
     }
     count
 }
-
-#[cfg(test)]
-mod tests;

@@ -6,11 +6,11 @@ pub mod duration;
 mod label_pairs;
 mod label_text;
 pub mod labels;
+pub mod law;
 pub mod limits;
 pub mod matcher;
 mod pattern;
 pub mod route;
+pub mod searchers;
 pub mod sequence;
-#[cfg(test)]
-mod tests;
 pub mod text;

@@ -1,6 +1,7 @@
 //! Matchers.
-ghost use Rattle.std.specs.Prelude.{◌≡◌, ◌⊎◌, Err, IfErr, IfOk, IfSome, IsOk, IsTrue, None};
-ghost use Rattle.am_alerts.specs.Matcher.{compares_texts, compare_texts, has_pattern, matches_parts, match_all, matcher_fault, pattern_of};
+ghost use Rattle.std.specs.Prelude.{◌≡◌, ◌⊎◌, Err, IfErr, IfOk, IfSome, IsOk, IsTrue, None, option_copied};
+ghost use Rattle.am_alerts.specs.Labels.{value_of};
+ghost use Rattle.am_alerts.specs.Matcher.{compares_texts, compare_texts, has_pattern, is_passed, matches_parts, match_all, matcher_fault, pattern_of};
 ghost use Rattle.am_alerts.specs.Pattern.{PatternRows, PatternsMatch};
 
 use crate::labels::{Labels, is_label_name};
@@ -136,15 +137,37 @@ impl Matcher {
         ensures value { IfOk result (λ matched. matched ≡ matches_parts self.now labels.now) }
         ensures answers { IsTrue (compares_texts self.now.op) → IsOk result }
     {
-        let value = labels.get(self.parts.name.as_str()).unwrap_or("");
+        let value = self.value_in(labels);
         let same = match &self.pattern {
             None => value == self.parts.value.as_str(),
             Some(pattern) => pattern.has_match(alloc, value)?,
         };
-        Ok(match self.parts.op {
+        Ok(self.is_passed(same))
+    }
+
+    /// The pattern that the value has to match, or must not match.
+    pub(crate) fn pattern(&self) -> Option<&Pattern>
+        ensures { option_copied result ≡ pattern_of self.now }
+    {
+        self.pattern.as_ref()
+    }
+
+    /// The value that the matcher tests: a label that isn't there has the empty text.
+    pub(crate) fn value_in<'l>(&self, labels: &'l Labels) -> &'l str
+        ensures { result.now ≡ value_of self.now.name labels.now }
+    {
+        labels.get(self.parts.name.as_str()).unwrap_or("")
+    }
+
+    /// Whether the test is passed by a value that is, or matches, what the matcher looks for, or
+    /// by one that isn't or doesn't.
+    pub(crate) fn is_passed(&self, same: bool) -> bool
+        ensures { result ≡ is_passed self.now.op same }
+    {
+        match self.parts.op {
             Operator::Equal | Operator::Like => same,
             Operator::NotEqual | Operator::NotLike => !same,
-        })
+        }
     }
 }
 

@@ -2,7 +2,7 @@
 ghost use Rattle.std.specs.Prelude.{◌≡◌, IfOk, IsTrue, string_bytes};
 ghost use Rattle.am_alerts.specs.Pattern.{anchored, is_pattern, has_match};
 
-use regex::{Error, Regex};
+use regex::{Error, Matcher, Regex};
 use std::alloc::{AllocError, Global};
 use std::marker::Model;
 use thiserror::Error;
@@ -58,6 +58,45 @@ impl Pattern {
     {
         let mut matcher = self.regex.matcher(alloc)?;
         Ok(matcher.is_match(text))
+    }
+}
+
+/// What searches for a pattern, which it keeps from one search to the next. Contracts see it as the
+/// pattern's text.
+#[derive(Drop)]
+pub(crate) struct Searcher<'p> {
+    regex: &'p Regex,
+    search: Matcher<'p>,
+}
+
+impl<'p> Model for Searcher<'p> {
+    ghost use Rattle.std.specs.Prelude.{List, ℕ};
+    ghost use Rattle.regex.specs.Strings.{regex_source};
+
+    ghost Value = { List ℕ };
+
+    ghost view = { λ s. regex_source s.regex.now };
+
+    ghost use Rattle.am_alerts.specs.Pattern.{SearchesFor};
+
+    ghost invariant = { λ s. SearchesFor s.regex.now s.search };
+}
+
+impl<'p> Searcher<'p> {
+    pub(crate) fn new(alloc: Global, pattern: &'p Pattern) -> Result<Searcher<'p>, AllocError>
+        ensures { IfOk result (λ searcher. searcher ≡ pattern.now) }
+    {
+        let regex = &pattern.regex;
+        let search = regex.matcher(alloc)?;
+        Ok(Searcher { regex, search })
+    }
+
+    /// Whether the pattern has a match in a text.
+    pub(crate) fn has_match(&mut self, text: &str) -> bool
+        ensures found { result ≡ has_match self.old text.now }
+        ensures kept { self.new ≡ self.old }
+    {
+        self.search.is_match(text)
     }
 }
 

@@ -1,13 +1,14 @@
 //! Inhibition rules.
-ghost use Rattle.std.specs.Prelude.{◌≡◌, ◌≤◌, length, IfOk, IsOk, IsTrue};
+ghost use Rattle.std.specs.Prelude.{◌≡◌, ◌≤◌, ◌&&◌, not, length, IfOk, IsOk, IsTrue};
 ghost use Rattle.am_alerts.specs.Fault.{ok_unless};
 ghost use Rattle.am_alerts.specs.Matcher.{compare_texts, match_all};
-ghost use Rattle.am_mute.specs.Inhibit.{rule_fault, rule_of, agrees_on, agrees_on_name, is_inhibited_by, inhibits};
+ghost use Rattle.am_mute.specs.Inhibit.{rule_fault, rule_of, agrees_on, agrees_on_name, inhibits};
 
 use am_alerts::alert::Alert;
 use am_alerts::labels::Labels;
 use am_alerts::limits::{MAX_MATCHERS, MAX_NAMES};
-use am_alerts::matcher::{Matcher, all_match};
+use am_alerts::matcher::Matcher;
+use am_alerts::searchers::Searchers;
 use am_alerts::sequence::Sequence;
 use am_alerts::text::Text;
 use std::alloc::{AllocError, Global};
@@ -106,43 +107,49 @@ impl InhibitRule {
         ensures answers { IsTrue (compare_texts self.now.source) →
             IsTrue (compare_texts self.now.target) → IsOk result }
     {
-        if !all_match(alloc, self.target(), labels)? {
+        let mut target = Searchers::new(alloc, self.target());
+        if !target.all_match(alloc, labels)? {
             return Ok(false);
         }
-        let is_source_too = all_match(alloc, self.source(), labels)?;
+        let mut source = Searchers::new(alloc, self.source());
+        let is_source_too = source.all_match(alloc, labels)?;
         for alert in known {
-            if self.inhibits_by(alloc, alert, labels, t, is_source_too)? {
+            if alert.resolved_at(t) || !agree_on(self.equal(), labels, alert.labels()) {
+                continue;
+            }
+            if is_source(
+                alloc,
+                &mut source,
+                &mut target,
+                is_source_too,
+                alert.labels(),
+            )? {
                 return Ok(true);
             }
         }
         Ok(false)
     }
+}
 
-    // Whether an alert inhibits a label set that the target matchers match. If the source
-    // matchers match the label set too, an alert that both sides match doesn't.
-    fn inhibits_by(
-        &self,
-        alloc: Global,
-        alert: &Alert,
-        labels: &Labels,
-        t: u64,
-        is_source_too: bool,
-    ) -> Result<bool, AllocError>
-        requires target { IsTrue (match_all self.now.target labels.now) }
-        requires source { is_source_too ≡ match_all self.now.source labels.now }
-        ensures value { IfOk result (λ found.
-            found ≡ is_inhibited_by self.now t labels.now alert.now) }
-        ensures answers { IsTrue (compare_texts self.now.source) →
-            IsTrue (compare_texts self.now.target) → IsOk result }
-    {
-        if alert.resolved_at(t) || !agree_on(self.equal(), labels, alert.labels()) {
-            return Ok(false);
-        }
-        if !all_match(alloc, self.source(), alert.labels())? {
-            return Ok(false);
-        }
-        Ok(!(is_source_too && all_match(alloc, self.target(), alert.labels())?))
+// Whether the source matchers match a known alert, and not both sides both of the two label sets.
+fn is_source(
+    alloc: Global,
+    source: &mut Searchers<'_>,
+    target: &mut Searchers<'_>,
+    is_source_too: bool,
+    known: &Labels,
+) -> Result<bool, AllocError>
+    ensures value { IfOk result (λ found. found ≡ (match_all source.old known.now
+        && not (is_source_too && match_all target.old known.now))) }
+    ensures answers { IsTrue (compare_texts source.old) →
+        IsTrue (compare_texts target.old) → IsOk result }
+    ensures source { source.new ≡ source.old }
+    ensures target { target.new ≡ target.old }
+{
+    if !source.all_match(alloc, known)? {
+        return Ok(false);
     }
+    Ok(!(is_source_too && target.all_match(alloc, known)?))
 }
 
 // Whether two label sets agree on each of these names.

@@ -45,6 +45,15 @@ fn labels(alloc: Global, text: &str) -> Result<Labels, Fail> {
     Ok(Labels::read(alloc, pairs.as_slice())?)
 }
 
+/// Alerts of these labels, each of which starts at 0 and has no end.
+fn known(alloc: Global, texts: &[&str]) -> Result<Vec<Alert>, Fail> {
+    let mut alerts = Vec::new(alloc);
+    for text in texts {
+        alerts.push(Alert::new(labels(alloc, *text)?, 0, None)?)?;
+    }
+    Ok(alerts)
+}
+
 /// Whether a rule mutes these labels at 0 while one alert is known, which starts at 0.
 fn inhibited(
     alloc: Global,
@@ -157,6 +166,41 @@ fn patterns_mute(rt: HostRuntime) -> Result<(), Fail> {
     ] {
         let muted = muted(alloc, &labels(alloc, text)?, 10, &silences, &[], &[])?;
         assert_eq!(rt; muted, expected, "{text}");
+    }
+    Ok(())
+}
+
+/// A rule whose sides are patterns, against several known alerts: both sides match the third alert,
+/// so it mutes all that the target side alone matches, and not itself.
+#[test]
+fn a_rule_of_patterns_meets_each_known_alert(rt: HostRuntime) -> Result<(), Fail> {
+    let alloc = rt.alloc();
+    let mut source = Vec::new(alloc);
+    source.push(matcher(alloc, "severity", Operator::Like, "crit.*")?)?;
+    source.push(matcher(alloc, "team", Operator::NotLike, "w.*")?)?;
+    let mut target = Vec::new(alloc);
+    target.push(matcher(alloc, "severity", Operator::Like, "warn.*|critical")?)?;
+    let rules = [InhibitRule::new(source, target, Vec::new(alloc))?];
+    let before = known(alloc, &["severity=low", "severity=critical team=web"])?;
+    let all = known(
+        alloc,
+        &[
+            "severity=low",
+            "severity=critical team=web",
+            "severity=critical team=db",
+        ],
+    )?;
+    for (text, expected) in [
+        ("severity=low", false),
+        ("severity=warning", true),
+        ("severity=critical team=web", true),
+        ("severity=critical team=db", false),
+    ] {
+        let labels = labels(alloc, text)?;
+        let muted_by_two = muted(alloc, &labels, 0, &[], &rules, before.as_slice())?;
+        assert!(rt; !muted_by_two, "{text}");
+        let muted_by_all = muted(alloc, &labels, 0, &[], &rules, all.as_slice())?;
+        assert_eq!(rt; muted_by_all, expected, "{text}");
     }
     Ok(())
 }

@@ -6,6 +6,7 @@ use Rattle.am_retry.specs.declared.retry.Step.TheVariants.{Attempt, Over}
 use Rattle.am_retry.specs.Attempts.{Told, attempt_after, end_after, tries_of}
 use Rattle.am_retry.specs.Outcome.{HasOutcome}
 use Rattle.am_retry.specs.Progress.{run}
+use Rattle.am_retry.specs.declared.retry.TheConstants.{LATEST, FIRST_WAIT, LONGEST_WAIT}
 
 -- some front of the answers has this outcome, with so many attempts and this end
 pub record Concludes (start deadline : ℕ) (told : List Told) (outcome : Outcome) (attempts ended : ℕ) : Type 0 where
@@ -50,3 +51,7 @@ OneMoreTry =
     (start : ℕ) (told : List Told) (t : Told)
     → tries_of start (told ++ t ∷ [])
     ≡ tries_of start told ++ record { attempt = length told + 1; at = attempt_after start told; answer = t.answer; ended = t.ended } ∷ []
+
+-- an end counts as 10^15 + 10^12 ms at most; the first wait is half a second, and the longest a minute
+abbrev pub LimitsAre : Type 0
+LimitsAre = (LATEST ≡ 1_001_000_000_000_000) × (FIRST_WAIT ≡ 500) × (LONGEST_WAIT ≡ 60_000)

@@ -1,4 +1,4 @@
-ghost use Rattle.am_retry.specs.Laws.{GoesOnExactly, NeverBoth, OneMoreTry, OverExactly, WaitsExactly};
+ghost use Rattle.am_retry.specs.Laws.{GoesOnExactly, LimitsAre, NeverBoth, OneMoreTry, OverExactly, WaitsExactly};
 
 /// The machine gives each list of answers, taken one by one, just the outcome that the list has
 /// as a whole, with its attempts and its end; while no front of the list has one, it waits for
@@ -9,4 +9,10 @@ pub fn machine_gives_retry_outcome()
     ensures goes_on { GoesOnExactly }
     ensures unique { NeverBoth }
     ensures tries { OneMoreTry }
+{}
+
+/// The latest end that counts, the wait after the first attempt and the longest wait, in
+/// milliseconds.
+pub fn limits_are()
+    ensures { LimitsAre }
 {}

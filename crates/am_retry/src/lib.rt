@@ -9,7 +9,7 @@ mod law;
 mod outcome;
 mod retry;
 
-pub use law::machine_gives_retry_outcome;
+pub use law::{limits_are, machine_gives_retry_outcome};
 pub use outcome::{Answer, Outcome};
 pub use retry::{Retry, Step};
 

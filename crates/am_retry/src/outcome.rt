@@ -1,5 +1,5 @@
 /// How an attempt went.
-#[derive(Clone, Copy, Debug, PartialEq, Eq, Hash)]
+#[derive(Clone, Copy, Debug, PartialEq, Eq)]
 pub enum Answer {
     /// The notice was taken.
     Done,
@@ -10,7 +10,7 @@ pub enum Answer {
 }
 
 /// How the attempts of a notice ended.
-#[derive(Clone, Copy, Debug, PartialEq, Eq, Hash)]
+#[derive(Clone, Copy, Debug, PartialEq, Eq)]
 pub enum Outcome {
     /// The last attempt was answered by Done.
     Delivered,

@@ -16,7 +16,7 @@ const FIRST_WAIT: u64 = 500;
 const LONGEST_WAIT: u64 = 60_000;
 
 /// What comes next.
-#[derive(Clone, Copy, Debug, PartialEq, Eq, Hash)]
+#[derive(Clone, Copy, Debug, PartialEq, Eq)]
 pub enum Step {
     /// An attempt is due at this moment.
     Attempt(u64),
@@ -30,7 +30,7 @@ pub enum Step {
 /// the last and a wait. The waits are 500, 750, 1125, 1687, ..: each is the one before times 3
 /// divided by 2, rounded down, and at most 60,000. They grow as those of Alertmanager's retry stage
 /// do, but have no random part. An attempt is made only before the deadline.
-#[derive(Debug, Drop)]
+#[derive(Drop)]
 pub struct Retry {
     deadline: u64,
     attempts: u64,

@@ -1,3 +1,5 @@
 pub mod TallyWalks
 pub mod FirstRun
 pub mod Receivers
+pub mod Lanes
+pub mod Crossing

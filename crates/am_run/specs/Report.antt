@@ -13,13 +13,12 @@ use Rattle.am_model.specs.declared.notice.Report.{Report}
 use Rattle.am_model.specs.declared.record.Call.{Call}
 use Rattle.am_model.specs.declared.record.Call.TheVariants as call
 use Rattle.am_model.specs.declared.record.Record.{Record}
-use Rattle.am_model.specs.declared.record.Reply.{Reply}
-use Rattle.am_model.specs.declared.record.Reply.TheVariants as reply
 use Rattle.am_model.specs.declared.views.GroupView.{GroupView}
 use Rattle.am_model.specs.declared.views.RowView.{RowView}
 use Rattle.am_model.specs.Config.{kind_at}
 use Rattle.am_model.specs.Configured.{route_of, integrations_named}
 use Rattle.am_model.specs.Notice.{NoticeData, is_nothing}
+use Rattle.am_model.specs.look_back.Past.{notices_in}
 use Rattle.am_model.specs.Replay.{replay, IsLegal}
 use Rattle.am_model.specs.Ticket.{outcome_of}
 use Rattle.am_model.specs.Views.{row_views, group_views}
@@ -117,17 +116,6 @@ abbrev pub attempts_on : ℕ → ℕ → List Report → ℕ
 attempts_on ticket integration [] = 0
 attempts_on ticket integration (r ∷ rs) =
     if (r.ticket == ticket) && (r.integration == integration) then r.attempts else attempts_on ticket integration rs
-
--- the notices of a flush that was begun
-abbrev pub notices_in : Reply → List NoticeData
-notices_in (reply.Inserted inserted) = []
-notices_in (reply.Silenced silenced) = []
-notices_in reply.NothingDue = []
-notices_in (reply.Quiet group removed) = []
-notices_in (reply.Flush number group deadline notices) = notices
-notices_in (reply.Finished finished) = []
-notices_in (reply.Maintained maintained) = []
-notices_in reply.Noted = []
 
 -- the line on a notice that these records follow
 abbrev pub line_on : Config → List Report → List Record → NoticeData → List ℕ

@@ -1,8 +1,10 @@
-//! A courier that answers by the scripts of a scenario.
+//! Couriers that answer by the scripts of a scenario.
+ghost use Rattle.std.specs.Prelude.{◌≡◌, IfOk, vec_len};
+
 use crate::scenario::{Planned, Script};
 use am_board::notice::Notice;
 use am_pool::{Courier, Journal, Sent, Tried};
-use std::alloc::AllocError;
+use std::alloc::{AllocError, Global};
 
 /// Answers each attempt as the first script of its notice says, or, where there is none, that it was
 /// done at once. It never refuses one.
@@ -13,7 +15,7 @@ pub struct ScriptedCourier<'s> {
 }
 
 impl<'s> ScriptedCourier<'s> {
-    pub fn new(scripts: &'s [Script]) -> ScriptedCourier<'s> {
+    fn new(scripts: &'s [Script]) -> ScriptedCourier<'s> {
         ScriptedCourier {
             scripts,
             journal: Journal::new(),
@@ -26,6 +28,21 @@ impl<'s> ScriptedCourier<'s> {
             Some(script) => script.answer_to(attempt),
         }
     }
+}
+
+/// So many couriers.
+pub fn couriers_for<'s>(
+    alloc: Global,
+    count: usize,
+    scripts: &'s [Script],
+) -> Result<Vec<ScriptedCourier<'s>>, AllocError>
+    ensures { IfOk result (λ couriers. vec_len couriers ≡ count) }
+{
+    let mut couriers = Vec::new(alloc);
+    for _ in 0..count {
+        couriers.push(ScriptedCourier::new(scripts))?;
+    }
+    Ok(couriers)
 }
 
 impl Courier for ScriptedCourier<'_> {

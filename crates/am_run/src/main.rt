@@ -6,8 +6,8 @@
 
 mod courier;
 mod device;
-mod dispatch;
 mod fault;
+mod lane;
 mod law;
 mod phase;
 mod place;

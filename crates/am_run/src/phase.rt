@@ -1,173 +1,199 @@
 //! The phases of a run.
-ghost use Rattle.std.specs.Prelude.{◌≤◌};
+ghost use Rattle.std.specs.Prelude.{◌≡◌, ◌<◌, ◌≤◌, ◌+◌, IfOk, map, vec_len};
+ghost use Rattle.std.specs.List.{range_with_len};
 ghost use Rattle.am_alerts.specs.declared.limits.TheConstants.{MAX_MOMENT};
+ghost use Rattle.am_desk.specs.Desks.{AreFresh};
+ghost use Rattle.am_desk.specs.Terms.{terms_of};
 
-use crate::dispatch::{Dispatcher, MAIN_PASS, OwnTicket, Step};
-use crate::fault::ScenarioFault;
-use crate::scenario::{Call, Lane, Phase};
-use crate::sending::{last_end, report_on, send_notices};
+use crate::fault::{ScenarioFault, Word};
+use crate::lane::{Seat, run_beside, seats_for};
+use crate::place::Place;
+use crate::scenario::{Lane, Phase};
+use crate::sending::{jobs_of, last_end, report_on};
 use crate::trouble::{Refused, Troubles};
+use am_board::begin::Begun;
 use am_board::config::MAX_HISTORY;
 use am_board::fault::{Fault, NoteFault};
 use am_board::notice::Report;
-use am_pool::Courier;
+use am_desk::{CloseFault, Closed, Desk, Name, OwnTicket, Pass};
+use am_pool::{Courier, PoolFault};
 use am_retry::Outcome;
 use std::alloc::Global;
+use std::sync::Wait;
+use std::thread::Threads;
 
-/// A run: its board, and what has come of it.
+/// A run: its desk, and what has come of it.
 #[derive(Drop)]
-pub struct Run {
+pub struct Run<N: Name> {
     alloc: Global,
-    dispatcher: Dispatcher,
+    desk: Desk<N>,
+    /// The main thread's, which begins, notes and finishes.
+    main: Pass<N>,
+    /// Lane i has seat i, with the pass i + 1.
+    seats: Vec<Seat<N>>,
+    /// Has room for all passes.
+    passes: Vec<Pass<N>>,
     troubles: Troubles,
     /// The reports on the notices so far.
     reports: Vec<Report>,
+    ghost seated: { vec_len seats + 1 ≡ N.plan.passes },
 }
 
-impl Run {
-    /// A run on a board.
-    pub fn new(alloc: Global, dispatcher: Dispatcher) -> Run {
-        Run {
+impl<N: Name + Send + Sync> Run<N> {
+    /// A run on a desk with all its passes.
+    pub fn new(
+        alloc: Global,
+        desk: Desk<N>,
+        mut passes: Vec<Pass<N>>,
+    ) -> Result<Run<N>, ScenarioFault>
+        requires { AreFresh 0 passes.items × (vec_len passes ≡ N.plan.passes) × (0 < N.plan.passes) }
+        ensures { IfOk result (λ run. (run.main.number ≡ 0)
+            × (map (λ s. s.pass.number) run.seats.items ≡ range_with_len 1 (vec_len run.seats))) }
+    {
+        let main = passes.remove(0);
+        let seats = seats_for(alloc, &mut passes)?;
+        Ok(Run {
             alloc,
-            dispatcher,
+            desk,
+            main,
+            seats,
+            passes,
             troubles: Troubles::none(),
             reports: Vec::new(alloc),
-        }
+        })
     }
 
-    /// The board, and the reports on the notices.
-    pub fn into_parts(self) -> (Dispatcher, Vec<Report>) {
+    /// The closed desk, and the reports on the notices.
+    pub fn close(self) -> Result<(Closed, Vec<Report>), ScenarioFault>
+        ensures { IfOk result (λ r. terms_of r.0 ≡ N.terms) }
+    {
         let Run {
-            alloc: _,
-            dispatcher,
+            alloc,
+            desk,
+            main,
+            seats,
+            mut passes,
             troubles: _,
             reports,
         } = self;
-        (dispatcher, reports)
+        put_back(&mut passes, main, seats)?;
+        Ok((close(alloc, desk, passes)?, reports))
     }
 
-    /// Runs the phase of this index, with a courier for its notices. All flushes that it begins are
+    /// Runs the phase of this index, with couriers for its notices. All flushes that it begins are
     /// finished, whatever happens; where a begin is refused, with nothing recorded.
-    pub fn run_phase<C: Courier>(
+    pub fn run_phase<R: Threads + Wait + Sync, C: Courier + Send>(
         &mut self,
-        courier: &mut C,
+        rt: &R,
+        couriers: &mut [C],
         index: usize,
         phase: Phase,
-    ) -> Result<(), ScenarioFault> {
+    ) -> Result<(), ScenarioFault>
+        requires { vec_len phase.lanes < N.plan.passes }
+    {
         let Phase { at, flush, lanes } = phase;
         let mut tickets = Vec::new(self.alloc);
         let mut reports = Vec::new(self.alloc);
         if flush {
-            self.begin_all(at, &mut tickets);
+            self.begin_all(rt, at, &mut tickets);
         }
         if self.troubles.are_none() {
-            self.run_lanes(at, lanes);
-            self.send_all(courier, at, tickets.as_slice(), &mut reports);
-            self.settle_all(at, &mut tickets, reports.as_slice());
+            reports = self.run_beside(rt, couriers, at, tickets.as_slice(), lanes);
+            self.settle_all(rt, at, &mut tickets, reports.as_slice());
         }
-        self.finish_all(at, tickets, reports.as_slice());
+        self.finish_all(rt, at, tickets, reports.as_slice());
         self.keep(reports.as_slice());
         self.troubles.verdict(self.alloc, index)
     }
 
     /// Begins flushes until no group is due, or as many are open as may be.
-    fn begin_all(&mut self, at: u64, tickets: &mut Vec<OwnTicket>) {
+    fn begin_all<R: Wait>(&mut self, rt: &R, at: u64, tickets: &mut Vec<OwnTicket<N>>) {
         // Each begin leaves a record: the history is full before this ends.
         for _ in 0..MAX_HISTORY + 1 {
-            if !self.begin(at, tickets) {
+            if !self.begin(rt, at, tickets) {
                 return;
             }
         }
     }
 
     /// Begins a flush. Answers whether there may be more to begin.
-    fn begin(&mut self, at: u64, tickets: &mut Vec<OwnTicket>) -> bool {
+    fn begin<R: Wait>(&mut self, rt: &R, at: u64, tickets: &mut Vec<OwnTicket<N>>) -> bool {
         if tickets.reserve(1).is_err() {
             self.troubles.add_no_memory();
             return false;
         }
-        match self.dispatcher.begin(self.alloc, at) {
-            Ok(Step::NothingDue) => false,
-            Ok(Step::Quiet) => true,
-            Ok(Step::Flush(own)) => {
-                tickets.push_reserved(own);
+        match self.desk.begin(rt, self.alloc, &mut self.main, at) {
+            Ok(Begun::NothingDue) => false,
+            Ok(
+                Begun::Quiet {
+                    group: _,
+                    removed: _,
+                },
+            ) => true,
+            Ok(Begun::Flush(ticket)) => {
+                tickets.push_reserved(OwnTicket::new(ticket));
                 true
             }
             // The groups that are left stay due.
             Err(Fault::TooManyOpen) => false,
             Err(fault) => {
-                self.refuse(fault, Refused::Begin);
+                self.troubles.refuse(fault, Refused::Begin);
                 false
             }
         }
     }
 
-    fn refuse(&mut self, fault: Fault, refused: Refused) {
-        match fault {
-            Fault::NoMemory => self.troubles.add_no_memory(),
-            _ => self.troubles.add(refused),
-        }
-    }
-
-    /// The lanes, one after the other: lane i has the pass i + 1.
-    fn run_lanes(&mut self, at: u64, lanes: Vec<Lane>) {
-        let mut pass = MAIN_PASS;
-        for (index, lane) in lanes.into_iter().enumerate() {
-            pass = pass.saturating_add(1);
-            self.run_lane(at, index, pass, lane);
-        }
-    }
-
-    /// The calls of a lane, up to the first that is refused.
-    fn run_lane(&mut self, at: u64, index: usize, pass: u32, lane: Lane) {
-        for (position, call) in lane.calls.into_iter().enumerate() {
-            if let Err(fault) = self.make(at, pass, call) {
-                let refused = Refused::Call {
-                    lane: index,
-                    call: position,
-                };
-                self.refuse(fault, refused);
-                return;
-            }
-        }
-    }
-
-    fn make(&mut self, at: u64, pass: u32, call: Call) -> Result<(), Fault> {
-        match call {
-            Call::Insert(alert) => {
-                self.dispatcher.insert(self.alloc, pass, at, alert)?;
-            }
-            Call::Silence(silence) => {
-                self.dispatcher.silence(self.alloc, pass, at, silence)?;
-            }
-            Call::Maintain => {
-                self.dispatcher.maintain(self.alloc, pass, at)?;
-            }
-        }
-        Ok(())
-    }
-
-    /// Sends the notices that have something to send, by ticket and integration.
-    fn send_all<C: Courier>(
+    /// Runs the lanes, and sends beside them the notices that have something to send. Answers the
+    /// reports, by ticket and integration.
+    fn run_beside<R: Threads + Wait + Sync, C: Courier + Send>(
         &mut self,
-        courier: &mut C,
+        rt: &R,
+        couriers: &mut [C],
         at: u64,
-        tickets: &[OwnTicket],
-        reports: &mut Vec<Report>,
-    )
-        requires { at ≤ MAX_MOMENT }
+        tickets: &[OwnTicket<N>],
+        lanes: Vec<Lane>,
+    ) -> Vec<Report>
+        requires start { at ≤ MAX_MOMENT }
+        requires lanes { vec_len lanes < N.plan.passes }
     {
-        for own in tickets {
-            if send_notices(courier, own.notices(), at, reports).is_err() {
-                self.troubles.add_no_memory();
-                break;
-            }
-        }
-        if reports
-            .iter()
-            .any(|report| report.outcome == Outcome::Starved)
-        {
+        let Ok(jobs) = jobs_of(self.alloc, tickets, at) else {
             self.troubles.add_no_memory();
+            return Vec::new(self.alloc);
+        };
+        let sent = run_beside(
+            rt,
+            self.alloc,
+            &self.desk,
+            at,
+            self.seats.as_mut_slice(),
+            lanes,
+            couriers,
+            jobs.as_slice(),
+        );
+        hear_lanes(self.seats.as_slice(), &mut self.troubles);
+        self.hear_couriers(sent)
+    }
+
+    /// The reports of the couriers.
+    fn hear_couriers(&mut self, sent: Result<Vec<Report>, PoolFault>) -> Vec<Report> {
+        match sent {
+            Ok(reports) => {
+                if reports
+                    .iter()
+                    .any(|report| report.outcome == Outcome::Starved)
+                {
+                    self.troubles.add_no_memory();
+                }
+                reports
+            }
+            Err(PoolFault::NoMemory) => {
+                self.troubles.add_no_memory();
+                Vec::new(self.alloc)
+            }
+            Err(_) => {
+                self.troubles.add(Refused::Ending);
+                Vec::new(self.alloc)
+            }
         }
     }
 
@@ -179,31 +205,41 @@ impl Run {
     }
 
     /// Records the reports, and notes each success.
-    fn settle_all(&mut self, at: u64, tickets: &mut Vec<OwnTicket>, reports: &[Report]) {
+    fn settle_all<R: Wait>(
+        &mut self,
+        rt: &R,
+        at: u64,
+        tickets: &mut Vec<OwnTicket<N>>,
+        reports: &[Report],
+    ) {
         for own in tickets.iter_mut() {
-            if !own.record_all(reports) {
+            if !record_all(own, reports) {
                 self.troubles.add(Refused::Ending);
             }
-            self.settle(at, own, reports);
+            self.settle(rt, at, own, reports);
         }
     }
 
-    fn settle(&mut self, at: u64, own: &OwnTicket, reports: &[Report]) {
-        for (place, notice) in own.notices().iter().enumerate() {
-            if notice.nothing() || own.outcome(place) == Some(Outcome::Delivered) {
-                let report = report_on(reports, own.number(), notice.integration);
+    fn settle<R: Wait>(&mut self, rt: &R, at: u64, own: &OwnTicket<N>, reports: &[Report]) {
+        let ticket = own.ticket();
+        for (place, notice) in ticket.notices().iter().enumerate() {
+            if notice.nothing() || ticket.outcome(place) == Some(Outcome::Delivered) {
+                let report = report_on(reports, ticket.number(), notice.integration);
                 let end = match report {
                     None => at,
                     Some(report) => report.ended.max(at),
                 };
-                self.note(end, own, place);
+                self.note(rt, end, own, place);
             }
         }
     }
 
     /// Logs the success of a notice. Where the history has no room the finish logs it.
-    fn note(&mut self, now: u64, own: &OwnTicket, place: usize) {
-        match self.dispatcher.note(self.alloc, own, place, now) {
+    fn note<R: Wait>(&mut self, rt: &R, now: u64, own: &OwnTicket<N>, place: usize) {
+        match self
+            .desk
+            .note(rt, self.alloc, &mut self.main, own.ticket(), place, now)
+        {
             Ok(_) | Err(NoteFault::HistoryFull) => {}
             Err(NoteFault::NoMemory) => self.troubles.add_no_memory(),
             Err(_) => self.troubles.add(Refused::Ending),
@@ -211,15 +247,74 @@ impl Run {
     }
 
     /// Finishes the flushes, by number, each when the sending of its notices was over.
-    fn finish_all(&mut self, at: u64, tickets: Vec<OwnTicket>, reports: &[Report]) {
+    fn finish_all<R: Wait>(
+        &mut self,
+        rt: &R,
+        at: u64,
+        tickets: Vec<OwnTicket<N>>,
+        reports: &[Report],
+    ) {
         let mut left = tickets;
         while !left.is_empty() {
             let own = left.remove(0);
-            let now = last_end(reports, own.number(), at);
-            if self.dispatcher.finish(own, now).is_err() {
+            let now = last_end(reports, own.ticket().number(), at);
+            if self.desk.finish_own(rt, &mut self.main, own, now).is_err() {
                 self.troubles.add(Refused::Ending);
             }
         }
         left.destroy_empty();
+    }
+}
+
+/// Adds the refused calls of the lanes, by lane.
+fn hear_lanes<N: Name>(seats: &[Seat<N>], troubles: &mut Troubles) {
+    for (lane, seat) in seats.iter().enumerate() {
+        if let Some((call, fault)) = seat.refused() {
+            troubles.refuse(fault, Refused::Call { lane, call });
+        }
+    }
+}
+
+/// Records those of the reports that are on this ticket. Answers whether none was refused.
+fn record_all<N: Name>(own: &mut OwnTicket<N>, reports: &[Report]) -> bool {
+    let mut all = true;
+    for report in reports {
+        if report.ticket == own.ticket().number() && own.record(*report).is_err() {
+            all = false;
+        }
+    }
+    all
+}
+
+/// Puts the passes of a run together again.
+fn put_back<N: Name>(
+    passes: &mut Vec<Pass<N>>,
+    main: Pass<N>,
+    seats: Vec<Seat<N>>,
+) -> Result<(), ScenarioFault> {
+    passes.push(main)?;
+    for seat in seats {
+        passes.push(seat.into_pass())?;
+    }
+    Ok(())
+}
+
+/// Closes the desk of a run. No flush is open, and no pass is missing.
+fn close<N: Name>(
+    alloc: Global,
+    desk: Desk<N>,
+    passes: Vec<Pass<N>>,
+) -> Result<Closed, ScenarioFault>
+    ensures { IfOk result (λ closed. terms_of closed ≡ N.terms) }
+{
+    match desk.close(passes) {
+        Ok(closed) => Ok(closed),
+        Err(
+            CloseFault {
+                cause: _,
+                desk: _desk,
+                passes: _passes,
+            },
+        ) => Err(Place::Top.refuse(alloc, Word::Full)),
     }
 }

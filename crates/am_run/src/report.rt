@@ -5,19 +5,20 @@ ghost use Rattle.std.specs.Option.{option_copied};
 ghost use Rattle.am_alerts.specs.LabelText.{label_set_text};
 ghost use Rattle.am_model.specs.Config.{kind_at};
 ghost use Rattle.am_model.specs.Configured.{route_of, integrations_named};
+ghost use Rattle.am_model.specs.look_back.Past.{notices_in};
 ghost use Rattle.am_model.specs.Replay.{IsLegal};
 ghost use Rattle.am_model.specs.Ticket.{outcome_of};
-ghost use Rattle.am_run.specs.Report.{labels_of, as_it_is, list_text, lists_text, group_text, integration_text, target_text, reported_text, outcome_text, notice_line, row_line, flushed_text, group_line, calls_line, finished_with, outcomes_in, outcome_in, attempts_on, notices_in, line_on, notice_lines, report_text};
+ghost use Rattle.am_run.specs.Report.{labels_of, as_it_is, list_text, lists_text, group_text, integration_text, target_text, reported_text, outcome_text, notice_line, row_line, flushed_text, group_line, calls_line, finished_with, outcomes_in, outcome_in, attempts_on, line_on, notice_lines, report_text};
 
 use am_alerts::alert::Alert;
 use am_alerts::labels::Labels;
 use am_alerts::route::Route;
-use am_board::board::Board;
 use am_board::config::{Config, Integration};
 use am_board::group::GroupName;
 use am_board::notice::{Notice, Report};
 use am_board::record::{Call, Record, Reply};
 use am_board::views::{GroupView, RowView};
+use am_desk::Closed;
 use am_retry::Outcome;
 use std::alloc::{AllocError, Global};
 
@@ -48,19 +49,19 @@ impl Labelled for Labels {
     }
 }
 
-/// The report on the history of a board. The reports tell how many attempts each notice took.
-pub fn report_text(alloc: Global, board: &Board, reports: &[Report]) -> Result<String, AllocError>
+/// The report on what a desk did. The reports tell how many attempts each notice took.
+pub fn report_text(alloc: Global, closed: &Closed, reports: &[Report]) -> Result<String, AllocError>
     ensures text { IfOk result (λ text.
-        string_bytes text ≡ report_text board.now.config reports.now board.now.history) }
-    ensures legal { IsLegal board.now.config board.now.id board.now.history }
+        string_bytes text ≡ report_text closed.now.config reports.now closed.now.history) }
+    ensures legal { IsLegal closed.now.config closed.now.id closed.now.history }
 {
     let mut out = String::new(alloc);
-    let config = board.config();
-    let history = board.history();
+    let config = closed.config();
+    let history = closed.history();
     push_notices(config, reports, history, &mut out)?;
-    let rows = board.rows(alloc)?;
+    let rows = closed.rows(alloc)?;
     push_rows(config, rows.as_slice(), &mut out)?;
-    let groups = board.groups(alloc)?;
+    let groups = closed.groups(alloc)?;
     push_groups(config, groups.as_slice(), &mut out)?;
     push_calls(history.len(), &mut out)?;
     Ok(out)

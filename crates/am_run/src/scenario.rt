@@ -1,12 +1,14 @@
 //! What a scenario is made of, and how it is read.
-ghost use Rattle.std.specs.Prelude.{◌≤◌, vec_len};
+ghost use Rattle.std.specs.Prelude.{◌≤◌, IfOk, vec_len};
 ghost use Rattle.am_run.specs.declared.scenario.TheConstants.{MAX_LANES};
 ghost use Rattle.am_alerts.specs.declared.limits.TheConstants.{MAX_MOMENT};
+ghost use Rattle.am_pool.specs.declared.limits.TheConstants.{MAX_WORKERS};
 
 use crate::fault::{ScenarioFault, Word};
 use crate::reader::{FromJson, Object, Reader};
 use am_alerts::limits::MAX_MOMENT;
 use am_board::config::Config;
+use am_pool::MAX_WORKERS;
 use serde_json::Value;
 use std::alloc::Global;
 
@@ -18,22 +20,26 @@ mod route;
 mod script;
 
 pub use call::Call;
-use config::{check_config, read_config};
+use config::read_config;
 pub use script::{Planned, Script};
 
 /// How many lanes a phase may have.
 pub const MAX_LANES: usize = 15;
 
-/// How many workers there may be.
-const MAX_WORKERS: u64 = 8;
+/// How many workers there are, where the scenario doesn't say.
+const USUAL_WORKERS: usize = 2;
 
 /// A scenario: a configuration, what is answered to notices, and what happens.
 #[derive(Drop)]
 pub struct Scenario {
     pub config: Config,
+    /// How many couriers send at once.
+    pub workers: usize,
     /// Of two scripts for one notice the first counts.
     pub scripts: Vec<Script>,
     pub phases: Vec<Phase>,
+    ghost some_workers: { 1 ≤ workers },
+    ghost few_workers: { workers ≤ MAX_WORKERS },
 }
 
 /// What happens at one moment: the groups that are due are flushed, if the phase says so, and the
@@ -58,29 +64,31 @@ pub struct Lane {
 pub fn read_scenario(alloc: Global, value: &Value) -> Result<Scenario, ScenarioFault> {
     let reader = Reader::top(alloc, value);
     let top = reader.object()?;
-    let config = top.required("config")?;
-    check_config(&config)?;
-    check_workers(&top)?;
+    let config = read_config(&top.required("config")?)?;
+    let workers = read_workers(&top)?;
     let scripts = top.list_or_none::<Script>("answers")?;
     let phases = top.required("phases")?.list::<Phase>()?;
-    // Checking it spent the configuration: it is built again.
-    let config = read_config(&config)?;
     Ok(Scenario {
         config,
+        workers,
         scripts,
         phases,
     })
 }
 
-/// Refuses a number of workers that can't be had. One thread does their work, so the number does
-/// nothing.
-fn check_workers(top: &Object<'_, '_>) -> Result<(), ScenarioFault> {
+/// How many workers there are to be.
+fn read_workers(top: &Object<'_, '_>) -> Result<usize, ScenarioFault>
+    ensures { IfOk result (λ workers. (1 ≤ workers) × (workers ≤ MAX_WORKERS)) }
+{
     match top.optional("workers") {
-        None => Ok(()),
-        Some(member) => match member.number()? {
-            1..=MAX_WORKERS => Ok(()),
-            _ => Err(member.refuse(Word::Value)),
-        },
+        None => Ok(USUAL_WORKERS),
+        Some(member) => {
+            let number = member.number()?;
+            if number < 1 || number > MAX_WORKERS as u64 {
+                return Err(member.refuse(Word::Value));
+            }
+            Ok(number as usize)
+        }
     }
 }
 

@@ -1,25 +1,39 @@
 //! The sending of notices.
-ghost use Rattle.std.specs.Prelude.{◌≤◌};
+ghost use Rattle.std.specs.Prelude.{◌≤◌, All, IfOk, OnOk};
 ghost use Rattle.am_alerts.specs.declared.limits.TheConstants.{MAX_MOMENT};
+ghost use Rattle.am_pool.specs.Work.{IsReady};
 
 use am_board::notice::{Notice, Report};
-use am_pool::{Courier, deliver};
-use std::alloc::AllocError;
+use am_desk::{Name, OwnTicket};
+use am_pool::Job;
+use std::alloc::{AllocError, Global};
 
-/// Sends by a courier each of these notices that has something to send, in their order, from the
-/// moment `at` on, and adds the reports. Where memory is refused, the rest isn't sent.
-pub fn send_notices<C: Courier>(
-    courier: &mut C,
-    notices: &[Notice],
+/// The notices of these tickets that have something to send, by ticket and integration, each to be
+/// sent from the moment `at` on.
+pub fn jobs_of<'t, N: Name>(
+    alloc: Global,
+    tickets: &'t [OwnTicket<N>],
     at: u64,
-    reports: &mut Vec<Report>,
-) -> Result<(), AllocError>
+) -> Result<Vec<Job<'t>>, AllocError>
     requires { at ≤ MAX_MOMENT }
+    ensures { IfOk result (λ jobs. All IsReady jobs.items) }
+{
+    let mut jobs = Vec::new(alloc);
+    for own in tickets {
+        add_jobs(own.ticket().notices(), at, &mut jobs)?;
+    }
+    Ok(jobs)
+}
+
+/// Adds those of the notices that have something to send.
+fn add_jobs<'t>(notices: &'t [Notice], at: u64, jobs: &mut Vec<Job<'t>>) -> Result<(), AllocError>
+    requires start { at ≤ MAX_MOMENT }
+    requires ready { All IsReady jobs.old.items }
+    ensures { OnOk result (All IsReady jobs.new.items) }
 {
     for notice in notices {
         if !notice.nothing() {
-            reports.reserve(1)?;
-            reports.push_reserved(deliver(courier, notice, at));
+            jobs.push(Job { notice, start: at })?;
         }
     }
     Ok(())

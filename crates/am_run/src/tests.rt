@@ -5,7 +5,9 @@ use crate::run::run_scenario;
 use crate::tally::Usage;
 use std::alloc::{AllocError, Global};
 use std::process::Abort;
+use std::sync::Wait;
 use std::test::Fail;
+use std::thread::Threads;
 
 mod devices;
 mod phases;
@@ -112,7 +114,10 @@ fn sheet(alloc: Global, at_once: usize, good_writes: usize) -> Paper {
 }
 
 /// Runs a scenario, and answers the fault's line, or the report.
-fn outcome_of<R: AllocGlobal>(rt: &R, scenario: &[u8]) -> Result<String, AllocError> {
+fn outcome_of<R: AllocGlobal + Threads + Wait + Sync>(
+    rt: &R,
+    scenario: &[u8],
+) -> Result<String, AllocError> {
     let alloc = rt.alloc();
     let mut source = source_of(scenario, 1_000, usize::MAX);
     let mut sink = sheet(alloc, 1_000, usize::MAX);

@@ -1,6 +1,7 @@
 //! What goes wrong in a phase.
 use crate::fault::{ScenarioFault, Word};
 use crate::place::Place;
+use am_board::fault::Fault;
 use std::alloc::Global;
 
 /// Which call of a phase was refused.
@@ -10,7 +11,7 @@ pub enum Refused {
     Begin,
     /// A call of a lane.
     Call { lane: usize, call: usize },
-    /// A report, a note or a finish. None is ever refused.
+    /// A report, a note or a finish, or all jobs. None is ever refused.
     Ending,
 }
 
@@ -53,6 +54,14 @@ impl Troubles {
 
     pub fn add_no_memory(&mut self) {
         self.no_memory = true;
+    }
+
+    /// Adds a call that was refused for this cause.
+    pub fn refuse(&mut self, fault: Fault, refused: Refused) {
+        match fault {
+            Fault::NoMemory => self.add_no_memory(),
+            _ => self.add(refused),
+        }
     }
 
     /// Adds a refusal. The first one counts.

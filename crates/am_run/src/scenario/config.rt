@@ -5,25 +5,23 @@ use crate::fault::{ScenarioFault, Word};
 use crate::reader::{FromJson, Object, Reader};
 use am_alerts::route::{Child, Routes};
 use am_alerts::sequence::Sequence;
-use am_board::board::Board;
 use am_board::config::{Config, Integration, Limits, Receiver};
-use am_board::fault::BoardFault;
 use am_mute::inhibit::InhibitRule;
 
 /// How long the notification log keeps an entry: 120 hours, in milliseconds.
 const RETENTION: u64 = 432_000_000;
 
-/// Refuses a configuration that makes no board. The board that is made for it is given up.
-pub fn check_config(reader: &Reader<'_, '_>) -> Result<(), ScenarioFault> {
-    match Board::new(reader.alloc(), read_config(reader)?, 0) {
-        Ok(_) => Ok(()),
-        Err(BoardFault::NoMemory) => Err(ScenarioFault::NoMemory),
-        Err(BoardFault::BadConfig(_)) => Err(reader.refuse(Word::Value)),
+/// Reads a configuration. One that no dispatcher may have is refused.
+pub fn read_config(reader: &Reader<'_, '_>) -> Result<Config, ScenarioFault> {
+    let config = read_parts(reader)?;
+    match config.check() {
+        Ok(()) => Ok(config),
+        Err(_) => Err(reader.refuse(Word::Value)),
     }
 }
 
-/// Reads a configuration. Whether a board can have it is another question.
-pub fn read_config(reader: &Reader<'_, '_>) -> Result<Config, ScenarioFault> {
+/// Reads the parts of a configuration.
+fn read_parts(reader: &Reader<'_, '_>) -> Result<Config, ScenarioFault> {
     let config = reader.object()?;
     let retention = duration_or(&config, "retention", RETENTION)?;
     let limits = read_limits(&config)?;

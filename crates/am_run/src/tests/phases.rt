@@ -1,11 +1,16 @@
+ghost use Rattle.std.specs.Prelude.{◌≡◌, ◌<◌, All, vec_len};
+ghost use Rattle.am_desk.specs.Terms.{terms};
+
 use super::*;
-use crate::courier::ScriptedCourier;
-use crate::dispatch::Dispatcher;
+use crate::courier::couriers_for;
 use crate::fault::ScenarioFault;
 use crate::phase::Run;
+use crate::run::{blank_for, open};
 use crate::scenario::{Phase, Scenario, read_scenario};
+use am_board::config::Config;
 use am_board::notice::Notice;
 use am_board::record::{Call, Reply};
+use am_desk::{Blank, Brand, Closed, Name};
 use am_pool::{Courier, Journal, Sent, Tried};
 use am_retry::Answer;
 use serde_json::Value;
@@ -36,16 +41,30 @@ impl Courier for Exhausted {
     }
 }
 
-/// Runs the phases up to the first that ends with a fault.
-fn run_until_fault<C: Courier>(
-    run: &mut Run,
-    courier: &mut C,
+/// What a run of the phases up to the first that ends with a fault leaves: that fault, and the closed
+/// desk.
+fn run_until_fault<N: Name + Send + Sync, R: Threads + Wait + Sync, C: Courier + Send>(
+    rt: &R,
+    alloc: Global,
+    config: Config,
+    blank: Blank,
+    couriers: &mut [C],
     phases: Vec<Phase>,
-) -> Result<(), ScenarioFault> {
+) -> Result<(Option<ScenarioFault>, Closed), ScenarioFault>
+    requires name { (blank ≡ N.plan) × (terms config blank.id ≡ N.terms) }
+    requires lanes { All (λ p. vec_len p.lanes < blank.passes) phases.items }
+{
+    let (desk, passes) = open::<N>(alloc, config, blank)?;
+    let mut run = Run::new(alloc, desk, passes)?;
+    let mut outcome = None;
     for (index, phase) in phases.into_iter().enumerate() {
-        run.run_phase(courier, index, phase)?;
+        if let Err(fault) = run.run_phase(rt, couriers, index, phase) {
+            outcome = Some(fault);
+            break;
+        }
     }
-    Ok(())
+    let (closed, _reports) = run.close()?;
+    Ok((outcome, closed))
 }
 
 fn read(alloc: Global, text: &str) -> Result<Scenario, Fail> {
@@ -53,10 +72,27 @@ fn read(alloc: Global, text: &str) -> Result<Scenario, Fail> {
     Ok(read_scenario(alloc, &value)?)
 }
 
+/// A run of a scenario with the couriers of its own scripts.
+fn play<R: AllocGlobal + Threads + Wait + Sync>(
+    rt: &R,
+    text: &str,
+) -> Result<(Option<ScenarioFault>, Closed), Fail> {
+    let alloc = rt.alloc();
+    let Scenario {
+        config,
+        workers,
+        scripts,
+        phases,
+    } = read(alloc, text)?;
+    let blank = blank_for(alloc, phases.as_slice())?;
+    let mut couriers = couriers_for(alloc, workers, scripts.as_slice())?;
+    let couriers = couriers.as_mut_slice();
+    Ok(run_until_fault::<Brand, R, _>(rt, alloc, config, blank, couriers, phases)?)
+}
+
 /// Whether the last call of a run finished a flush of which nothing was recorded.
-fn ends_with_nothing_recorded(run: Run) -> bool {
-    let (dispatcher, _lines) = run.into_parts();
-    match dispatcher.board().history().last() {
+fn ends_with_nothing_recorded(closed: &Closed) -> bool {
+    match closed.history().last() {
         None => false,
         Some(record) => match (&record.call, &record.reply) {
             (Call::Finish { outcomes, .. }, Reply::Finished(finished)) => {
@@ -70,23 +106,15 @@ fn ends_with_nothing_recorded(run: Run) -> bool {
 /// The flush of the first notice is begun, and another begin has no room.
 #[test]
 fn begun_flush_is_finished(rt: HostRuntime) -> Result<(), Fail> {
-    let alloc = rt.alloc();
     let text = with(
         &rt,
         FIRST,
         r#""receivers""#,
         r#""limits":{"history":4},"receivers""#,
     )?;
-    let Scenario {
-        config,
-        scripts,
-        phases,
-    } = read(alloc, text.as_str())?;
-    let mut run = Run::new(alloc, Dispatcher::open(alloc, config)?);
-    let mut courier = ScriptedCourier::new(scripts.as_slice());
-    let outcome = run_until_fault(&mut run, &mut courier, phases);
-    assert!(rt; matches!(outcome, Err(ScenarioFault::Refused { .. })));
-    assert!(rt; ends_with_nothing_recorded(run));
+    let (outcome, closed) = play(&rt, text.as_str())?;
+    assert!(rt; matches!(outcome, Some(ScenarioFault::Refused { .. })));
+    assert!(rt; ends_with_nothing_recorded(&closed));
     Ok(())
 }
 
@@ -96,41 +124,45 @@ fn starved_report_is_want_of_memory(rt: HostRuntime) -> Result<(), Fail> {
     let alloc = rt.alloc();
     let Scenario {
         config,
+        workers: _,
         scripts: _,
         phases,
     } = read(alloc, FIRST)?;
-    let mut run = Run::new(alloc, Dispatcher::open(alloc, config)?);
-    let mut courier = Exhausted {
+    let blank = blank_for(alloc, phases.as_slice())?;
+    let mut couriers = [Exhausted {
         journal: Journal::new(),
-    };
-    let outcome = run_until_fault(&mut run, &mut courier, phases);
-    assert!(rt; matches!(outcome, Err(ScenarioFault::NoMemory)));
+    }];
+    let (outcome, _closed) = run_until_fault::<Brand, _, _>(
+        &rt,
+        alloc,
+        config,
+        blank,
+        &mut couriers,
+        phases,
+    )?;
+    assert!(rt; matches!(outcome, Some(ScenarioFault::NoMemory)));
     Ok(())
 }
 
 /// Lane i calls with the pass i + 1; begins, notes and finishes have the pass 0.
 #[test]
 fn lanes_have_their_passes(rt: HostRuntime) -> Result<(), Fail> {
-    let alloc = rt.alloc();
     let text = with(
         &rt,
         FIRST,
         r#""lanes":[["#,
         r#""lanes":[[{"insert":{"labels":[["alertname","B"]],"starts":0}}],["#,
     )?;
-    let Scenario {
-        config,
-        scripts,
-        phases,
-    } = read(alloc, text.as_str())?;
-    let mut run = Run::new(alloc, Dispatcher::open(alloc, config)?);
-    let mut courier = ScriptedCourier::new(scripts.as_slice());
-    run_until_fault(&mut run, &mut courier, phases)?;
-    let (dispatcher, _lines) = run.into_parts();
-    let mut passes = Vec::new(alloc);
-    for record in dispatcher.board().history() {
-        passes.push(record.pass)?;
+    let (outcome, closed) = play(&rt, text.as_str())?;
+    assert!(rt; outcome.is_none());
+    assert_eq!(rt; closed.history().len(), 9);
+    for record in closed.history() {
+        let wanted = match &record.call {
+            Call::Insert { alert, .. } if alert.labels().get("alertname") == Some("B") => 1,
+            Call::Insert { .. } => 2,
+            _ => 0,
+        };
+        assert_eq!(rt; record.pass, wanted);
     }
-    assert_eq!(rt; passes.as_slice(), [1, 2, 0, 0, 0, 0, 0, 0, 0].as_slice());
     Ok(())
 }

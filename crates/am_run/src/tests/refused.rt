@@ -371,7 +371,10 @@ const PHASE_EDITS: [Edit; 31] = [
     ),
 ];
 
-fn check_edits(rt: &(impl Abort + AllocGlobal), edits: &[Edit]) -> Result<(), Fail> {
+fn check_edits(
+    rt: &(impl Abort + AllocGlobal + Threads + Wait + Sync),
+    edits: &[Edit],
+) -> Result<(), Fail> {
     for (old, new, refused) in edits {
         let scenario = with(rt, FIRST, old, new)?;
         let outcome = outcome_of(rt, scenario.as_bytes())?;

@@ -90,7 +90,11 @@ fn answering(
     with(rt, scenario, r#""phases""#, answers.as_str())
 }
 
-fn check_report(rt: &(impl Abort + AllocGlobal), scenario: &str, report: &str) -> Result<(), Fail> {
+fn check_report(
+    rt: &(impl Abort + AllocGlobal + Threads + Wait + Sync),
+    scenario: &str,
+    report: &str,
+) -> Result<(), Fail> {
     let outcome = outcome_of(rt, scenario.as_bytes())?;
     assert_eq!(rt; outcome.as_str(), report);
     Ok(())

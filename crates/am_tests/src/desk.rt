@@ -164,15 +164,16 @@ impl OwnTicket {
         self.ticket.outcome(place)
     }
 
-    /// Records a report on the notice of an integration, which says that it is of that ticket.
+    /// Records a report on the notice of an integration, which says that it is of that desk and ticket.
     pub fn record(
         &mut self,
+        desk: u64,
         number: u64,
         integration: u32,
         outcome: Outcome,
     ) -> Result<(), ReportFault> {
         self.ticket.record(Report {
-            desk: HOME,
+            desk,
             ticket: number,
             integration,
             outcome,

@@ -180,7 +180,7 @@ impl Stage {
     }
 
     /// `report TICKET INTEGRATION OUTCOME`, and the number of another ticket if the report is of
-    /// that one.
+    /// that one, and `abroad` if it is of another desk.
     fn report(&mut self, words: &mut Words<'_>) -> Result<Told, Trouble> {
         let number = words.number()?;
         let i = self.find(number)?;
@@ -191,10 +191,15 @@ impl Stage {
         } else {
             words.number()?
         };
+        let desk = if words.rest() == "abroad" {
+            ABROAD
+        } else {
+            HOME
+        };
         let Some(own) = self.tickets.get_mut(i) else {
             return Err(Trouble::BadLine);
         };
-        Ok(match own.record(named, integration, outcome) {
+        Ok(match own.record(desk, named, integration, outcome) {
             Ok(()) => Told::Recorded,
             Err(fault) => Told::Unrecorded(fault),
         })

@@ -1,5 +1,6 @@
 -- Durations as texts, as Prometheus' configuration writes durations (`ParseDuration` of its common model).
-use Rattle.std.specs.Prelude.{◌≡◌, ◌≢◌, ℕ, ◌+◌, ◌-◌, ◌*◌, ◌^◌, ◌<◌, ◌⊎◌, ◌↔◌, min, not, List, [], ◌∷◌, ◌++◌, length, map, sum_by, codes, Option, Some, None, Result, Ok, Err, ◌==◌, nat_le, option_and_then, if◌then◌else◌}
+use Rattle.std.specs.Prelude.{◌≡◌, ◌≢◌, ℕ, ◌+◌, ◌-◌, ◌*◌, ◌^◌, ◌<◌, ◌⊎◌, ◌↔◌, min, not, List, [], ◌∷◌, ◌++◌, length, map, sum_by, codes}
+use Rattle.std.specs.Prelude.{Option, Some, None, Result, Ok, Err, ◌==◌, nat_le, option_and_then, if◌then◌else◌}
 use Rattle.std.specs.Char.{is_ascii_digit}
 use Rattle.std.specs.List.{AllByRecursion, flat_map, take_while}
 use Rattle.std.specs.Option.{option_map, option_or}
@@ -111,7 +112,8 @@ pub record IsSumOfParts (units : List TimeUnit) (parts : List DurationPart) (tex
 
 -- the text is `0`, or one or more parts
 abbrev pub HasDuration : List ℕ → ℕ → Type 0
-HasDuration text v = ((text ≡ codes "0") × (v ≡ 0)) ⊎ ((parts : List DurationPart) × (0 < length parts) × IsSumOfParts time_units parts text v)
+HasDuration text v =
+    ((text ≡ codes "0") × (v ≡ 0)) ⊎ ((parts : List DurationPart) × (0 < length parts) × IsSumOfParts time_units parts text v)
 
 -- a text is a duration of this value exactly where it is `0` and the value is 0, or it is parts and the value is their sum
 abbrev pub DurationsAreSums : Type 0

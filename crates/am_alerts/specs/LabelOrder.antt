@@ -2,7 +2,8 @@
 use Rattle.std.specs.Prelude.{◌≡◌, true, List, [], ◌∷◌, ◌++◌, ◌↔◌, Decides, Some, refl}
 use Rattle.std.specs.declared.cmp.Ordering.TheVariants.{Less, Equal}
 use Rattle.std.specs.Cmp.{IsTotalOrder, IsEquivalence, IsPartialOrder, Equal-is, po, both_tied}
-use Rattle.std.specs.Cmp.Lexicographic.{lists_total, lists_equiv, lists_ties, texts_ties, nat_list_cmp_total, nat_list_eq_equiv, pointwise_decides, bytes_decides}
+use Rattle.std.specs.Cmp.Lexicographic.{lists_total, lists_equiv, lists_ties, texts_ties, nat_list_cmp_total, nat_list_eq_equiv}
+use Rattle.std.specs.Cmp.Lexicographic.{pointwise_decides, bytes_decides}
 use Rattle.std.specs.Hash as fed
 use Rattle.std.specs.Ordering.{eq_by_cmp, ordering_then}
 use Rattle.std.proofs.Common.{sym, ap, ◌∙◌, rules}
@@ -35,7 +36,8 @@ pub same_label_set_equiv : IsEquivalence same_label_set
 same_label_set_equiv = lists_equiv same_label_equiv
 
 same_label-cmp : (a b : Label) → same_label a b ≡ eq_by_cmp label_cmp a b
-same_label-cmp a b = both_tied _ _ (text_cmp a.name b.name) (text_cmp a.value b.value) (texts_ties a.name b.name) (texts_ties a.value b.value)
+same_label-cmp a b =
+    both_tied _ _ (text_cmp a.name b.name) (text_cmp a.value b.value) (texts_ties a.name b.name) (texts_ties a.value b.value)
 
 pub same_label_set-cmp : (a b : List Label) → same_label_set a b ≡ eq_by_cmp label_set_cmp a b
 same_label_set-cmp = lists_ties label_cmp same_label-cmp

@@ -1,5 +1,6 @@
 -- Label names, labels and label sets.
-use Rattle.std.specs.Prelude.{ℕ, ◌≤◌, Bool, true, false, ◌&&◌, ◌||◌, List, [], ◌∷◌, length, map, Option, Some, None, ◌==◌, nat_lt, is_none, unwrap_or, if◌then◌else◌, IsTrue, IsPermutation}
+use Rattle.std.specs.Prelude.{ℕ, ◌≤◌, Bool, true, false, ◌&&◌, ◌||◌, List, [], ◌∷◌, length, map, Option, Some, None, ◌==◌, nat_lt}
+use Rattle.std.specs.Prelude.{is_none, unwrap_or, if◌then◌else◌, IsTrue, IsPermutation}
 use Rattle.std.specs.Ordering.{ordering_then, is_lt, nat_cmp}
 use Rattle.std.specs.declared.cmp.Ordering.{Ordering}
 use Rattle.std.specs.Option.{option_map, option_or}

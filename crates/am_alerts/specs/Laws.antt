@@ -1,6 +1,7 @@
 -- The limits and the faults' numbers, by their values.
 use Rattle.std.specs.Prelude.{◌≡◌, [], ◌∷◌}
-use Rattle.am_alerts.specs.declared.limits.TheConstants.{MAX_MOMENT, MAX_DURATION, MAX_LABELS, MAX_LABEL_BYTES, MAX_MATCHERS, MAX_NAMES, MAX_CHILDREN}
+use Rattle.am_alerts.specs.declared.limits.TheConstants.{MAX_MOMENT, MAX_DURATION, MAX_LABELS, MAX_LABEL_BYTES, MAX_MATCHERS, MAX_NAMES}
+use Rattle.am_alerts.specs.declared.limits.TheConstants.{MAX_CHILDREN}
 use Rattle.am_alerts.specs.declared.law.TheConstants.{LABEL_FAULTS, ALERT_FAULTS, MATCHER_FAULTS, ROUTE_FAULTS, DURATION_FAULTS}
 use Rattle.am_alerts.specs.declared.labels.LabelFault.TheVariants as label
 use Rattle.am_alerts.specs.declared.alert.AlertFault.TheVariants as alert
@@ -8,7 +9,8 @@ use Rattle.am_alerts.specs.declared.matcher.MatcherFault.TheVariants as matcher
 use Rattle.am_alerts.specs.declared.route.RouteFault.TheVariants as route
 use Rattle.am_alerts.specs.declared.duration.DurationFault.TheVariants as duration
 
--- law: a moment is at most 10^15 ms and a duration at most 10^12; 64 labels, names and values of 1,024 bytes, 32 matchers in a list, 64 names in a list, 63 children
+-- law: a moment is at most 10^15 ms and a duration at most 10^12; 64 labels, names and values of 1,024 bytes, 32 matchers in a list, 64
+-- names in a list, 63 children
 abbrev pub LimitsAre : Type 0
 LimitsAre =
     (MAX_MOMENT ≡ 1_000_000_000_000_000)
@@ -22,7 +24,8 @@ LimitsAre =
 -- law: the numbers of the faults of label sets
 abbrev pub LabelFaultsAre : Type 0
 LabelFaultsAre =
-    LABEL_FAULTS ≡ (label.Empty, 1) ∷ (label.BadName, 2) ∷ (label.Twice, 3) ∷ (label.TooMany, 4) ∷ (label.TooLong, 5) ∷ (label.NoMemory, 6) ∷ []
+    LABEL_FAULTS
+    ≡ (label.Empty, 1) ∷ (label.BadName, 2) ∷ (label.Twice, 3) ∷ (label.TooMany, 4) ∷ (label.TooLong, 5) ∷ (label.NoMemory, 6) ∷ []
 
 -- law: the numbers of the faults of alerts
 abbrev pub AlertFaultsAre : Type 0

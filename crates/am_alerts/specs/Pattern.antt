@@ -1,5 +1,6 @@
 -- Patterns: regular expressions in the syntax of the crate `regex`.
-use Rattle.std.specs.Prelude.{◌≡◌, ◌↔◌, ℕ, Bool, true, false, List, [], ◌++◌, Option, None, Some, IsSomeAnd, IsCharBoundary, codes, chars, is_some, nat_le}
+use Rattle.std.specs.Prelude.{◌≡◌, ◌↔◌, ℕ, Bool, true, false, List, [], ◌++◌, Option, None, Some, IsSomeAnd, IsCharBoundary, codes, chars}
+use Rattle.std.specs.Prelude.{is_some, nat_le}
 use Rattle.regex.specs.Patterns.{Re, Matches, find_str, default_config}
 use Rattle.regex.specs.Strings.{matcher_pattern, regex_config, regex_pattern, IsReadFromSource}
 use Rattle.regex.specs.declared.string.matcher.Matcher.{Matcher}

@@ -1,7 +1,8 @@
 //! Matchers.
 ghost use Rattle.std.specs.Prelude.{◌≡◌, ◌⊎◌, Err, IfErr, IfOk, IfSome, IsOk, IsTrue, None, option_copied};
 ghost use Rattle.am_alerts.specs.Labels.{value_of};
-ghost use Rattle.am_alerts.specs.Matcher.{compares_texts, compare_texts, has_pattern, is_passed, matches_parts, match_all, matcher_fault, pattern_of};
+ghost use Rattle.am_alerts.specs.Matcher.{compares_texts, compare_texts, has_pattern, is_passed, matches_parts, match_all, matcher_fault};
+ghost use Rattle.am_alerts.specs.Matcher.{pattern_of};
 ghost use Rattle.am_alerts.specs.Pattern.{PatternRows, PatternsMatch};
 
 use crate::labels::{Labels, is_label_name};

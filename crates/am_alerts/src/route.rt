@@ -5,7 +5,8 @@ ghost use Rattle.std.specs.List.Sorted.{IsStrictlyIncreasing};
 ghost use Rattle.am_alerts.specs.Fault.{ok_unless};
 ghost use Rattle.am_alerts.specs.Labels.{has_text_twice};
 ghost use Rattle.am_alerts.specs.Route.{group_labels_of, key_text_of, has_grouping_names, has_few_names, is_interval, has_good_intervals};
-ghost use Rattle.am_alerts.specs.RoutingTree.{tree_of, route_at, matching_from, or_root, routes_of, has_good_child_names, has_good_names, has_route_twice, is_small_child, is_within_limits, have_good_intervals, route_fault};
+ghost use Rattle.am_alerts.specs.RoutingTree.{tree_of, route_at, matching_from, or_root, routes_of, has_good_child_names, has_good_names};
+ghost use Rattle.am_alerts.specs.RoutingTree.{has_route_twice, is_small_child, is_within_limits, have_good_intervals, route_fault};
 
 use crate::labels::{Labels, is_label_name};
 use crate::limits::{MAX_CHILDREN, MAX_DURATION, MAX_MATCHERS, MAX_NAMES};

@@ -1,5 +1,5 @@
 -- Inhibition rules.
-use Rattle.std.specs.Prelude.{ℕ, Bool, not, ◌&&◌, ◌||◌, List, length, Option, Some, None, nat_lt, if◌then◌else◌}
+use Rattle.std.specs.Prelude.{ℕ, Bool, not, ◌&&◌, ◌||◌, List, length, find, Option, Some, None, nat_lt, if◌then◌else◌}
 use Rattle.std.specs.List.{list_all, list_any}
 use Rattle.std.specs.Option.{option_eq}
 use Rattle.std.specs.Str.{bytes_eq}
@@ -40,15 +40,21 @@ agrees_on equal a b = list_all (λ name. agrees_on_name name a b) equal
 abbrev pub matches_both : RuleData → List Label → Bool
 matches_both r labels = match_all r.source labels && match_all r.target labels
 
--- whether a known alert is a source for a label set at t: it isn't resolved, the source matchers match it, the two agree on the names of `equal`, and not both match both sides (Alertmanager's exclusion of two-sided matches)
+-- whether a known alert is a source for a label set at t: it isn't resolved, the source matchers match it, the two agree on the names
+-- of `equal`, and not both match both sides (Alertmanager's exclusion of two-sided matches)
 abbrev pub is_inhibited_by : RuleData → ℕ → List Label → AlertData → Bool
 is_inhibited_by r t labels a =
     not (is_resolved a t) && match_all r.source a.labels && agrees_on r.equal labels a.labels
     && not (matches_both r labels && matches_both r a.labels)
 
--- whether a rule mutes a label set at t: its target matchers match, and one of the known alerts is a source (Alertmanager's Inhibitor.Mutes)
+-- whether a rule mutes a label set at t: its target matchers match, and one of the known alerts is a source (Alertmanager's
+-- Inhibitor.Mutes)
 abbrev pub inhibits : RuleData → ℕ → List AlertData → List Label → Bool
 inhibits r t known labels = match_all r.target labels && list_any (λ a. is_inhibited_by r t labels a) known
+
+-- the first known alert on account of which a rule mutes a label set at t
+abbrev pub source_for : RuleData → ℕ → List AlertData → List Label → Option AlertData
+source_for r t known labels = if match_all r.target labels then find (is_inhibited_by r t labels) known else None
 
 -- inhibited: one of these rules mutes the label set at t
 abbrev pub is_inhibited : List Label → ℕ → List RuleData → List AlertData → Bool

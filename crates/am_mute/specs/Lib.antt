@@ -1,4 +1,5 @@
 pub mod Inhibit
+pub mod Laws
 pub mod Matching
 pub mod Mute
 pub mod Silence

@@ -26,7 +26,8 @@ silence_fault s =
     else (if nat_lt MAX_MATCHERS (length s.matchers) then Some TooManyMatchers
     else (if nat_lt s.end s.start || nat_lt MAX_MOMENT s.start || nat_lt MAX_MOMENT s.end then Some BadMoments else None))
 
--- whether a silence is active at t: it has started, and its end hasn't come (Alertmanager's package silence, save that there the end itself counts)
+-- whether a silence is active at t: it has started, and its end hasn't come (Alertmanager's package silence, save that there the end
+-- itself counts)
 abbrev pub is_active : SilenceData → ℕ → Bool
 is_active s t = nat_le s.start t && nat_lt t s.end
 

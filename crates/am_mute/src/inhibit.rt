@@ -1,8 +1,8 @@
 //! Inhibition rules.
-ghost use Rattle.std.specs.Prelude.{◌≡◌, ◌≤◌, ◌&&◌, not, length, IfOk, IsOk, IsTrue};
+ghost use Rattle.std.specs.Prelude.{◌≡◌, ◌≤◌, ◌&&◌, not, length, option_copied, is_some, IfOk, IsOk, IsTrue};
 ghost use Rattle.am_alerts.specs.Fault.{ok_unless};
 ghost use Rattle.am_alerts.specs.Matcher.{compare_texts, match_all};
-ghost use Rattle.am_mute.specs.Inhibit.{rule_fault, rule_of, agrees_on, agrees_on_name, inhibits};
+ghost use Rattle.am_mute.specs.Inhibit.{rule_fault, rule_of, agrees_on, agrees_on_name, inhibits, source_for};
 
 use am_alerts::alert::Alert;
 use am_alerts::labels::Labels;
@@ -95,21 +95,22 @@ impl InhibitRule {
         self.equal.as_slice()
     }
 
-    /// Whether this rule mutes a label set at `t`, where these are the known alerts.
-    pub(crate) fn inhibits(
+    /// The first of these known alerts on account of which this rule mutes a label set at `t`.
+    pub(crate) fn source_for<'k>(
         &self,
         alloc: Global,
         labels: &Labels,
         t: u64,
-        known: &[Alert],
-    ) -> Result<bool, AllocError>
-        ensures value { IfOk result (λ found. found ≡ inhibits self.now t known.now labels.now) }
+        known: &'k [Alert],
+    ) -> Result<Option<&'k Alert>, AllocError>
+        ensures value { IfOk result (λ found. option_copied found ≡ source_for self.now t known.now labels.now) }
+        ensures some { IfOk result (λ found. is_some found ≡ inhibits self.now t known.now labels.now) }
         ensures answers { IsTrue (compare_texts self.now.source) →
             IsTrue (compare_texts self.now.target) → IsOk result }
     {
         let mut target = Searchers::new(alloc, self.target());
         if !target.all_match(alloc, labels)? {
-            return Ok(false);
+            return Ok(None);
         }
         let mut source = Searchers::new(alloc, self.source());
         let is_source_too = source.all_match(alloc, labels)?;
@@ -124,10 +125,10 @@ impl InhibitRule {
                 is_source_too,
                 alert.labels(),
             )? {
-                return Ok(true);
+                return Ok(Some(alert));
             }
         }
-        Ok(false)
+        Ok(None)
     }
 }
 

@@ -2,6 +2,7 @@
 #![tactic(auto)]
 
 pub mod inhibit;
+pub mod law;
 pub mod mute;
 pub mod silence;
 #[cfg(test)]

@@ -1,8 +1,8 @@
 //! What mutes a label set.
-ghost use Rattle.std.specs.Prelude.{◌≡◌, IfOk, IsOk, IsTrue};
+ghost use Rattle.std.specs.Prelude.{◌≡◌, IfOk, IsOk, IsTrue, is_some, option_copied};
 ghost use Rattle.am_mute.specs.Inhibit.{is_inhibited};
-ghost use Rattle.am_mute.specs.Mute.{is_muted};
 ghost use Rattle.am_mute.specs.Silence.{is_silenced};
+ghost use Rattle.am_mute.specs.Mute.{inhibition_from, is_muted, mute_cause_of, silence_for};
 ghost use Rattle.am_mute.specs.Matching.{rules_compare_texts, silences_compare_texts};
 
 use crate::inhibit::InhibitRule;
@@ -10,6 +10,15 @@ use crate::silence::Silence;
 use am_alerts::alert::Alert;
 use am_alerts::labels::Labels;
 use std::alloc::{AllocError, Global};
+
+/// Why a label set is muted.
+#[derive(Debug, Drop, PartialEq)]
+pub enum MuteCause {
+    /// By the silence of this id, which mutes until its end, in milliseconds.
+    Silenced { id: u64, until: u64 },
+    /// By the rule at this place of the list, on account of a known alert of this label set.
+    Inhibited { rule: usize, by: Labels },
+}
 
 /// Whether a label set is muted at `t` (milliseconds), where these are the known alerts: by a
 /// silence that has started and hasn't ended and whose matchers all match it, or by a rule whose
@@ -33,27 +42,77 @@ pub fn muted(
     ensures answers { IsTrue (silences_compare_texts silences.now) →
         IsTrue (rules_compare_texts rules.now) → IsOk result }
 {
-    if silenced(alloc, labels, t, silences)? {
+    if silence_for(alloc, labels, t, silences)?.is_some() {
         return Ok(true);
     }
     inhibited(alloc, labels, t, rules, known)
 }
 
-fn silenced(
+/// Why a label set is muted at `t` (milliseconds), if `muted` says that it is, where these are the
+/// known alerts: the first silence that mutes it; else the first rule that does, with the first
+/// known alert on account of which it does.
+pub fn mute_cause(
     alloc: Global,
     labels: &Labels,
     t: u64,
     silences: &[Silence],
-) -> Result<bool, AllocError>
-    ensures value { IfOk result (λ found. found ≡ is_silenced labels.now t silences.now) }
+    rules: &[InhibitRule],
+    known: &[Alert],
+) -> Result<Option<MuteCause>, AllocError>
+    ensures cause { IfOk result (λ cause.
+        cause ≡ mute_cause_of labels.now t silences.now rules.now known.now) }
+    ensures muted { IfOk result (λ cause.
+        is_some cause ≡ is_muted labels.now t silences.now rules.now known.now) }
+{
+    match silence_for(alloc, labels, t, silences)? {
+        None => inhibition(alloc, labels, t, rules, known),
+        Some(silence) => Ok(Some(MuteCause::Silenced {
+            id: silence.id(),
+            until: silence.end(),
+        })),
+    }
+}
+
+/// The first silence that mutes a label set at `t`.
+fn silence_for<'s>(
+    alloc: Global,
+    labels: &Labels,
+    t: u64,
+    silences: &'s [Silence],
+) -> Result<Option<&'s Silence>, AllocError>
+    ensures value { IfOk result (λ found. option_copied found ≡ silence_for labels.now t silences.now) }
+    ensures some { IfOk result (λ found. is_some found ≡ is_silenced labels.now t silences.now) }
     ensures answers { IsTrue (silences_compare_texts silences.now) → IsOk result }
 {
     for silence in silences {
         if silence.mutes(alloc, labels, t)? {
-            return Ok(true);
+            return Ok(Some(silence));
         }
     }
-    Ok(false)
+    Ok(None)
+}
+
+/// The first rule that mutes a label set at `t`, with the first known alert on account of which it
+/// does.
+fn inhibition(
+    alloc: Global,
+    labels: &Labels,
+    t: u64,
+    rules: &[InhibitRule],
+    known: &[Alert],
+) -> Result<Option<MuteCause>, AllocError>
+    ensures cause { IfOk result (λ cause. cause ≡ inhibition_from 0 labels.now t known.now rules.now) }
+    ensures some { IfOk result (λ cause. is_some cause ≡ is_inhibited labels.now t rules.now known.now) }
+{
+    for rule in 0..rules.len() {
+        if let Some(source) = rules[rule].source_for(alloc, labels, t, known)? {
+            return Ok(Some(MuteCause::Inhibited {
+                rule,
+                by: source.labels().copy(alloc)?,
+            }));
+        }
+    }
+    Ok(None)
 }
 
 fn inhibited(
@@ -68,7 +127,7 @@ fn inhibited(
     ensures answers { IsTrue (rules_compare_texts rules.now) → IsOk result }
 {
     for rule in rules {
-        if rule.inhibits(alloc, labels, t, known)? {
+        if rule.source_for(alloc, labels, t, known)?.is_some() {
             return Ok(true);
         }
     }

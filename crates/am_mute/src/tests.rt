@@ -1,5 +1,5 @@
 use crate::inhibit::{InhibitRule, RuleFault};
-use crate::mute::muted;
+use crate::mute::{MuteCause, mute_cause, muted};
 use crate::silence::{Silence, SilenceFault};
 use am_alerts::alert::Alert;
 use am_alerts::labels::Labels;
@@ -201,6 +201,80 @@ fn a_rule_of_patterns_meets_each_known_alert(rt: HostRuntime) -> Result<(), Fail
         assert!(rt; !muted_by_two, "{text}");
         let muted_by_all = muted(alloc, &labels, 0, &[], &rules, all.as_slice())?;
         assert_eq!(rt; muted_by_all, expected, "{text}");
+    }
+    Ok(())
+}
+
+/// The text of why a label set is muted at 0.
+fn cause_text(
+    alloc: Global,
+    text: &str,
+    silences: &[Silence],
+    rules: &[InhibitRule],
+    known: &[Alert],
+) -> Result<String, Fail> {
+    let labels = labels(alloc, text)?;
+    match mute_cause(alloc, &labels, 0, silences, rules, known)? {
+        None => Ok(String::new(alloc)),
+        Some(MuteCause::Silenced { id, until }) => Ok(format!(in alloc;
+            "silence {id} until {until}"
+        )?),
+        Some(MuteCause::Inhibited { rule, by }) => {
+            let name = by.get("alertname").ok_or("a source without a name")?;
+            Ok(format!(in alloc; "rule {rule} by {name}")?)
+        }
+    }
+}
+
+/// Silences of the team `db`, of which the first hasn't started at 0.
+fn team_silences(alloc: Global) -> Result<Vec<Silence>, Fail> {
+    let mut silences = Vec::new(alloc);
+    for (id, start, end) in [(7, 1, 9), (8, 0, 20), (9, 0, 30)] {
+        silences.push(Silence::new(id, equals(alloc, 1, "team", "db")?, start, end)?)?;
+    }
+    Ok(silences)
+}
+
+/// A rule for each severity that mutes warnings of the same `dc`.
+fn severity_rules(alloc: Global) -> Result<Vec<InhibitRule>, Fail> {
+    let mut rules = Vec::new(alloc);
+    for severity in ["page", "critical"] {
+        rules.push(InhibitRule::new(
+            equals(alloc, 1, "severity", severity)?,
+            equals(alloc, 1, "severity", "warning")?,
+            names(alloc, 1, "dc")?,
+        )?)?;
+    }
+    Ok(rules)
+}
+
+/// The first silence counts before the first rule, and of a rule the first known alert.
+#[test]
+fn the_first_that_mutes_is_told(rt: HostRuntime) -> Result<(), Fail> {
+    let alloc = rt.alloc();
+    let silences = team_silences(alloc)?;
+    let rules = severity_rules(alloc)?;
+    let known = known(
+        alloc,
+        &[
+            "alertname=Q severity=page dc=z",
+            "alertname=S severity=critical dc=y",
+            "alertname=T severity=critical dc=x",
+            "alertname=U severity=critical dc=x",
+        ],
+    )?;
+    for (text, expected) in [
+        (
+            "alertname=A severity=warning dc=x team=db",
+            "silence 8 until 20",
+        ),
+        ("alertname=A severity=warning dc=x", "rule 1 by T"),
+        ("alertname=A severity=warning dc=z", "rule 0 by Q"),
+        ("alertname=A severity=warning dc=w", ""),
+        ("alertname=T severity=critical dc=x", ""),
+    ] {
+        let told = cause_text(alloc, text, &silences, &rules, &known)?;
+        assert_eq!(rt; told.as_str(), expected, "{text}");
     }
     Ok(())
 }

@@ -44,10 +44,12 @@ module _ {M N : Type 0} (same : M → M → Bool) (equal : N → N → Bool) whe
   -- Under a one-to-one numbering of the members an update is needed at the numbers exactly where it is at the members.
   abbrev pub NumberingKeepsNeeded : Type 0
   NumberingKeepsNeeded =
-      (number : M → N) (row : Option (LogRow M)) (numbered : Option (LogRow N)) (firing resolved : List M) (firing_numbers resolved_numbers : List N)
+      (number : M → N) (row : Option (LogRow M)) (numbered : Option (LogRow N))
+      (firing resolved : List M) (firing_numbers resolved_numbers : List N)
       (send_resolved : Bool) (repeat t : ℕ)
       → IsOneToOne number (members_of row ++ firing ++ resolved)
       → IsNumberedRow number row numbered
       → AreNumbersOf number firing firing_numbers
       → AreNumbersOf number resolved resolved_numbers
-      → needed equal numbered firing_numbers resolved_numbers send_resolved repeat t ≡ needed same row firing resolved send_resolved repeat t
+      → needed equal numbered firing_numbers resolved_numbers send_resolved repeat t
+      ≡ needed same row firing resolved send_resolved repeat t

@@ -1,37 +1,45 @@
 //! The members of a row: a set, kept as a strictly ascending list.
-ghost use Rattle.std.specs.Prelude.{◌≡◌, IsTrue};
+ghost use Rattle.std.specs.Prelude.{◌≡◌, IfOk, IsTrue};
 ghost use Rattle.am_nflog.specs.Members.{is_ascending};
 
+use std::alloc::{AllocError, Global};
 use std::marker::Model;
+use std::sync::Arc;
 
 /// A set of alerts as the log keeps it: strictly ascending by their order.
 ///
-/// Contracts see it as the list of its members. It is made from a `Vec` and gives the `Vec` back, both without memory.
+/// Contracts see it as the list of its members. Several owners may share one list; it is let go with the last of them.
 #[derive(Debug, Drop)]
 pub struct Members<N: Ord> {
-    list: Vec<N>,
+    list: Arc<Vec<N>>,
 }
 
 impl<N: Ord> Model for Members<N> {
     ghost use Rattle.std.specs.Prelude.{List, IsTrue};
+    ghost use Rattle.std.specs.Arc.{arc_value};
     ghost use Rattle.am_nflog.specs.Members.{is_ascending};
 
     ghost Value = { List N };
 
-    ghost view = { λ m. m.list.items };
+    ghost view = { λ m. (arc_value m.list).items };
 
-    ghost invariant = { λ m. IsTrue (is_ascending N.cmp m.list.items) };
+    ghost invariant = { λ m. IsTrue (is_ascending N.cmp (arc_value m.list).items) };
+}
+
+impl<N: Ord + Drop> Members<N> {
+    /// The members, which the caller hands in strictly ascending. The list stays in the memory that it has; it takes memory only
+    /// to be shared, and where that is refused the list is let go.
+    pub fn new(alloc: Global, list: Vec<N>) -> Result<Self, AllocError>
+        requires { IsTrue (is_ascending N.cmp list.items) }
+        ensures { IfOk result (λ members. members ≡ list.items) }
+    {
+        Ok(Members {
+            list: Arc::new(alloc, list)?,
+        })
+    }
 }
 
 impl<N: Ord> Members<N> {
-    /// The members, which the caller hands in strictly ascending.
-    pub fn new(list: Vec<N>) -> Self
-        requires { IsTrue (is_ascending N.cmp list.items) }
-        ensures { result ≡ list.items }
-    {
-        Members { list }
-    }
-
     /// The members, strictly ascending.
     pub fn as_slice(&self) -> &[N]
         ensures all { result.now ≡ self.now }
@@ -40,12 +48,12 @@ impl<N: Ord> Members<N> {
         self.list.as_slice()
     }
 
-    /// The members as the `Vec` that they are kept in.
-    pub fn into_vec(self) -> Vec<N>
-        ensures all { result.items ≡ self }
-        ensures ascending { IsTrue (is_ascending N.cmp self) }
+    /// One more owner of the same list. It takes no memory, and is refused only where the count of owners is full.
+    pub fn share(&self) -> Result<Self, AllocError>
+        ensures { IfOk result (λ members. members ≡ self.now) }
     {
-        let Members { list } = self;
-        list
+        Ok(Members {
+            list: Arc::try_clone(&self.list)?,
+        })
     }
 }

@@ -16,7 +16,7 @@ fn key(group: u64, integration: u32) -> LogKey<u64>
 fn members(alloc: Global, list: &[u64]) -> Result<Members<u64>, AllocError>
     requires { IsTrue (is_ascending nat_cmp list.now) }
 {
-    Ok(Members::new(list.to_vec(alloc)?))
+    Members::new(alloc, list.to_vec(alloc)?)
 }
 
 // A row in which the alert 1 fires.
@@ -87,8 +87,19 @@ fn updates_of_resolved_and_longer_lists(rt: HostRuntime) -> Result<(), Fail> {
     assert!(rt; needs_update(Some(&several), &[1, 4], &[], true, 50, 150));
     assert!(rt; needs_update(Some(&several), &[1, 3, 5, 7], &[], true, 50, 150));
     assert!(rt; needs_update(Some(&several), &[5], &[1, 2], true, 50, 150));
-    let LogRow { firing, .. } = several;
-    assert_eq!(rt; firing.into_vec().as_slice(), [1, 3, 5].as_slice());
+    Ok(())
+}
+
+// A list is the same for each owner, also once the others are gone.
+#[test]
+fn members_are_shared(rt: HostRuntime) -> Result<(), Fail> {
+    let first = members(rt.alloc(), &[1, 3, 5])?;
+    let second = first.share()?;
+    let third = second.share()?;
+    assert_eq!(rt; first.as_slice(), [1, 3, 5].as_slice());
+    drop(first);
+    drop(second);
+    assert_eq!(rt; third.as_slice(), [1, 3, 5].as_slice());
     Ok(())
 }
 

@@ -50,8 +50,8 @@ pub fn needs_update<N: Ord>(
     }
 }
 
-// Whether each of `some` is one of `all`. Both ascend, so one pass over `all` finds them in turn.
-fn is_subset<N: Ord>(some: &[N], all: &[N]) -> bool
+/// Whether each of `some` is one of `all`, both strictly ascending: one pass over `all` finds them in turn.
+pub fn is_subset<N: Ord>(some: &[N], all: &[N]) -> bool
     requires some_ascending { IsTrue (is_ascending N.cmp some.now) }
     requires all_ascending { IsTrue (is_ascending N.cmp all.now) }
     ensures { result ≡ is_subset N.eq some.now all.now }

@@ -16,7 +16,8 @@ one_more told answer ended = told ++ record { answer = answer; ended = ended } �
 abbrev pub latest : ℕ
 latest = 1_001_000_000_000_000
 
--- the waits between attempts (the back-off of Alertmanager's retry stage, without its random part): 500, 750, 1125, 1687, ..: each is the one before times 3 divided by 2, rounded down, and at most 60,000
+-- the waits between attempts (the back-off of Alertmanager's retry stage, without its random part): 500, 750, 1125, 1687, ..: each is
+-- the one before times 3 divided by 2, rounded down, and at most 60,000
 abbrev pub wait_of : ℕ → ℕ
 wait_of zero = 500
 wait_of (suc j) = min (3 * wait_of j / 2) 60_000

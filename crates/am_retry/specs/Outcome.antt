@@ -48,7 +48,8 @@ asks_again start deadline told = are_in_time start deadline told (length told) &
 abbrev pub is_settled : (Answer → Bool) → ℕ → ℕ → List Told → Bool
 is_settled test start deadline told = are_in_time start deadline told (length told) && ends_with test told
 
--- whether a list of answers, as a whole, has an outcome. That of Starved says that one more attempt is due; that it wasn't made for want of memory is for who makes the attempts to say
+-- whether a list of answers, as a whole, has an outcome. That of Starved says that one more attempt is due; that it wasn't made for
+-- want of memory is for who makes the attempts to say
 abbrev pub has_outcome : ℕ → ℕ → List Told → Outcome → Bool
 has_outcome start deadline told Delivered = is_settled is_done start deadline told
 has_outcome start deadline told Refused = is_settled is_never start deadline told

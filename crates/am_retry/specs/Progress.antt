@@ -32,7 +32,12 @@ step_after Again ended wait deadline = due (ended + wait) deadline
 -- after an answer to the attempt that was due at a moment
 abbrev pub taken_at : ℕ → Progress → Answer → ℕ → Progress
 taken_at at p answer ended =
-    record { deadline = p.deadline; attempts = p.attempts + 1; ended = end_of at ended; step = step_after answer (end_of at ended) (wait_of p.attempts) p.deadline }
+    record {
+      deadline = p.deadline;
+      attempts = p.attempts + 1;
+      ended = end_of at ended;
+      step = step_after answer (end_of at ended) (wait_of p.attempts) p.deadline;
+    }
 
 -- after an answer, by what was next: where no attempt was due, nothing changes
 abbrev pub taken_by : Step → Progress → Answer → ℕ → Progress

@@ -1,7 +1,8 @@
-pub mod Askings
 pub mod Causes
 pub mod Ends
-pub mod Findings
 pub mod FirstDue
-pub mod Openings
+pub mod Outlooks
+pub mod PlannedFlushes
 pub mod ReservedRows
+pub mod Updates
+pub mod WhatIsUnmuted

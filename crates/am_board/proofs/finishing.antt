@@ -1,5 +1,5 @@
 pub mod Finished
 pub mod Flushes
-pub mod Leaving
+pub mod LeavingAlerts
 pub mod Logging
 pub mod TakenOut

@@ -1,3 +1,4 @@
+pub mod Found
 pub mod GroupRoom
 pub mod Inserting
 pub mod Placing

@@ -1,41 +1,43 @@
 -- How a begin goes by the definitions of Begin: what it finds in the group that it takes, and the flush that it opens.
-use Rattle.std.specs.Prelude.{◌≡◌, ℕ, ◌&&◌, Bool, IsTrue, List, [], filter, map, Some, if◌then◌else◌, ◌≢◌, ◌*◌, ◌≤◌, ◌<◌, ◌⊎◌, min, IfSome, All, Option, None, Result, Ok, Err, vec_len, vec_capacity, ◌+◌, not, nat_le, length, slice_index_or}
+use Rattle.std.specs.Prelude.{◌≡◌, ℕ, ◌&&◌, Bool, IsTrue, List, [], filter, map, Some, if◌then◌else◌, ◌≢◌, ◌*◌, ◌≤◌, ◌<◌, ◌⊎◌, min}
+use Rattle.std.specs.Prelude.{IfSome, All, Option, None, Result, Ok, Err, vec_len, vec_capacity, ◌+◌, not, nat_le, length, slice_index_or}
 use Rattle.am_alerts.specs.AlertData.{AlertData, is_resolved}
 use Rattle.am_alerts.specs.Labels.{label_set_cmp, same_label_set}
 use Rattle.am_mute.specs.Inhibit.{RuleData}
 use Rattle.am_mute.specs.Mute.{is_muted}
 use Rattle.am_nflog.specs.Members.{is_ascending, is_empty}
 use Rattle.am_nflog.specs.Needed.{needed}
-use Rattle.am_board.specs.declared.asking.Asking.{Asking}
+use Rattle.am_board.specs.declared.dedup.Update.{Update}
 use Rattle.am_model.specs.declared.config.Config.{Config}
 use Rattle.am_model.specs.declared.config.Integration.{Integration}
 use Rattle.am_board.specs.declared.flush.Asked.{Asked}
-use Rattle.am_board.specs.declared.flush.Leaving.{Leaving}
+use Rattle.am_board.specs.declared.flush.LeavingAlert.{LeavingAlert}
 use Rattle.am_board.specs.declared.flush.OpenFlush.{OpenFlush}
-use Rattle.am_board.specs.declared.flush.Told.{Told}
-use Rattle.am_board.specs.declared.found.Found.{Found}
+use Rattle.am_board.specs.declared.flush.ToldSets.{ToldSets}
+use Rattle.am_board.specs.declared.unmuted.Unmuted.{Unmuted}
 use Rattle.am_board.specs.declared.group.Group.{Group}
 use Rattle.am_model.specs.declared.group.GroupName.{GroupName}
 use Rattle.am_board.specs.declared.group.Member.{Member}
 use Rattle.am_model.specs.declared.views.RowView.{RowView}
-use Rattle.am_model.specs.Begin.{copied, entry_of, firing_of, resolved_of, label_sets, asked_of, deadline_of, flush_asking, notice_for, due_cmp, taken}
+use Rattle.am_model.specs.Begin.{copied, entry_of, firing_of, resolved_of, label_sets, asked_of, deadline_of, flush_asking, notice_for}
+use Rattle.am_model.specs.Begin.{due_cmp, taken}
 use Rattle.am_model.specs.Notice.{NoticeData}
 use Rattle.am_board.specs.Kept.{member_state, flush_state, state_of, group_state}
 use Rattle.am_model.specs.Lists.{without, least}
 use Rattle.am_model.specs.State.{GroupState, State, FlushState, moment, is_flushing}
 use Rattle.am_model.specs.declared.fault.Fault.{Fault}
 use Rattle.am_model.specs.declared.fault.Fault.TheVariants.{NoMemory, TooManyOpen}
-use Rattle.am_board.specs.declared.opening.Opening.{Opening}
+use Rattle.am_board.specs.declared.plan.PlannedFlush.{PlannedFlush}
 use Rattle.am_model.specs.Configured.{route_of}
 use Rattle.am_board.specs.declared.begin.Begun.{Begun}
-use Rattle.am_board.specs.declared.begin.Taking.{Taking}
+use Rattle.am_board.specs.declared.begin.ChosenGroup.{ChosenGroup}
 use Rattle.am_model.specs.declared.record.Call.TheVariants.{Begin}
 use Rattle.am_board.specs.declared.state.State as kept
 use Rattle.am_model.specs.Records.{entry}
 use Rattle.am_board.specs.History.{reply_of, IsFresh}
 use Rattle.am_board.specs.Step.{Accepts, Stays}
 
--- ---- what is found in a group
+-- ---- what is unmuted in a group
 
 -- the copy of members, without those that are muted under these rules
 abbrev pub copy_among : List RuleData → State → ℕ → List Member → List AlertData
@@ -50,71 +52,72 @@ firing_among rules s t members = without (λ a. is_resolved a t) (copy_among rul
 abbrev pub resolved_among : List RuleData → State → ℕ → List Member → List AlertData
 resolved_among rules s t members = filter (λ a. is_resolved a t) (copy_among rules s t members)
 
--- what was found in a group at t is what the definitions give
-pub record IsFound (config : Config) (s : State) (t : ℕ) (g : GroupState) (found : Found) : Type 0 where
-  pub firing : found.firing ≡ firing_of config s t g
-  pub resolved : found.resolved ≡ resolved_of config s t g
+-- what is unmuted in a group at t is what the definitions give
+pub record IsUnmuted (config : Config) (s : State) (t : ℕ) (g : GroupState) (unmuted : Unmuted) : Type 0 where
+  pub firing : unmuted.firing ≡ firing_of config s t g
+  pub resolved : unmuted.resolved ≡ resolved_of config s t g
 
 -- of these members under these rules, those that fire and those that are resolved, in their order
-pub record AreFound (rules : List RuleData) (s : State) (t : ℕ) (members : List Member) (fire are_resolved : List AlertData) : Type 0 where
+pub record AreUnmuted (rules : List RuleData) (s : State) (t : ℕ) (members : List Member)
+    (fire are_resolved : List AlertData) : Type 0 where
   pub firing : fire ≡ firing_among rules s t members
   pub resolved : are_resolved ≡ resolved_among rules s t members
 
--- the label sets of what was found
-abbrev pub told_of : Found → Told
-told_of found = record { firing = label_sets found.firing; resolved = label_sets found.resolved }
+-- the label sets of what is unmuted
+abbrev pub told_of : Unmuted → ToldSets
+told_of unmuted = record { firing = label_sets unmuted.firing; resolved = label_sets unmuted.resolved }
 
--- the label sets of what was found rise strictly
-pub record AreRising (found : Found) : Type 0 where
-  pub firing : IsTrue (is_ascending label_set_cmp (label_sets found.firing))
-  pub resolved : IsTrue (is_ascending label_set_cmp (label_sets found.resolved))
+-- the label sets of what is unmuted rise strictly
+pub record AreRising (unmuted : Unmuted) : Type 0 where
+  pub firing : IsTrue (is_ascending label_set_cmp (label_sets unmuted.firing))
+  pub resolved : IsTrue (is_ascending label_set_cmp (label_sets unmuted.resolved))
 
 -- an integration that is asked, without what it is
-abbrev pub asking_of : ℕ × Integration → Asking
-asking_of i = record { integration = i.0; send_resolved = i.1.send_resolved }
+abbrev pub update_of : ℕ × Integration → Update
+update_of i = record { integration = i.0; send_resolved = i.1.send_resolved }
 
 -- whether an integration needs an update about these label sets of a group, where these are the rows of the log
-abbrev pub needs_told : List RowView → GroupName → Told → ℕ → ℕ → ℕ × Integration → Bool
+abbrev pub needs_told : List RowView → GroupName → ToldSets → ℕ → ℕ → ℕ × Integration → Bool
 needs_told rows name told repeat t i =
     needed same_label_set (entry_of rows name i.0) told.firing told.resolved i.1.send_resolved repeat t
 
 -- the resolved alerts that are sent, if any are
-abbrev pub sent_where : Bool → Found → List AlertData
-sent_where send_resolved found = if send_resolved then found.resolved else []
+abbrev pub sent_where : Bool → Unmuted → List AlertData
+sent_where send_resolved unmuted = if send_resolved then unmuted.resolved else []
 
 -- the notice for an integration that is asked
-abbrev pub notice_asking : ℕ → ℕ → ℕ → GroupName → Found → Asking → NoticeData
-notice_asking desk ticket deadline group found asking =
+abbrev pub notice_of_update : ℕ → ℕ → ℕ → GroupName → Unmuted → Update → NoticeData
+notice_of_update desk ticket deadline group unmuted update =
     record {
       desk = desk;
       ticket = ticket;
       deadline = deadline;
       group = group;
-      integration = asking.integration;
-      firing = found.firing;
-      resolved = sent_where asking.send_resolved found;
+      integration = update.integration;
+      firing = unmuted.firing;
+      resolved = sent_where update.send_resolved unmuted;
     }
 
 -- an integration that is asked, with what its log row is to hold
-abbrev pub asked_asking : GroupName → Found → Asking → Asked
-asked_asking group found asking =
+abbrev pub asked_for_update : GroupName → Unmuted → Update → Asked
+asked_for_update group unmuted update =
     record {
-      key = record { group = group; integration = asking.integration };
-      nothing = is_empty found.firing && is_empty (sent_where asking.send_resolved found);
-      told = Some (told_of found);
+      key = record { group = group; integration = update.integration };
+      nothing = is_empty unmuted.firing && is_empty (sent_where update.send_resolved unmuted);
+      told = Some (told_of unmuted);
     }
 
 -- a member as it leaves
-abbrev pub leaving_member : Member → Leaving
+abbrev pub leaving_member : Member → LeavingAlert
 leaving_member m = record { labels = m.alert.labels; stamp = m.stamp }
 
--- a flush of a group at t, of this number, with what was found, that asks these integrations
-pub record IsFlushAsking (n kept : ℕ) (g : Group) (found : Found) (askings : List Asking) (t : ℕ) (f : OpenFlush) : Type 0 where
+-- a flush of a group at t, of this number, with what is unmuted, that asks these integrations
+pub record IsFlushAsking (n kept : ℕ) (g : Group) (unmuted : Unmuted) (updates : List Update) (t : ℕ) (f : OpenFlush) : Type 0 where
   pub number : f.number ≡ n
   pub kept_for : f.kept_for ≡ kept
   pub group : f.group ≡ g.name
-  pub asked : f.asked.items ≡ map (asked_asking g.name found) askings
-  pub told : f.told ≡ told_of found
+  pub asked : f.asked.items ≡ map (asked_for_update g.name unmuted) updates
+  pub told : f.told ≡ told_of unmuted
   pub leaving : f.leaving.items ≡ map leaving_member (filter (λ m. is_resolved m.alert t) g.members.items)
 
 -- ---- the flush that is opened, before it is put into the state
@@ -125,7 +128,7 @@ pub record IsSpare (f : OpenFlush) (a : Asked) : Type 0 where
   pub told : IfSome a.told (λ told. told ≡ f.told)
 
 -- what the begin at t of the flush of a group puts into the board and the ticket, where the board has this id
-pub record IsOpening (config : Config) (id : ℕ) (s : State) (t : ℕ) (g : GroupState) (o : Opening) : Type 0 where
+pub record IsPlannedFlush (config : Config) (id : ℕ) (s : State) (t : ℕ) (g : GroupState) (o : PlannedFlush) : Type 0 where
   pub flush : flush_state o.flush ≡ flush_asking config s t g (asked_of config s t g)
   pub kept_for : o.flush.kept_for ≡ min config.retention (2 * (route_of config g.name).repeat_interval)
   pub spare : All (IsSpare o.flush) o.flush.asked.items
@@ -140,10 +143,10 @@ pub record IsOpening (config : Config) (id : ℕ) (s : State) (t : ℕ) (g : Gro
   pub room : vec_len o.notices ≤ vec_capacity o.outcomes
 
 -- what a begin at t that takes a group works out: nobody is asked, or a flush is opened and one more may be open
-abbrev pub IsPlan : Config → ℕ → ℕ → State → ℕ → GroupState → Result (Option Opening) Fault → Type 0
+abbrev pub IsPlan : Config → ℕ → ℕ → State → ℕ → GroupState → Result (Option PlannedFlush) Fault → Type 0
 IsPlan config id opened s t g (Ok None) = asked_of config s t g ≡ []
 IsPlan config id opened s t g (Ok (Some o)) =
-    (asked_of config s t g ≢ []) × (opened < config.limits.flushes) × IsOpening config id s t g o
+    (asked_of config s t g ≢ []) × (opened < config.limits.flushes) × IsPlannedFlush config id s t g o
 IsPlan config id opened s t g (Err fault) =
     (fault ≡ NoMemory) ⊎ ((fault ≡ TooManyOpen) × (asked_of config s t g ≢ []) × (config.limits.flushes ≤ opened))
 
@@ -163,12 +166,12 @@ IsFirst groups None first = first ≡ None
 IsFirst groups (Some i) first = (d : Group) → first ≡ Some (group_state (slice_index_or groups i d))
 
 -- a begin takes this group, at the moment of the call
-pub record IsTaking (config : Config) (s : kept.State) (taking : Taking) (g : Group) : Type 0 where
-  pub moment : taking.t ≡ moment (state_of s) taking.now
-  pub place : taking.place < length s.groups.items
-  pub group : (d : Group) → slice_index_or s.groups.items taking.place d ≡ g
-  pub first : taken (state_of s) taking.t ≡ Some (group_state g)
-  pub due : taking.due ≡ taking.t + (route_of config g.name).group_interval
+pub record IsChosen (config : Config) (s : kept.State) (chosen : ChosenGroup) (g : Group) : Type 0 where
+  pub moment : chosen.t ≡ moment (state_of s) chosen.now
+  pub place : chosen.place < length s.groups.items
+  pub group : (d : Group) → slice_index_or s.groups.items chosen.place d ≡ g
+  pub first : taken (state_of s) chosen.t ≡ Some (group_state g)
+  pub due : chosen.due ≡ chosen.t + (route_of config g.name).group_interval
 
 -- how a begin ends for which nothing but memory can be wanting
 abbrev pub IsEnd : Config → ℕ → ℕ → ℕ → kept.State → kept.State → Result Begun Fault → Type 0

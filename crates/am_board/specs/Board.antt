@@ -7,14 +7,17 @@ use Rattle.am_board.specs.Group.{names_of, AreRouted}
 use Rattle.am_board.specs.Kept.{state_of, Agrees, IsPrepared}
 use Rattle.am_model.specs.Replay.{replay, IsLegal}
 
--- the history is legal, and the state is its replay; the limits hold; each group's route is there; each open flush has room in the history for its finish, and is prepared for it
+-- the history is legal, and the state is its replay; the limits hold; each group's route is there;
+-- each open flush has room in the history for its finish, and is prepared for it
 pub record IsSound (b : Inside) : Type 0 where
   pub limits : AreAllowed b.config.limits
   pub configured : config_fault b.config ≡ None
   pub children : length b.config.routes.children ≤ MAX_CHILDREN
   pub legal : IsLegal b.config b.id b.state.history.items
   pub agrees : Agrees (state_of b.state) (replay b.config b.state.history.items)
+  pub names : length (state_of b.state).known ≤ b.config.limits.names
   pub groups : length (state_of b.state).groups ≤ b.config.limits.groups
+  pub silences : length (state_of b.state).silences ≤ b.config.limits.silences
   pub opened : vec_len b.state.flushes ≤ b.config.limits.flushes
   pub kept : vec_len b.state.history + vec_len b.state.flushes ≤ b.config.limits.history
   pub room : vec_len b.state.history + vec_len b.state.flushes ≤ vec_capacity b.state.history

@@ -1,21 +1,24 @@
 -- What a finish and a note put into the log that is kept.
-use Rattle.std.specs.Prelude.{◌≡◌, ℕ, ◌+◌, ◌==◌, true, not, ◌&&◌, List, map, filter, fold, position, slice_set, slice_index_or, Option, Some, None, IsSome}
+use Rattle.std.specs.Prelude.{◌≡◌, ℕ, ◌+◌, ◌==◌, Bool, true, not, ◌&&◌, List}
+use Rattle.std.specs.Prelude.{map, filter, fold, position, slice_set, slice_index_or, Option, Some, None, IsSome}
 use Rattle.am_alerts.specs.declared.labels.Label.{Label}
 use Rattle.am_nflog.specs.Log.{Slots, is_known}
 use Rattle.am_nflog.specs.declared.key.LogKey.{LogKey}
 use Rattle.am_retry.specs.declared.outcome.Outcome.{Outcome}
 use Rattle.am_board.specs.declared.flush.Asked.{Asked}
+use Rattle.am_board.specs.declared.flush.LeavingAlert.{LeavingAlert}
 use Rattle.am_board.specs.declared.flush.OpenFlush.{OpenFlush}
-use Rattle.am_board.specs.declared.flush.Told.{Told}
+use Rattle.am_board.specs.declared.flush.ToldSets.{ToldSets}
 use Rattle.am_model.specs.declared.group.GroupName.{GroupName}
 use Rattle.am_model.specs.declared.views.RowView.{RowView}
-use Rattle.am_model.specs.Finish.{has_succeeded, log_with}
-use Rattle.am_board.specs.Kept.{asked_state_of}
+use Rattle.am_model.specs.Finish.{has_succeeded, is_leaving, log_with}
+use Rattle.am_model.specs.Lists.{without}
+use Rattle.am_board.specs.Kept.{asked_state_of, stamped}
 use Rattle.am_model.specs.Note.{is_ready}
-use Rattle.am_model.specs.State.{AskedState, same_name}
+use Rattle.am_model.specs.State.{AskedState, GroupState, MemberState, same_name}
 
 -- the row of a key that was told this at t and is kept for so long
-abbrev pub told_row : LogKey GroupName → Told → ℕ → ℕ → RowView
+abbrev pub told_row : LogKey GroupName → ToldSets → ℕ → ℕ → RowView
 told_row key told t kept_for =
     record {
       group = key.group;
@@ -38,6 +41,14 @@ logged_of outcomes asked = filter (λ a. has_succeeded outcomes a && not a.noted
 abbrev pub rows_with : OpenFlush → ℕ → List (ℕ × Outcome) → List Asked → List RowView → List RowView
 rows_with f t outcomes asked rows =
     fold (λ log a. log_with (row_for f t a.integration) log) rows (logged_of outcomes asked)
+
+-- whether a member leaves its group: all succeeded, and it stands there as one that was found resolved
+abbrev pub leaves_where : Bool → List LeavingAlert → MemberState → Bool
+leaves_where all_succeeded leaving m = all_succeeded && is_leaving (map stamped leaving) m
+
+-- a group without the members that leave it
+abbrev pub without_leaving : Bool → List LeavingAlert → GroupState → GroupState
+without_leaving all_succeeded leaving g = record g { members = without (leaves_where all_succeeded leaving) g.members }
 
 -- the same keys are known in two logs
 abbrev pub KnowTheSame : Slots GroupName (List Label) → Slots GroupName (List Label) → Type 0

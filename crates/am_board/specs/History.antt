@@ -1,5 +1,5 @@
 -- A board as contracts see it: its configuration, its id and its history.
-use Rattle.std.specs.Prelude.{◌≡◌, ℕ, List, [], ◌∷◌, ◌++◌, length, Some, Result, Ok, Err}
+use Rattle.std.specs.Prelude.{◌≡◌, ◌≤◌, ℕ, List, [], ◌∷◌, ◌++◌, length, Some, Result, Ok, Err}
 use Rattle.am_model.specs.declared.config.Config.{Config}
 use Rattle.am_model.specs.declared.record.Record.{Record}
 use Rattle.am_model.specs.declared.record.Call.{Call}
@@ -34,6 +34,13 @@ state_at board = replay board.config board.history
 -- how many calls a board has accepted
 abbrev pub calls_at : BoardData → ℕ
 calls_at board = length board.history
+
+-- a board's state has no more known alerts, groups, silences and open flushes than its limits
+pub record KeepsLimits (board : BoardData) : Type 0 where
+  pub names : length (state_at board).known ≤ board.config.limits.names
+  pub groups : length (state_at board).groups ≤ board.config.limits.groups
+  pub silences : length (state_at board).silences ≤ board.config.limits.silences
+  pub flushes : length (state_at board).flushes ≤ board.config.limits.flushes
 
 -- a call was told what the definitions give at the state of a board
 abbrev pub IsToldAt : BoardData → Call → Reply → Type 0

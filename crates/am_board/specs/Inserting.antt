@@ -1,5 +1,6 @@
 -- The placements of an insert: what they put into groups, and the room that they need.
-use Rattle.std.specs.Prelude.{◌≡◌, ℕ, ◌+◌, ◌≤◌, List, length, All, vec_len, vec_capacity}
+use Rattle.std.specs.List.{IsDistinct}
+use Rattle.std.specs.Prelude.{◌≡◌, ℕ, ◌+◌, ◌≤◌, ◌==◌, Option, List, length, position, All, vec_len, vec_capacity}
 use Rattle.am_alerts.specs.AlertData.{AlertData}
 use Rattle.am_alerts.specs.Route.{group_labels_of}
 use Rattle.am_alerts.specs.RoutingTree.{RoutingTree, route_at}
@@ -7,11 +8,32 @@ use Rattle.am_alerts.specs.declared.labels.Label.{Label}
 use Rattle.am_model.specs.declared.group.GroupName.{GroupName}
 use Rattle.am_alerts.specs.declared.limits.TheConstants.{MAX_DURATION}
 use Rattle.am_board.specs.declared.insert.Placement.{Placement}
+use Rattle.am_board.specs.declared.insert.Target.{Target}
 use Rattle.am_board.specs.declared.group.Group.{Group}
 use Rattle.am_board.specs.declared.state.State.{State}
 use Rattle.am_board.specs.Group.{names_of, HasRoom}
 use Rattle.am_board.specs.Kept.{member_state, state_of}
-use Rattle.am_model.specs.State.{MemberState}
+use Rattle.am_model.specs.State.{MemberState, same_name}
+
+-- the place of the group of a name
+abbrev pub place_in : GroupName → List Group → Option ℕ
+place_in name groups = position (λ g. same_name name g.name) groups
+
+-- the place of a group that an alert goes to was found: it is there, or there is none
+abbrev pub IsFound : List Group → Target → Type 0
+IsFound groups target = target.place ≡ place_in target.name groups
+
+-- the group that a placement goes to
+abbrev pub target_of : Placement → Target
+target_of p = record { name = p.name; place = p.place }
+
+-- the places of the groups that placements go to were found
+abbrev pub AreFound : List Group → List Placement → Type 0
+AreFound groups placements = All (λ p. IsFound groups (target_of p)) placements
+
+-- no two placements are of one route
+abbrev pub AreApart : List Placement → Type 0
+AreApart placements = IsDistinct (λ p q. p.name.route == q.name.route) placements
 
 -- the list for a group that has to be made has room for so many, and its name is there once more
 abbrev pub IsEmptyWithRoom : ℕ → Placement → Type 0

@@ -4,7 +4,7 @@ use Rattle.am_alerts.specs.declared.labels.Label.{Label}
 use Rattle.am_nflog.specs.Log.{Slots, is_known}
 use Rattle.am_model.specs.declared.config.Config.{Config}
 use Rattle.am_board.specs.declared.flush.Asked.{Asked}
-use Rattle.am_board.specs.declared.flush.Leaving.{Leaving}
+use Rattle.am_board.specs.declared.flush.LeavingAlert.{LeavingAlert}
 use Rattle.am_board.specs.declared.flush.OpenFlush.{OpenFlush}
 use Rattle.am_board.specs.declared.group.Group.{Group}
 use Rattle.am_model.specs.declared.group.GroupName.{GroupName}
@@ -27,7 +27,7 @@ abbrev pub asked_state_of : Asked → AskedState
 asked_state_of a = record { integration = a.key.integration; nothing = a.nothing; noted = is_none a.told }
 
 -- a kept alert that was resolved at its flush's begin
-abbrev pub stamped : Leaving → Stamped
+abbrev pub stamped : LeavingAlert → Stamped
 stamped l = record { labels = l.labels; stamp = l.stamp }
 
 -- a kept open flush

@@ -4,7 +4,6 @@ pub mod Faults
 pub mod Finishing
 pub mod Group
 pub mod GroupList
-pub mod Groups
 pub mod History
 pub mod Inserting
 pub mod Kept
@@ -12,4 +11,5 @@ pub mod Keyed
 pub mod Known
 pub mod LogRows
 pub mod Noting
+pub mod Outlook
 pub mod Step

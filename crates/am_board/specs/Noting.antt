@@ -2,13 +2,13 @@
 use Rattle.std.specs.Prelude.{◌≡◌, ℕ, ◌==◌, List, position, slice_get, slice_index_or, Some}
 use Rattle.std.specs.Option.{option_map}
 use Rattle.am_board.specs.declared.flush.OpenFlush.{OpenFlush}
-use Rattle.am_board.specs.declared.note.Noting.{Noting}
+use Rattle.am_board.specs.declared.note.NoteTarget.{NoteTarget}
 use Rattle.am_model.specs.Notice.{NoticeData}
 use Rattle.am_model.specs.Ticket.{TicketData, outcome_of}
 use Rattle.am_board.specs.Finishing.{IsReadyAt}
 
 -- the notice at a place of a ticket is of this integration, which was reported so; its flush is open, and asked it, and it may be noted
-pub record IsNoting (flushes : List OpenFlush) (ticket : TicketData) (place : ℕ) (n : Noting) : Type 0 where
+pub record IsNoteTarget (flushes : List OpenFlush) (ticket : TicketData) (place : ℕ) (n : NoteTarget) : Type 0 where
   pub first : position (λ f. f.number == ticket.number) flushes ≡ Some n.flush
   pub notice : option_map (λ (notice : NoticeData). notice.integration) (slice_get ticket.notices place) ≡ Some n.integration
   pub outcome : n.outcome ≡ outcome_of ticket.outcomes n.integration

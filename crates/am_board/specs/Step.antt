@@ -1,9 +1,10 @@
 -- What a call does to the state that is kept.
-use Rattle.std.specs.Prelude.{◌≡◌, ℕ, ◌+◌, ◌≤◌, ◌⊎◌, [], ◌∷◌, ◌++◌, Option, Some, None, All, vec_len, vec_capacity}
+use Rattle.std.specs.Prelude.{◌≡◌, ℕ, ◌+◌, ◌≤◌, ◌⊎◌, [], ◌∷◌, ◌++◌, Option, Some, None, Result, Ok, Err, All, vec_len, vec_capacity}
 use Rattle.am_alerts.specs.declared.limits.TheConstants.{MAX_DURATION}
 use Rattle.am_model.specs.declared.config.Config.{Config}
 use Rattle.am_model.specs.declared.fault.Fault.{Fault}
-use Rattle.am_model.specs.declared.fault.Fault.TheVariants.{NoMemory, TooManyNames, TooManyGroups, TooManySilences, TooManyOpen, HistoryFull}
+use Rattle.am_model.specs.declared.fault.Fault.TheVariants.{NoMemory, HistoryFull}
+use Rattle.am_model.specs.declared.fault.Fault.TheVariants.{TooManyNames, TooManyGroups, TooManySilences, TooManyOpen}
 use Rattle.am_model.specs.declared.fault.NoteFault.{NoteFault}
 use Rattle.am_model.specs.declared.fault.NoteFault.TheVariants as note
 use Rattle.am_board.specs.declared.state.State as kept
@@ -44,7 +45,8 @@ pub record Stays (config : Config) (old new : kept.State) : Type 0 where
   pub records : vec_len new.history ≡ vec_len old.history
   pub room : vec_len new.history + vec_len new.flushes ≤ vec_capacity new.history
 
--- a fault that may be answered where this is the first cause other than memory: it is that cause; where there is none memory was refused, and it may have been refused before groups or open flushes were counted
+-- a fault that may be answered where this is the first cause other than memory: it is that cause;
+-- where there is none memory was refused, and it may have been refused before groups or open flushes were counted
 abbrev pub IsAnswer : Option Fault → Fault → Type 0
 IsAnswer None fault = fault ≡ NoMemory
 IsAnswer (Some NoMemory) fault = fault ≡ NoMemory
@@ -54,7 +56,17 @@ IsAnswer (Some TooManySilences) fault = fault ≡ TooManySilences
 IsAnswer (Some TooManyOpen) fault = (fault ≡ TooManyOpen) ⊎ (fault ≡ NoMemory)
 IsAnswer (Some HistoryFull) fault = fault ≡ HistoryFull
 
+-- a result is caused by this first cause other than memory: accepted where there is none, else refused by a fault that may be answered
+abbrev pub IsCaused : {T : Type 0} → Option Fault → Result T Fault → Type 0
+IsCaused cause (Ok x) = cause ≡ None
+IsCaused cause (Err fault) = IsAnswer cause fault
+
 -- a fault that a note may be answered where this is the first cause other than memory
 abbrev pub IsNoteAnswer : Option NoteFault → NoteFault → Type 0
 IsNoteAnswer None fault = fault ≡ note.NoMemory
 IsNoteAnswer (Some cause) fault = fault ≡ cause
+
+-- the result of a note is caused so
+abbrev pub IsNoteCaused : {T : Type 0} → Option NoteFault → Result T NoteFault → Type 0
+IsNoteCaused cause (Ok x) = cause ≡ None
+IsNoteCaused cause (Err fault) = IsNoteAnswer cause fault

@@ -1,5 +1,6 @@
 //! Begins.
-ghost use Rattle.std.specs.Prelude.{◌≡◌, ◌≢◌, ℕ, ◌+◌, ◌<◌, ◌≤◌, [], None, length, map, slice_index_or, All, IfSome, IsTrue, MatchResult, OnOk, vec_len, vec_capacity};
+ghost use Rattle.std.specs.Prelude.{◌≡◌, ◌≢◌, ℕ, ◌+◌, ◌<◌, ◌≤◌, [], None, length, map, slice_index_or};
+ghost use Rattle.std.specs.Prelude.{All, IfSome, IsTrue, MatchResult, OnOk, vec_len, vec_capacity};
 ghost use Rattle.std.specs.Option.{option_map};
 ghost use Rattle.std.specs.Ordering.{is_gt};
 ghost use Rattle.am_alerts.specs.RoutingTree.{route_at};
@@ -12,9 +13,10 @@ ghost use Rattle.am_board.specs.History.{reply_of, IsFresh};
 ghost use Rattle.am_board.specs.Kept.{state_of, group_state, flush_state};
 ghost use Rattle.am_board.specs.LogRows.{log_rows};
 ghost use Rattle.am_model.specs.Lists.{lesser};
-ghost use Rattle.am_board.specs.Beginning.{IsOpening, may_take, first_of, IsFirst, IsTaking, IsEnd};
+ghost use Rattle.am_board.specs.Beginning.{IsPlannedFlush, may_take, first_of, IsFirst, IsChosen, IsEnd};
 ghost use Rattle.am_model.specs.State.{moment, same_name};
 ghost use Rattle.am_board.specs.Step.{IsGood, Accepts, Stays, IsAnswer};
+ghost use Rattle.am_model.specs.declared.config.TheConstants.{MAX_INTEGRATIONS};
 ghost use Rattle.am_model.specs.declared.config.Config.{Config as ConfigData};
 ghost use Rattle.am_board.specs.declared.group.Group.{Group};
 ghost use Rattle.am_model.specs.declared.group.GroupName.{GroupName};
@@ -23,7 +25,7 @@ use crate::config::Config;
 use crate::fault::Fault;
 use crate::flush::{OpenFlush, is_open};
 use crate::group::{Group, GroupName};
-use crate::opening::{Opening, plan};
+use crate::plan::{PlannedFlush, plan};
 use crate::record::{Call, Record, Reply};
 use crate::state::State;
 use crate::ticket::Ticket;
@@ -45,7 +47,7 @@ pub enum Begun {
 
 /// The group that a begin takes.
 #[derive(Clone, Copy)]
-pub(crate) struct Taking {
+pub(crate) struct ChosenGroup {
     pub(crate) pass: u32,
     pub(crate) now: u64,
     /// The moment of the call.
@@ -68,8 +70,10 @@ pub(crate) fn take_group(
 ) -> Result<Begun, Fault>
     requires good { IsGood config.now state.old }
     ensures { MatchResult result
-        (λ begun. (begin_cause config.now (vec_len state.old.history) (state_of state.old) (moment (state_of state.old) now) ≡ None) × Accepts config.now id (entry pass (Call.Begin now) (reply_of begun)) state.old state.new × IsFresh id begun)
-        (λ fault. IsAnswer (begin_cause config.now (vec_len state.old.history) (state_of state.old) (moment (state_of state.old) now)) fault × Stays config.now state.old state.new) }
+        (λ begun. (begin_cause config.now (vec_len state.old.history) (state_of state.old) (moment (state_of state.old) now) ≡ None)
+        × Accepts config.now id (entry pass (Call.Begin now) (reply_of begun)) state.old state.new × IsFresh id begun)
+        (λ fault. IsAnswer (begin_cause config.now (vec_len state.old.history) (state_of state.old) (moment (state_of state.old) now)) fault
+        × Stays config.now state.old state.new) }
 {
     if !state.has_room(2, config.limits.history) {
         return Err(Fault::HistoryFull);
@@ -79,16 +83,16 @@ pub(crate) fn take_group(
         return begin_nothing(state, pass, now, t);
     };
     let due = due_again(config, state.groups.at(place).name.route, t);
-    let taking = Taking {
+    let chosen = ChosenGroup {
         pass,
         now,
         t,
         place,
         due,
     };
-    match plan(alloc, config, id, state, taking)? {
-        None => begin_quiet(alloc, state, taking),
-        Some(opening) => begin_flush(alloc, id, state, taking, opening),
+    match plan(alloc, config, id, state, chosen)? {
+        None => begin_quiet(alloc, state, chosen),
+        Some(planned) => begin_flush(alloc, id, state, chosen, planned),
     }
 }
 
@@ -103,7 +107,8 @@ fn due_again(config: &Config, route: u32, t: u64) -> u64
 
 /// A begin for which no group is due.
 fn begin_nothing(state: &mut State, pass: u32, now: u64, t: u64) -> Result<Begun, Fault>
-    ensures { (config : ConfigData) (id : ℕ) → IsGood config state.old → t ≡ moment (state_of state.old) now → taken (state_of state.old) t ≡ None
+    ensures { (config : ConfigData) (id : ℕ) → IsGood config state.old
+        → t ≡ moment (state_of state.old) now → taken (state_of state.old) t ≡ None
         → IsEnd config id pass now state.old state.new result }
 {
     state.history.reserve(state.flushes.len() + 1)?;
@@ -117,21 +122,21 @@ fn begin_nothing(state: &mut State, pass: u32, now: u64, t: u64) -> Result<Begun
 }
 
 /// A begin that asks nobody.
-fn begin_quiet(alloc: Global, state: &mut State, taking: Taking) -> Result<Begun, Fault>
-    requires { taking.place < length state.old.groups.items }
-    ensures { (config : ConfigData) (id : ℕ) (g : Group) → IsGood config state.old → IsTaking config state.old taking g
-        → asked_of config (state_of state.old) taking.t (group_state g) ≡ []
-        → IsEnd config id taking.pass taking.now state.old state.new result }
+fn begin_quiet(alloc: Global, state: &mut State, chosen: ChosenGroup) -> Result<Begun, Fault>
+    requires { chosen.place < length state.old.groups.items }
+    ensures { (config : ConfigData) (id : ℕ) (g : Group) → IsGood config state.old → IsChosen config state.old chosen g
+        → asked_of config (state_of state.old) chosen.t (group_state g) ≡ []
+        → IsEnd config id chosen.pass chosen.now state.old state.new result }
 {
-    let name = state.groups.at(taking.place).name.copy(alloc)?;
+    let name = state.groups.at(chosen.place).name.copy(alloc)?;
     let recorded = name.copy(alloc)?;
     state.history.reserve(state.flushes.len() + 1)?;
 
-    state.clock = taking.t;
-    let removed = state.groups.begin_quiet(taking.place, taking.due, taking.t);
+    state.clock = chosen.t;
+    let removed = state.groups.begin_quiet(chosen.place, chosen.due, chosen.t);
     state.history.push_reserved(Record {
-        pass: taking.pass,
-        call: Call::Begin { now: taking.now },
+        pass: chosen.pass,
+        call: Call::Begin { now: chosen.now },
         reply: Reply::Quiet {
             group: recorded,
             removed,
@@ -148,42 +153,43 @@ fn begin_flush(
     alloc: Global,
     id: u64,
     state: &mut State,
-    taking: Taking,
-    opening: Opening,
+    chosen: ChosenGroup,
+    planned: PlannedFlush,
 ) -> Result<Begun, Fault>
-    requires place { taking.place < length state.old.groups.items }
-    requires none { vec_len opening.outcomes ≡ 0 }
-    requires room { vec_len opening.notices ≤ vec_capacity opening.outcomes }
-    ensures { (config : ConfigData) (g : Group) → IsGood config state.old → IsTaking config state.old taking g
-        → asked_of config (state_of state.old) taking.t (group_state g) ≢ []
-        → IsOpening config id (state_of state.old) taking.t (group_state g) opening
-        → IsEnd config id taking.pass taking.now state.old state.new result }
+    requires place { chosen.place < length state.old.groups.items }
+    requires none { vec_len planned.outcomes ≡ 0 }
+    requires room { vec_len planned.notices ≤ vec_capacity planned.outcomes }
+    requires few { vec_len planned.notices ≤ MAX_INTEGRATIONS }
+    ensures { (config : ConfigData) (g : Group) → IsGood config state.old → IsChosen config state.old chosen g
+        → asked_of config (state_of state.old) chosen.t (group_state g) ≢ []
+        → IsPlannedFlush config id (state_of state.old) chosen.t (group_state g) planned
+        → IsEnd config id chosen.pass chosen.now state.old state.new result }
 {
     state.history.reserve(state.flushes.len() + 2)?;
     state.flushes.reserve(1)?;
-    reserve_rows(alloc, &mut state.log, &opening.flush)?;
+    reserve_rows(alloc, &mut state.log, &planned.flush)?;
 
-    state.clock = taking.t;
-    state.groups.begin(taking.place, taking.due);
+    state.clock = chosen.t;
+    state.groups.begin(chosen.place, chosen.due);
     state.next_number = state.next_number.saturating_add(1);
-    state.flushes.push_reserved(opening.flush);
+    state.flushes.push_reserved(planned.flush);
     state.history.push_reserved(Record {
-        pass: taking.pass,
-        call: Call::Begin { now: taking.now },
+        pass: chosen.pass,
+        call: Call::Begin { now: chosen.now },
         reply: Reply::Flush {
-            number: opening.number,
-            group: opening.recorded_group,
-            deadline: opening.deadline,
-            notices: opening.recorded_notices,
+            number: planned.number,
+            group: planned.recorded_group,
+            deadline: planned.deadline,
+            notices: planned.recorded_notices,
         },
     });
     Ok(Begun::Flush(Ticket {
         desk: id,
-        number: opening.number,
-        group: opening.group,
-        deadline: opening.deadline,
-        notices: opening.notices,
-        outcomes: opening.outcomes,
+        number: planned.number,
+        group: planned.group,
+        deadline: planned.deadline,
+        notices: planned.notices,
+        outcomes: planned.outcomes,
     }))
 }
 
@@ -195,7 +201,8 @@ fn reserve_rows(
 ) -> Result<(), AllocError>
     ensures rows { log_rows log.new ≡ log_rows log.old }
     ensures known { (key : LogKey GroupName) → IsTrue (is_known same_name log.old key) → IsTrue (is_known same_name log.new key) }
-    ensures asked { OnOk result (All (λ a. a.key.group ≡ flush.now.group → IsTrue (is_known same_name log.new a.key)) flush.now.asked.items) }
+    ensures asked { OnOk result
+        (All (λ a. a.key.group ≡ flush.now.group → IsTrue (is_known same_name log.new a.key)) flush.now.asked.items) }
 {
     for asked in flush.asked.as_slice() {
         log.reserve(LogKey {
@@ -207,7 +214,7 @@ fn reserve_rows(
 }
 
 /// The place of the group to take at `t`.
-fn first_due(groups: &[Group], flushes: &[OpenFlush], t: u64) -> Option<usize>
+pub(crate) fn first_due(groups: &[Group], flushes: &[OpenFlush], t: u64) -> Option<usize>
     ensures within { IfSome result (λ i. i < length groups.now) }
     ensures first { IsFirst groups.now result (first_of (map flush_state flushes.now) t (map group_state groups.now)) }
 {
@@ -232,7 +239,9 @@ fn earlier(groups: &[Group], i: usize, other: Option<usize>) -> usize
     requires here { i < length groups.now }
     requires there { IfSome other (λ j. j < length groups.now) }
     ensures within { result < length groups.now }
-    ensures lesser { (d : Group) → group_state (slice_index_or groups.now result d) ≡ lesser due_cmp (group_state (slice_index_or groups.now i d)) (option_map (λ j. group_state (slice_index_or groups.now j d)) other) }
+    ensures lesser { (d : Group) → group_state (slice_index_or groups.now result d)
+        ≡ lesser due_cmp (group_state (slice_index_or groups.now i d))
+        (option_map (λ j. group_state (slice_index_or groups.now j d)) other) }
 {
     match other {
         None => i,

@@ -1,15 +1,16 @@
 //! The dispatcher of one thread.
-ghost use Rattle.std.specs.Prelude.{◌≡◌, ◌≢◌, ◌≤◌, ◌↔◌, None, Some, length, IfOk, IfErr, OnOk, OnErr, MatchResult, IsErrOf};
+ghost use Rattle.std.specs.Prelude.{◌≡◌, ◌≢◌, ◌≤◌, ◌↔◌, None, Some, length, IfOk, IfErr, OnOk, OnErr, IsErrOf};
 ghost use Rattle.std.specs.Option.{option_map};
 ghost use Rattle.am_alerts.specs.Fault.{ok_unless};
 ghost use Rattle.am_model.specs.Causes.{insert_cause, silence_cause, begin_cause, maintain_cause, note_cause};
 ghost use Rattle.am_model.specs.Config.{AreAllowed, config_fault};
-ghost use Rattle.am_board.specs.History.{opening, state_at, calls_at, IsToldAt, with_record, reply_of, IsFresh, HandsBack, IsForeign, IsNotOpen};
+ghost use Rattle.am_board.specs.History.{opening, state_at, calls_at, KeepsLimits, IsToldAt, with_record, reply_of, IsFresh};
+ghost use Rattle.am_board.specs.History.{HandsBack, IsForeign, IsNotOpen};
 ghost use Rattle.am_model.specs.Records.{entry, call_of_silence, IsNoteOf};
 ghost use Rattle.am_model.specs.look_back.Laws.{LooksBack};
 ghost use Rattle.am_model.specs.Replay.{IsLegal};
 ghost use Rattle.am_model.specs.State.{moment, flush_numbered};
-ghost use Rattle.am_board.specs.Step.{IsAnswer, IsNoteAnswer};
+ghost use Rattle.am_board.specs.Step.{IsCaused, IsNoteCaused};
 
 use crate::begin::{Begun, take_group};
 use crate::config::Config;
@@ -80,11 +81,10 @@ impl Board {
         now: u64,
         alert: Alert,
     ) -> Result<Inserted, Fault>
-        ensures recorded { IfOk result (λ inserted. self.new ≡ with_record self.old (entry pass (Call.Insert now alert) (Reply.Inserted inserted))) }
+        ensures recorded { IfOk result
+            (λ inserted. self.new ≡ with_record self.old (entry pass (Call.Insert now alert) (Reply.Inserted inserted))) }
         ensures told { IfOk result (λ inserted. IsToldAt self.old (Call.Insert now alert) (Reply.Inserted inserted)) }
-        ensures cause { MatchResult result
-            (λ _. insert_cause self.old.config (calls_at self.old) (state_at self.old) alert ≡ None)
-            (IsAnswer (insert_cause self.old.config (calls_at self.old) (state_at self.old) alert)) }
+        ensures cause { IsCaused (insert_cause self.old.config (calls_at self.old) (state_at self.old) alert) result }
         ensures refused { OnErr result (self.new ≡ self.old) }
     {
         put_alert(alloc, &self.config, &mut self.state, pass, now, alert)
@@ -101,11 +101,10 @@ impl Board {
         now: u64,
         silence: Silence,
     ) -> Result<Silenced, Fault>
-        ensures recorded { IfOk result (λ silenced. self.new ≡ with_record self.old (entry pass (call_of_silence now silence) (Reply.Silenced silenced))) }
+        ensures recorded { IfOk result
+            (λ silenced. self.new ≡ with_record self.old (entry pass (call_of_silence now silence) (Reply.Silenced silenced))) }
         ensures told { IfOk result (λ silenced. IsToldAt self.old (call_of_silence now silence) (Reply.Silenced silenced)) }
-        ensures cause { MatchResult result
-            (λ _. silence_cause self.old.config (calls_at self.old) (state_at self.old) silence ≡ None)
-            (IsAnswer (silence_cause self.old.config (calls_at self.old) (state_at self.old) silence)) }
+        ensures cause { IsCaused (silence_cause self.old.config (calls_at self.old) (state_at self.old) silence) result }
         ensures refused { OnErr result (self.new ≡ self.old) }
     {
         put_silence(alloc, &self.config, &mut self.state, pass, now, silence)
@@ -121,9 +120,7 @@ impl Board {
         ensures recorded { IfOk result (λ begun. self.new ≡ with_record self.old (entry pass (Call.Begin now) (reply_of begun))) }
         ensures told { IfOk result (λ begun. IsToldAt self.old (Call.Begin now) (reply_of begun)) }
         ensures fresh { IfOk result (IsFresh self.old.id) }
-        ensures cause { MatchResult result
-            (λ _. begin_cause self.old.config (calls_at self.old) (state_at self.old) (moment (state_at self.old) now) ≡ None)
-            (IsAnswer (begin_cause self.old.config (calls_at self.old) (state_at self.old) (moment (state_at self.old) now))) }
+        ensures cause { let s = state_at self.old in IsCaused (begin_cause self.old.config (calls_at self.old) s (moment s now)) result }
         ensures refused { OnErr result (self.new ≡ self.old) }
     {
         take_group(alloc, &self.config, self.id, &mut self.state, pass, now)
@@ -142,10 +139,10 @@ impl Board {
         place: usize,
         now: u64,
     ) -> Result<Noted, NoteFault>
-        ensures noted { OnOk result ((r : Record) × IsNoteOf pass now ticket.now place r × (self.new ≡ with_record self.old r) × IsToldAt self.old r.call r.reply) }
-        ensures cause { MatchResult result
-            (λ _. note_cause self.old.config self.old.id (calls_at self.old) (state_at self.old) ticket.now place ≡ None)
-            (IsNoteAnswer (note_cause self.old.config self.old.id (calls_at self.old) (state_at self.old) ticket.now place)) }
+        ensures noted { OnOk result
+            ((r : Record) × IsNoteOf pass now ticket.now place r × (self.new ≡ with_record self.old r) × IsToldAt self.old r.call r.reply) }
+        ensures cause { IsNoteCaused
+            (note_cause self.old.config self.old.id (calls_at self.old) (state_at self.old) ticket.now place) result }
         ensures refused { OnErr result (self.new ≡ self.old) }
         ensures foreign { IsErrOf result NoteFault.Foreign ↔ (ticket.now.desk ≢ self.old.id) }
     {
@@ -161,10 +158,13 @@ impl Board {
     ///
     /// Refused in this order: `Foreign`, which hands the ticket back, and `NotOpen`.
     pub fn finish(&mut self, pass: u32, ticket: Ticket, now: u64) -> Result<Finished, FinishFault>
-        ensures recorded { IfOk result (λ finished. self.new ≡ with_record self.old (entry pass (Call.Finish now ticket.number ticket.outcomes) (Reply.Finished finished))) }
-        ensures told { IfOk result (λ finished. IsToldAt self.old (Call.Finish now ticket.number ticket.outcomes) (Reply.Finished finished)) }
+        ensures recorded { IfOk result (λ finished.
+            self.new ≡ with_record self.old (entry pass (Call.Finish now ticket.number ticket.outcomes) (Reply.Finished finished))) }
+        ensures told { IfOk result
+            (λ finished. IsToldAt self.old (Call.Finish now ticket.number ticket.outcomes) (Reply.Finished finished)) }
         ensures foreign { IsForeign result ↔ (ticket.desk ≢ self.old.id) }
-        ensures not_open { IsNotOpen result ↔ ((ticket.desk ≡ self.old.id) × (flush_numbered (state_at self.old).flushes ticket.number ≡ None)) }
+        ensures not_open { IsNotOpen result
+            ↔ ((ticket.desk ≡ self.old.id) × (flush_numbered (state_at self.old).flushes ticket.number ≡ None)) }
         ensures refused { OnErr result (self.new ≡ self.old) }
         ensures handed_back { IfErr result (HandsBack ticket) }
     {
@@ -189,11 +189,10 @@ impl Board {
     ///
     /// Refused in this order: `HistoryFull`, `NoMemory` (for the record). A refusal changes nothing.
     pub fn maintain(&mut self, _alloc: Global, pass: u32, now: u64) -> Result<Maintained, Fault>
-        ensures recorded { IfOk result (λ maintained. self.new ≡ with_record self.old (entry pass (Call.Maintain now) (Reply.Maintained maintained))) }
+        ensures recorded { IfOk result
+            (λ maintained. self.new ≡ with_record self.old (entry pass (Call.Maintain now) (Reply.Maintained maintained))) }
         ensures told { IfOk result (λ maintained. IsToldAt self.old (Call.Maintain now) (Reply.Maintained maintained)) }
-        ensures cause { MatchResult result
-            (λ _. maintain_cause self.old.config (calls_at self.old) (state_at self.old) ≡ None)
-            (IsAnswer (maintain_cause self.old.config (calls_at self.old) (state_at self.old))) }
+        ensures cause { IsCaused (maintain_cause self.old.config (calls_at self.old) (state_at self.old)) result }
         ensures refused { OnErr result (self.new ≡ self.old) }
     {
         sweep(&self.config, &mut self.state, pass, now)
@@ -201,20 +200,23 @@ impl Board {
 
     /// The calls that were accepted, in their order. The history is legal, and looking back from its
     /// end finds the alerts and the rows that `groups` and `rows` show, and why each begin asked whom it
-    /// asked (`law::legal_histories_look_back`).
+    /// asked (`law::legal_histories_look_back`). It has no more records than the limits, and the state
+    /// after it no more known alerts, groups, silences and open flushes.
     pub fn history(&self) -> &[Record]
         ensures history { result.now ≡ self.now.history }
         ensures legal { IsLegal self.now.config self.now.id self.now.history }
         ensures looks_back { LooksBack self.now.config self.now.history }
         ensures within { length self.now.history ≤ self.now.config.limits.history }
+        ensures limits { KeepsLimits self.now }
     {
         self.state.history.as_slice()
     }
 
-    /// The configuration.
+    /// The configuration, which `Config::check` accepts.
     pub fn config(&self) -> &Config
         ensures config { result.now ≡ self.now.config }
         ensures limits { AreAllowed self.now.config.limits }
+        ensures faultless { config_fault self.now.config ≡ None }
     {
         &self.config
     }

@@ -1,6 +1,6 @@
 //! Why calls of a dispatcher are refused.
 ghost use Rattle.std.specs.Prelude.{◌≡◌};
-ghost use Rattle.am_board.specs.Faults.{finish_fault_number};
+ghost use Rattle.am_board.specs.Faults.{finish_fault_number, FinishFaultsAre};
 
 use crate::ticket::Ticket;
 pub use am_model::fault::{BoardFault, Fault, NoteFault, ReportFault};
@@ -24,3 +24,9 @@ impl FinishFault {
         }
     }
 }
+
+/// Which number each fault of a finish has; those of the other faults are told by
+/// `law::fault_numbers_are`.
+pub fn finish_fault_numbers_are()
+    ensures { FinishFaultsAre }
+{}

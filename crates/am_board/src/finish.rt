@@ -1,22 +1,23 @@
 //! Finishes.
-ghost use Rattle.std.specs.Prelude.{◌≡◌, ℕ, ◌+◌, ◌<◌, ◌^◌, ◌==◌, ◌&&◌, not, List, [], ◌∷◌, length, map, count_by, slice_index_or, vec_len, IsTrue, All, IsPermutation};
+ghost use Rattle.std.specs.Prelude.{◌≡◌, ℕ, ◌+◌, ◌<◌, ◌^◌, ◌==◌, ◌&&◌, not, List, [], ◌∷◌};
+ghost use Rattle.std.specs.Prelude.{length, map, count_by, slice_index_or, vec_len, IsTrue, All, IsPermutation};
 ghost use Rattle.std.specs.List.{list_all, list_any, IsDistinct};
 ghost use Rattle.am_alerts.specs.Labels.{same_label_set};
 ghost use Rattle.am_nflog.specs.Log.{is_known};
-ghost use Rattle.am_model.specs.Finish.{has_succeeded as succeeds, is_delivered as says_delivered, is_leaving, leaves_by, finished_group, log_with};
+ghost use Rattle.am_model.specs.Finish.{has_succeeded as succeeds, is_delivered as says_delivered, is_leaving, log_with};
 ghost use Rattle.am_board.specs.Group.{names_of};
 ghost use Rattle.am_model.specs.Records.{entry};
 ghost use Rattle.am_model.specs.Insert.{same_group};
 ghost use Rattle.am_board.specs.Kept.{IsAsked, asked_state_of, member_state, stamped, group_state, flush_state};
 ghost use Rattle.am_board.specs.LogRows.{log_rows};
 ghost use Rattle.am_model.specs.Lists.{without, changed_where};
-ghost use Rattle.am_board.specs.Finishing.{told_row, logged_of, rows_with, KnowTheSame};
+ghost use Rattle.am_board.specs.Finishing.{told_row, logged_of, rows_with, leaves_where, without_leaving, KnowTheSame};
 ghost use Rattle.am_model.specs.State.{same_name, is_named, members_in};
 ghost use Rattle.am_board.specs.Step.{IsGood, Accepts};
 ghost use Rattle.am_model.specs.declared.config.Config.{Config as ConfigData};
 ghost use Rattle.am_model.specs.declared.views.RowView.{RowView};
 
-use crate::flush::{Asked, Leaving, OpenFlush, Told};
+use crate::flush::{Asked, LeavingAlert, OpenFlush, ToldSets};
 use crate::group::{Group, GroupName, Member};
 use crate::groups::Groups;
 use crate::record::{Call, Finished, Record, Reply};
@@ -39,15 +40,26 @@ pub(crate) fn finish_flush(
     requires good { (config : ConfigData) × IsGood config state.old }
     ensures closed { vec_len state.new.flushes + 1 ≡ vec_len state.old.flushes }
     ensures accepted { (config : ConfigData) → IsGood config state.old → (id : ℕ) → (o : OpenFlush)
-        → Accepts config id (entry pass (Call.Finish now (slice_index_or state.old.flushes.items f o).number outcomes.items) (Reply.Finished result)) state.old state.new }
+        → Accepts config id
+        (entry pass (Call.Finish now (slice_index_or state.old.flushes.items f o).number outcomes.items) (Reply.Finished result))
+        state.old state.new }
 {
     let t = state.moment(now);
     state.clock = t;
-    let flush = state.flushes.remove(f);
-    let number = flush.number;
-    let removed = take_out(&mut state.groups, &flush, outcomes.as_slice());
-    let logged = log_rest(&mut state.log, flush, outcomes.as_slice(), t);
-    let finished = Finished { logged, removed };
+    let OpenFlush {
+        number,
+        group,
+        kept_for,
+        asked,
+        told: _,
+        leaving,
+    } = state.flushes.remove(f);
+    let successes = log_rest(&mut state.log, asked, outcomes.as_slice(), kept_for, t);
+    let removed = take_out(&mut state.groups, &group, leaving.as_slice(), successes.all);
+    let finished = Finished {
+        logged: successes.logged,
+        removed,
+    };
     let call = Call::Finish {
         now,
         number,
@@ -58,62 +70,66 @@ pub(crate) fn finish_flush(
     finished
 }
 
-/// Logs each success of a flush that wasn't noted, and answers how many.
-fn log_rest(
-    log: &mut NfLog<GroupName, Labels>,
-    flush: OpenFlush,
-    outcomes: &[(u32, Outcome)],
-    t: u64,
-) -> usize
-    requires asked { All (IsAsked log.old flush) flush.asked.items }
-    requires fits { t + flush.kept_for < 2 ^ 64 }
-    ensures known { KnowTheSame log.new log.old }
-    ensures count { result ≡ length (logged_of outcomes.now flush.asked.items) }
-    ensures rows { IsPermutation (log_rows log.new) (rows_with flush t outcomes.now flush.asked.items (log_rows log.old)) }
-{
-    let OpenFlush {
-        number: _,
-        group: _,
-        kept_for,
-        asked,
-        told: _,
-        leaving: _,
-    } = flush;
-    let mut logged: usize = 0;
-    for one in asked {
-        logged += log_one(log, one, outcomes, kept_for, t);
-    }
-    logged
+/// How it went for the integrations that a flush asked.
+#[derive(Clone, Copy)]
+struct Successes {
+    /// How many successes were logged.
+    logged: usize,
+    /// Whether every integration succeeded.
+    all: bool,
 }
 
-/// Logs the success of an integration that was asked, if it succeeded and wasn't noted, and answers
-/// how many rows that makes.
-fn log_one(
+/// Logs each success that wasn't noted, and answers how many, and whether all succeeded.
+fn log_rest(
     log: &mut NfLog<GroupName, Labels>,
-    asked: Asked,
+    asked: Vec<Asked>,
     outcomes: &[(u32, Outcome)],
     kept_for: u64,
     t: u64,
-) -> usize
+) -> Successes
+    requires known { All (λ a. IsTrue (is_known same_name log.old a.key)) asked.items }
+    requires fits { t + kept_for < 2 ^ 64 }
+    ensures known { KnowTheSame log.new log.old }
+    ensures count { result.logged ≡ length (logged_of outcomes.now asked.items) }
+    ensures all { result.all ≡ list_all (λ a. succeeds outcomes.now (asked_state_of a)) asked.items }
+    ensures rows { (f : OpenFlush) → f.kept_for ≡ kept_for → All (IsAsked log.old f) asked.items
+        → IsPermutation (log_rows log.new) (rows_with f t outcomes.now asked.items (log_rows log.old)) }
+{
+    let mut logged: usize = 0;
+    let mut all = true;
+    for one in asked {
+        if has_succeeded(&one, outcomes) {
+            logged += log_one(log, one, kept_for, t);
+        } else {
+            all = false;
+        }
+    }
+    Successes { logged, all }
+}
+
+/// Logs the success of an integration that was asked, unless it was noted, and answers how many rows
+/// that makes.
+fn log_one(log: &mut NfLog<GroupName, Labels>, asked: Asked, kept_for: u64, t: u64) -> usize
     requires known { IsTrue (is_known same_name log.old asked.key) }
     requires fits { t + kept_for < 2 ^ 64 }
     ensures known { KnowTheSame log.new log.old }
-    ensures count { result ≡ length (logged_of outcomes.now (asked ∷ [])) }
-    ensures rows { (f : OpenFlush) → f.kept_for ≡ kept_for → IsAsked log.old f asked → (rows : List RowView) → IsPermutation (log_rows log.old) rows
-        → IsPermutation (log_rows log.new) (rows_with f t outcomes.now (asked ∷ []) rows) }
+    ensures count { (outcomes : List (ℕ × Outcome)) → IsTrue (succeeds outcomes (asked_state_of asked))
+        → result ≡ length (logged_of outcomes (asked ∷ [])) }
+    ensures rows { (outcomes : List (ℕ × Outcome)) → IsTrue (succeeds outcomes (asked_state_of asked))
+        → (f : OpenFlush) → f.kept_for ≡ kept_for → IsAsked log.old f asked → (rows : List RowView) → IsPermutation (log_rows log.old) rows
+        → IsPermutation (log_rows log.new) (rows_with f t outcomes (asked ∷ []) rows) }
 {
-    let succeeded = has_succeeded(&asked, outcomes);
     let Asked {
         key,
         nothing: _,
         told,
     } = asked;
     match told {
-        Some(told) if succeeded => {
+        Some(told) => {
             put_told(log, &key, told, kept_for, t);
             1
         }
-        _ => 0,
+        None => 0,
     }
 }
 
@@ -121,51 +137,53 @@ fn log_one(
 pub(crate) fn put_told(
     log: &mut NfLog<GroupName, Labels>,
     key: &LogKey<GroupName>,
-    told: Told,
+    told: ToldSets,
     kept_for: u64,
     t: u64,
 )
     requires known { IsTrue (is_known same_name log.old key.now) }
     requires fits { t + kept_for < 2 ^ 64 }
     ensures known { KnowTheSame log.new log.old }
-    ensures rows { (rows : List RowView) → IsPermutation (log_rows log.old) rows → IsPermutation (log_rows log.new) (log_with (told_row key.now told t kept_for) rows) }
+    ensures rows { (rows : List RowView) → IsPermutation (log_rows log.old) rows
+        → IsPermutation (log_rows log.new) (log_with (told_row key.now told t kept_for) rows) }
 {
     log.put(key, told.into_row(t, kept_for));
 }
 
 /// Takes the alerts that were resolved at the begin out of their group if every integration that was
 /// asked succeeded, and answers how many.
-fn take_out(groups: &mut Groups, flush: &OpenFlush, outcomes: &[(u32, Outcome)]) -> usize
+fn take_out(
+    groups: &mut Groups,
+    name: &GroupName,
+    leaving: &[LeavingAlert],
+    all_succeeded: bool,
+) -> usize
     ensures names { names_of groups.new.items ≡ names_of groups.old.items }
     ensures groups { IsDistinct same_group (map group_state groups.old.items)
-        → map group_state groups.new.items ≡ changed_where (is_named flush.now.group) (finished_group outcomes.now (flush_state flush.now)) (map group_state groups.old.items) }
-    ensures count { result ≡ count_by (leaves_by outcomes.now (flush_state flush.now)) (members_in (map group_state groups.old.items) flush.now.group) }
+        → map group_state groups.new.items
+        ≡ changed_where (is_named name.now) (without_leaving all_succeeded leaving.now) (map group_state groups.old.items) }
+    ensures count { result ≡ count_by (leaves_where all_succeeded leaving.now) (members_in (map group_state groups.old.items) name.now) }
 {
-    if !have_succeeded(flush.asked.as_slice(), outcomes) {
+    if !all_succeeded {
         return 0;
     }
-    match groups.find(&flush.group) {
+    match groups.find(name) {
         None => 0,
-        Some(i) => groups.take_leaving(i, flush.leaving.as_slice()),
+        Some(i) => groups.take_leaving(i, leaving),
     }
 }
 
 /// Takes the alerts out of a group that stand there as they did when they were found resolved, and
 /// answers how many.
-pub(crate) fn take_leaving(group: &mut Group, leaving: &[Leaving]) -> usize
-    ensures group { group_state group.new ≡ record (group_state group.old) { members = without (is_leaving (map stamped leaving.now)) (map member_state group.old.members.items) } }
+pub(crate) fn take_leaving(group: &mut Group, leaving: &[LeavingAlert]) -> usize
+    ensures group { group_state group.new ≡ record (group_state group.old) {
+      members = without (is_leaving (map stamped leaving.now)) (map member_state group.old.members.items);
+    } }
     ensures count { result ≡ count_by (is_leaving (map stamped leaving.now)) (map member_state group.old.members.items) }
 {
     let before = group.members.len();
     group.members.retain(|member| !leaves(leaving, member));
     before - group.members.len()
-}
-
-/// Whether all integrations that were asked succeeded.
-fn have_succeeded(asked: &[Asked], outcomes: &[(u32, Outcome)]) -> bool
-    ensures { result ≡ list_all (λ a. succeeds outcomes.now (asked_state_of a)) asked.now }
-{
-    asked.iter().all(|asked| has_succeeded(asked, outcomes))
 }
 
 /// Whether an integration that was asked succeeded.
@@ -188,14 +206,14 @@ pub(crate) fn is_delivered(outcome: Option<Outcome>) -> bool
 }
 
 /// Whether a member stands in its group as it did when it was found resolved.
-fn leaves(leaving: &[Leaving], member: &Member) -> bool
+fn leaves(leaving: &[LeavingAlert], member: &Member) -> bool
     ensures { result ≡ list_any (λ l. same_label_set l.labels member.now.alert.labels && (l.stamp == member.now.stamp)) leaving.now }
 {
     leaving.iter().any(|l| stands_as(l, member))
 }
 
 /// Whether a member has the labels and the stamp of one that was found resolved.
-fn stands_as(l: &Leaving, member: &Member) -> bool
+fn stands_as(l: &LeavingAlert, member: &Member) -> bool
     ensures { result ≡ (same_label_set l.now.labels member.now.alert.labels && (l.now.stamp == member.now.stamp)) }
 {
     l.labels == *member.alert.labels() && l.stamp == member.stamp

@@ -1,15 +1,17 @@
 //! Open flushes.
-ghost use Rattle.std.specs.Prelude.{◌≡◌, ◌+◌, ◌<◌, ◌==◌, ◌^◌, length, position, IfSome};
+ghost use Rattle.std.specs.Prelude.{◌≡◌, ◌+◌, ◌<◌, ◌==◌, ◌^◌, length, position, IfOk, IfSome};
 ghost use Rattle.std.specs.List.{list_any};
 ghost use Rattle.am_model.specs.State.{same_name};
 
 use crate::group::GroupName;
 use am_alerts::labels::Labels;
 use am_nflog::{LogKey, LogRow, Members};
+use std::alloc::AllocError;
 
-/// The label sets of a flush: those that fire and those that are resolved.
+/// The label sets of a flush: those that fire and those that are resolved. A begin makes them once;
+/// the flush, its asked integrations and their log rows share them.
 #[derive(Debug, Drop)]
-pub(crate) struct Told {
+pub(crate) struct ToldSets {
     pub(crate) firing: Members<Labels>,
     pub(crate) resolved: Members<Labels>,
 }
@@ -19,12 +21,12 @@ pub(crate) struct Told {
 pub(crate) struct Asked {
     pub(crate) key: LogKey<GroupName>,
     pub(crate) nothing: bool,
-    pub(crate) told: Option<Told>,
+    pub(crate) told: Option<ToldSets>,
 }
 
 /// An alert that was resolved when the flush began, as it stood in the group.
 #[derive(Debug, Drop)]
-pub(crate) struct Leaving {
+pub(crate) struct LeavingAlert {
     pub(crate) labels: Labels,
     pub(crate) stamp: u64,
 }
@@ -37,16 +39,27 @@ pub(crate) struct OpenFlush {
     /// How long the rows of this flush are kept, in milliseconds.
     pub(crate) kept_for: u64,
     pub(crate) asked: Vec<Asked>,
-    pub(crate) told: Told,
-    pub(crate) leaving: Vec<Leaving>,
+    pub(crate) told: ToldSets,
+    pub(crate) leaving: Vec<LeavingAlert>,
 }
 
-impl Told {
+impl ToldSets {
+    /// One more owner of the same label sets. It takes no memory.
+    pub(crate) fn share(&self) -> Result<ToldSets, AllocError>
+        ensures { IfOk result (λ told. told ≡ self.now) }
+    {
+        Ok(ToldSets {
+            firing: self.firing.share()?,
+            resolved: self.resolved.share()?,
+        })
+    }
+
     /// The row of an integration that was told this at `t`.
     pub(crate) fn into_row(self, t: u64, kept_for: u64) -> LogRow<Labels>
-        ensures { t + kept_for < 2 ^ 64 → result ≡ record { moment = t; firing = self.firing; resolved = self.resolved; expiry = t + kept_for } }
+        ensures { t + kept_for < 2 ^ 64
+            → result ≡ record { moment = t; firing = self.firing; resolved = self.resolved; expiry = t + kept_for } }
     {
-        let Told { firing, resolved } = self;
+        let ToldSets { firing, resolved } = self;
         LogRow {
             moment: t,
             firing,

@@ -1,5 +1,6 @@
 //! Aggregation groups.
-ghost use Rattle.std.specs.Prelude.{◌≡◌, ◌+◌, ◌<◌, ◌≤◌, ◌&&◌, length, map, min, nat_lt, not, position, true, if◌then◌else◌, vec_len, vec_capacity, IfSome, OnOk};
+ghost use Rattle.std.specs.Prelude.{◌≡◌, ◌+◌, ◌<◌, ◌≤◌, ◌&&◌, length, map, min};
+ghost use Rattle.std.specs.Prelude.{nat_lt, not, position, true, if◌then◌else◌, vec_len, vec_capacity, IfSome, OnOk};
 ghost use Rattle.am_alerts.specs.Labels.{same_label_set};
 ghost use Rattle.am_model.specs.Begin.{count_resolved, without_resolved};
 ghost use Rattle.am_board.specs.Group.{Fits, IsReserved};
@@ -39,7 +40,8 @@ impl Group {
         ensures name { self.new.name ≡ self.old.name }
         ensures len { vec_len self.new.members ≤ vec_len self.old.members + 1 }
         ensures capacity { vec_capacity self.new.members ≡ vec_capacity self.old.members }
-        ensures state { (config : Config) → wait ≡ wait_of config self.old.name → group_state self.new ≡ group_with config t (member_state member) (group_state self.old) }
+        ensures state { (config : Config) → wait ≡ wait_of config self.old.name
+            → group_state self.new ≡ group_with config t (member_state member) (group_state self.old) }
     {
         let started = member.alert.starts();
         self.put(member);
@@ -52,7 +54,8 @@ impl Group {
         ensures name { self.new.name ≡ self.old.name }
         ensures due { self.new.due ≡ self.old.due }
         ensures flushed { self.new.flushed ≡ self.old.flushed }
-        ensures members { map member_state self.new.members.items ≡ put_in same_member (member_state member) (map member_state self.old.members.items) }
+        ensures members { map member_state self.new.members.items
+            ≡ put_in same_member (member_state member) (map member_state self.old.members.items) }
         ensures len { vec_len self.new.members ≤ vec_len self.old.members + 1 }
         ensures capacity { vec_capacity self.new.members ≡ vec_capacity self.old.members }
     {

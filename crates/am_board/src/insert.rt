@@ -1,5 +1,6 @@
 //! Inserts.
-ghost use Rattle.std.specs.Prelude.{◌≡◌, ℕ, suc, ◌+◌, ◌<◌, ◌≤◌, count_by, false, fold, is_none, length, map, position, None, IfSome, IfOk, IfErr, OnOk, All, MatchResult, vec_len, vec_capacity};
+ghost use Rattle.std.specs.Prelude.{◌≡◌, ℕ, suc, ◌+◌, ◌<◌, ◌≤◌, count_by, false, fold, is_none, length, map, position, None, All};
+ghost use Rattle.std.specs.Prelude.{IfSome, IfOk, IfErr, OnOk, MatchResult, vec_len, vec_capacity};
 ghost use Rattle.am_alerts.specs.RoutingTree.{RoutingTree, routes_of};
 ghost use Rattle.am_board.specs.Group.{names_of, AreRouted, AddsAtMost, HasRoom};
 ghost use Rattle.am_model.specs.Causes.{insert_cause, is_full, is_name_too_many};
@@ -7,7 +8,9 @@ ghost use Rattle.am_model.specs.Records.{entry};
 ghost use Rattle.am_model.specs.Insert.{same_alert, put_into_group, names_for, after_insert};
 ghost use Rattle.am_board.specs.Kept.{state_of, member_state, group_state};
 ghost use Rattle.am_board.specs.Step.{IsGood, Accepts, Stays, IsAnswer};
-ghost use Rattle.am_board.specs.Inserting.{IsReservedState, IsReadyFor, IsEmptyWithRoom, HaveRoom, AreRoutedPlacements, IsPlacementOf, name_at, stamped_alert};
+ghost use Rattle.std.specs.List.{IsDistinct};
+ghost use Rattle.am_board.specs.Inserting.{IsFound, AreFound, AreApart, target_of, IsReservedState, IsReadyFor, IsEmptyWithRoom, HaveRoom};
+ghost use Rattle.am_board.specs.Inserting.{AreRoutedPlacements, IsPlacementOf, name_at, stamped_alert};
 ghost use Rattle.am_model.specs.State.{MemberState, same_name};
 ghost use Rattle.am_alerts.specs.declared.limits.TheConstants.{MAX_MOMENT};
 ghost use Rattle.am_model.specs.declared.config.Config.{Config};
@@ -24,10 +27,20 @@ use am_alerts::labels::Labels;
 use am_alerts::route::Routes;
 use std::alloc::{AllocError, Global};
 
+/// A group that an alert goes to by one of its routes.
+#[derive(Debug, Drop)]
+pub(crate) struct Target {
+    pub(crate) name: GroupName,
+    /// The place of the group, where it is there.
+    pub(crate) place: Option<usize>,
+}
+
 /// What an insert puts into one group.
 #[derive(Debug, Drop)]
 pub(crate) struct Placement {
     pub(crate) name: GroupName,
+    /// The place of the group, where it is there.
+    pub(crate) place: Option<usize>,
     /// The name once more, for a group that has to be made to stand under.
     pub(crate) key: GroupName,
     pub(crate) member: Member,
@@ -49,17 +62,20 @@ pub(crate) fn put_alert(
 ) -> Result<Inserted, Fault>
     requires good { IsGood config.now state.old }
     ensures { MatchResult result
-        (λ inserted. (insert_cause config.now (vec_len state.old.history) (state_of state.old) alert ≡ None) × ((id : ℕ) → Accepts config.now id (entry pass (Call.Insert now alert) (Reply.Inserted inserted)) state.old state.new))
-        (λ fault. IsAnswer (insert_cause config.now (vec_len state.old.history) (state_of state.old) alert) fault × Stays config.now state.old state.new) }
+        (λ inserted. (insert_cause config.now (vec_len state.old.history) (state_of state.old) alert ≡ None)
+        × ((id : ℕ) → Accepts config.now id (entry pass (Call.Insert now alert) (Reply.Inserted inserted)) state.old state.new))
+        (λ fault. IsAnswer (insert_cause config.now (vec_len state.old.history) (state_of state.old) alert) fault
+        × Stays config.now state.old state.new) }
 {
     let known = find_place(config, state, &alert)?;
     let t = state.moment(now);
     let stamp = state.inserts + 1;
-    let placements = prepare_all(alloc, &config.routes, &alert, stamp)?;
-    let made = count_missing(&state.groups, placements.as_slice());
+    let targets = find_targets(alloc, &config.routes, &state.groups, alert.labels())?;
+    let made = count_missing(targets.as_slice());
     if state.groups.len() + made > config.limits.groups {
         return Err(Fault::TooManyGroups);
     }
+    let placements = prepare_all(alloc, &config.routes, targets, &alert, stamp)?;
     let labels = alert.labels().copy(alloc)?;
     let copy = alert.copy(alloc)?;
     reserve_insert(state, placements.as_slice())?;
@@ -110,11 +126,17 @@ fn put_prepared(
     requires inserts { state.old.inserts ≤ vec_len state.old.history }
     requires ready { IsReadyFor state.old placements.items }
     requires empty { All (IsEmptyWithRoom (vec_len placements)) placements.items }
+    requires found { AreFound state.old.groups.items placements.items }
+    requires apart { AreApart placements.items }
     ensures log { state.new.log ≡ state.old.log }
     ensures flushes { state.new.flushes ≡ state.old.flushes }
     ensures history { state.new.history ≡ state.old.history }
-    ensures routed { (tree : RoutingTree) → AreRouted tree (names_of state.old.groups.items) → AreRoutedPlacements tree placements.items → AreRouted tree (names_of state.new.groups.items) }
-    ensures state { (config : Config) → t ≤ MAX_MOMENT → All (IsPlacementOf config.routes (stamped_alert alert (state.old.inserts + 1))) placements.items → map (λ p. p.name) placements.items ≡ names_for config alert.labels → state_of state.new ≡ after_insert config (state_of state.old) t alert }
+    ensures routed { (tree : RoutingTree) → AreRouted tree (names_of state.old.groups.items)
+        → AreRoutedPlacements tree placements.items → AreRouted tree (names_of state.new.groups.items) }
+    ensures state { (config : Config) → t ≤ MAX_MOMENT
+        → All (IsPlacementOf config.routes (stamped_alert alert (state.old.inserts + 1))) placements.items
+        → map (λ p. p.name) placements.items ≡ names_for config alert.labels
+        → state_of state.new ≡ after_insert config (state_of state.old) t alert }
 {
     state.clock = t;
     state.inserts += 1;
@@ -124,6 +146,8 @@ fn put_prepared(
 
 /// Makes room for an insert, and for the finish of each open flush.
 fn reserve_insert(state: &mut State, placements: &[Placement]) -> Result<(), AllocError>
+    requires distinct { IsDistinct same_name (names_of state.old.groups.items) }
+    requires found { AreFound state.old.groups.items placements.now }
     ensures kept { IsReservedState state.old state.new }
     ensures ready { OnOk result (IsReadyFor state.new placements.now) }
 {
@@ -133,65 +157,105 @@ fn reserve_insert(state: &mut State, placements: &[Placement]) -> Result<(), All
     reserve_all(&mut state.groups, placements)
 }
 
-/// What the insert of an alert puts into each of its groups.
+/// The groups that an alert of these labels goes to, in the order of its routes.
+fn find_targets(
+    alloc: Global,
+    routes: &Routes,
+    groups: &Groups,
+    labels: &Labels,
+) -> Result<Vec<Target>, AllocError>
+    ensures names { IfOk result (λ targets.
+        map (λ t. t.name) targets.items ≡ map (name_at routes.now labels.now) (routes_of routes.now labels.now)) }
+    ensures routed { IfOk result (λ targets. All (λ t. t.name.route ≤ length routes.now.children) targets.items) }
+    ensures found { IfOk result (λ targets. All (IsFound groups.now.items) targets.items) }
+{
+    let positions = routes.of(alloc, labels)?;
+    let mut targets = Vec::with_capacity(alloc, positions.len())?;
+    for route in &positions {
+        targets.push(find_target(alloc, routes, groups, *route, labels)?)?;
+    }
+    Ok(targets)
+}
+
+/// The group that an alert of these labels goes to by one route.
+fn find_target(
+    alloc: Global,
+    routes: &Routes,
+    groups: &Groups,
+    route: u32,
+    labels: &Labels,
+) -> Result<Target, AllocError>
+    requires { route ≤ length routes.now.children }
+    ensures name { IfOk result (λ target. target.name ≡ name_at routes.now labels.now route) }
+    ensures found { IfOk result (IsFound groups.now.items) }
+{
+    let labels = routes.group_labels(alloc, route, labels)?;
+    let name = GroupName { route, labels };
+    let place = groups.find(&name);
+    Ok(Target { name, place })
+}
+
+/// How many of these groups aren't there.
+fn count_missing(targets: &[Target]) -> usize
+    ensures { result ≡ count_by (λ t. is_none t.place) targets.now }
+{
+    targets
+        .iter()
+        .filter(|target| target.place.is_none())
+        .count()
+}
+
+/// What the insert of an alert puts into each of these groups.
 fn prepare_all(
     alloc: Global,
     routes: &Routes,
+    targets: Vec<Target>,
     alert: &Alert,
     stamp: u64,
 ) -> Result<Vec<Placement>, AllocError>
-    ensures names { IfOk result (λ placements. map (λ p. p.name) placements.items ≡ map (name_at routes.now alert.now.labels) (routes_of routes.now alert.now.labels)) }
-    ensures routed { IfOk result (λ placements. AreRoutedPlacements routes.now placements.items) }
+    requires { All (λ t. t.name.route ≤ length routes.now.children) targets.items }
+    ensures targets { IfOk result (λ placements. map target_of placements.items ≡ targets.items) }
     ensures ready { IfOk result (λ placements. All (IsEmptyWithRoom (vec_len placements)) placements.items) }
     ensures placed { IfOk result (λ placements. All (IsPlacementOf routes.now (stamped_alert alert.now stamp)) placements.items) }
 {
-    let positions = routes.of(alloc, alert.labels())?;
-    let room = positions.len();
+    let room = targets.len();
     let mut placements = Vec::with_capacity(alloc, room)?;
-    for route in &positions {
-        placements.push(prepare(alloc, routes, *route, alert, stamp, room)?)?;
+    for target in targets {
+        placements.push(prepare(alloc, routes, target, alert, stamp, room)?)?;
     }
     Ok(placements)
 }
 
-/// What the insert of an alert puts into its group of one route.
+/// What the insert of an alert puts into one of its groups.
 fn prepare(
     alloc: Global,
     routes: &Routes,
-    route: u32,
+    target: Target,
     alert: &Alert,
     stamp: u64,
     room: usize,
 ) -> Result<Placement, AllocError>
-    requires { route ≤ length routes.now.children }
-    ensures name { IfOk result (λ placement. placement.name ≡ name_at routes.now alert.now.labels route) }
+    requires { target.name.route ≤ length routes.now.children }
+    ensures target { IfOk result (λ placement. target_of placement ≡ target) }
     ensures ready { IfOk result (IsEmptyWithRoom room) }
     ensures placed { IfOk result (IsPlacementOf routes.now (stamped_alert alert.now stamp)) }
 {
-    let labels = routes.group_labels(alloc, route, alert.labels())?;
+    let Target { name, place } = target;
     let alert = alert.copy(alloc)?;
-    let name = GroupName { route, labels };
     Ok(Placement {
         key: name.copy(alloc)?,
+        wait: routes.route(name.route).group_wait,
         name,
+        place,
         member: Member { alert, stamp },
-        wait: routes.route(route).group_wait,
         members: Vec::with_capacity(alloc, room)?,
     })
 }
 
-/// How many of these placements are of groups that aren't there.
-fn count_missing(groups: &Groups, placements: &[Placement]) -> usize
-    ensures { result ≡ count_by (λ p. is_none (position (λ g. same_name p.name g.name) groups.now.items)) placements.now }
-{
-    placements
-        .iter()
-        .filter(|placement| groups.find(&placement.name).is_none())
-        .count()
-}
-
 /// Makes room for so many more alerts in each group of these placements.
 fn reserve_all(groups: &mut Groups, placements: &[Placement]) -> Result<(), AllocError>
+    requires distinct { IsDistinct same_name (names_of groups.old.items) }
+    requires found { AreFound groups.old.items placements.now }
     ensures names { names_of groups.new.items ≡ names_of groups.old.items }
     ensures states { map group_state groups.new.items ≡ map group_state groups.old.items }
     ensures spare { groups.new.room ≡ groups.old.room }
@@ -199,7 +263,7 @@ fn reserve_all(groups: &mut Groups, placements: &[Placement]) -> Result<(), Allo
 {
     let more = placements.len();
     for placement in placements {
-        groups.reserve_named(&placement.name, more)?;
+        groups.reserve_found(placement.place, more)?;
     }
     Ok(())
 }
@@ -209,8 +273,13 @@ fn place_all(groups: &mut Groups, mut placements: Vec<Placement>, t: u64)
     requires spare { vec_len placements ≤ groups.old.room }
     requires room { HaveRoom (vec_len placements) groups.old.items placements.items }
     requires ready { All (IsEmptyWithRoom (vec_len placements)) placements.items }
-    ensures routed { (tree : RoutingTree) → AreRouted tree (names_of groups.old.items) → AreRoutedPlacements tree placements.items → AreRouted tree (names_of groups.new.items) }
-    ensures state { (config : Config) (m : MemberState) → t ≤ MAX_MOMENT → All (IsPlacementOf config.routes m) placements.items → map group_state groups.new.items ≡ fold (put_into_group config t m) (map group_state groups.old.items) (map (λ p. p.name) placements.items) }
+    requires found { AreFound groups.old.items placements.items }
+    requires apart { AreApart placements.items }
+    ensures routed { (tree : RoutingTree) → AreRouted tree (names_of groups.old.items)
+        → AreRoutedPlacements tree placements.items → AreRouted tree (names_of groups.new.items) }
+    ensures state { (config : Config) (m : MemberState) → t ≤ MAX_MOMENT → All (IsPlacementOf config.routes m) placements.items
+        → map group_state groups.new.items
+        ≡ fold (put_into_group config t m) (map group_state groups.old.items) (map (λ p. p.name) placements.items) }
 {
     placements.reverse();
     while let Some(placement) = placements.pop() {
@@ -223,12 +292,15 @@ fn place(groups: &mut Groups, placement: Placement, t: u64)
     requires spare { 0 < groups.old.room }
     requires room { HasRoom 1 placement.name groups.old.items }
     requires ready { IsEmptyWithRoom 1 placement }
+    requires found { IsFound groups.old.items (target_of placement) }
     ensures spare { groups.old.room ≤ groups.new.room + 1 }
     ensures names { AddsAtMost (names_of groups.old.items) placement.name (names_of groups.new.items) }
-    ensures others { (n : ℕ) (name : GroupName) → IsEmptyWithRoom (suc n) placement → HasRoom (suc n) name groups.old.items → HasRoom n name groups.new.items }
-    ensures state { (config : Config) (m : MemberState) → t ≤ MAX_MOMENT → IsPlacementOf config.routes m placement → map group_state groups.new.items ≡ put_into_group config t m (map group_state groups.old.items) placement.name }
+    ensures others { (n : ℕ) (name : GroupName) → IsEmptyWithRoom (suc n) placement
+        → HasRoom (suc n) name groups.old.items → HasRoom n name groups.new.items }
+    ensures state { (config : Config) (m : MemberState) → t ≤ MAX_MOMENT → IsPlacementOf config.routes m placement
+        → map group_state groups.new.items ≡ put_into_group config t m (map group_state groups.old.items) placement.name }
 {
-    match groups.find(&placement.name) {
+    match placement.place {
         Some(i) => groups.insert(i, placement.member, placement.wait, t),
         None => {
             let mut group = Group {

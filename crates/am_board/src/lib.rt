@@ -2,23 +2,24 @@
 //! with the history of every call.
 #![tactic(auto)]
 
-mod asking;
 pub mod begin;
 pub mod board;
+mod dedup;
 pub mod fault;
 mod finish;
 mod flush;
-mod found;
 pub mod group;
 mod groups;
 mod insert;
 mod known;
 mod maintain;
 mod note;
-mod opening;
+pub mod outlook;
+mod plan;
 mod silence;
 mod state;
 pub mod ticket;
+mod unmuted;
 pub mod views;
 
 pub use am_model::{config, law, notice, reason, record};

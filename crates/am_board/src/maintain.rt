@@ -19,8 +19,10 @@ pub(crate) fn sweep(
 ) -> Result<Maintained, Fault>
     requires good { IsGood config.now state.old }
     ensures { MatchResult result
-        (λ maintained. (maintain_cause config.now (vec_len state.old.history) (state_of state.old) ≡ None) × ((id : ℕ) → Accepts config.now id (entry pass (Call.Maintain now) (Reply.Maintained maintained)) state.old state.new))
-        (λ fault. IsAnswer (maintain_cause config.now (vec_len state.old.history) (state_of state.old)) fault × Stays config.now state.old state.new) }
+        (λ maintained. (maintain_cause config.now (vec_len state.old.history) (state_of state.old) ≡ None)
+        × ((id : ℕ) → Accepts config.now id (entry pass (Call.Maintain now) (Reply.Maintained maintained)) state.old state.new))
+        (λ fault. IsAnswer (maintain_cause config.now (vec_len state.old.history) (state_of state.old)) fault
+        × Stays config.now state.old state.new) }
 {
     if !state.has_room(1, config.limits.history) {
         return Err(Fault::HistoryFull);

@@ -1,5 +1,6 @@
 //! Notes: a success that is logged at once.
-ghost use Rattle.std.specs.Prelude.{◌≡◌, ℕ, ◌+◌, ◌<◌, ◌^◌, Bool, true, List, None, Some, slice_get, slice_index_or, map, vec_len, All, IsPermutation, IsSome, IfOk, IfErr, OnOk, MatchResult};
+ghost use Rattle.std.specs.Prelude.{◌≡◌, ℕ, ◌+◌, ◌<◌, ◌^◌, Bool, true, List, None, Some, slice_get, slice_index_or, map};
+ghost use Rattle.std.specs.Prelude.{vec_len, All, IsPermutation, IsSome, IfOk, IfErr, OnOk, MatchResult};
 ghost use Rattle.std.specs.Option.{option_map};
 ghost use Rattle.am_model.specs.Causes.{flush_cause, asked_cause};
 ghost use Rattle.am_model.specs.Finish.{log_with};
@@ -8,7 +9,7 @@ ghost use Rattle.am_board.specs.Kept.{IsAsked, asked_state_of, flush_state, stat
 ghost use Rattle.am_board.specs.LogRows.{log_rows};
 ghost use Rattle.am_board.specs.Finishing.{row_for, KnowTheSame, IsReadyAt, IsNotedAt};
 ghost use Rattle.am_model.specs.Note.{is_ready, asked_by};
-ghost use Rattle.am_board.specs.Noting.{IsNoting};
+ghost use Rattle.am_board.specs.Noting.{IsNoteTarget};
 ghost use Rattle.am_model.specs.State.{State as Data, flush_numbered};
 ghost use Rattle.am_board.specs.Step.{IsGood, Accepts, Stays, IsNoteAnswer};
 ghost use Rattle.am_model.specs.declared.config.Config.{Config as ConfigData};
@@ -37,9 +38,11 @@ pub(crate) fn note_success(
 ) -> Result<Noted, NoteFault>
     requires good { IsGood config.now state.old }
     ensures { MatchResult result
-        (λ _. (flush_cause config.now (vec_len state.old.history) (state_of state.old) ticket.now place (flush_numbered (state_of state.old).flushes ticket.now.number) ≡ None)
+        (λ _. (flush_cause config.now (vec_len state.old.history) (state_of state.old) ticket.now place
+        (flush_numbered (state_of state.old).flushes ticket.now.number) ≡ None)
         × ((r : Record) × IsNoteOf pass now ticket.now place r × ((id : ℕ) → Accepts config.now id r state.old state.new)))
-        (λ fault. IsNoteAnswer (flush_cause config.now (vec_len state.old.history) (state_of state.old) ticket.now place (flush_numbered (state_of state.old).flushes ticket.now.number)) fault × Stays config.now state.old state.new) }
+        (λ fault. IsNoteAnswer (flush_cause config.now (vec_len state.old.history) (state_of state.old) ticket.now place
+        (flush_numbered (state_of state.old).flushes ticket.now.number)) fault × Stays config.now state.old state.new) }
 {
     let found = find_noting(state.flushes.as_slice(), ticket, place)?;
     if !state.has_room(1, config.limits.history) {
@@ -70,7 +73,7 @@ pub(crate) fn note_success(
 /// What is noted: the place of an open flush, that of an integration among those that it asked, the
 /// integration and its outcome.
 #[derive(Clone, Copy)]
-struct Noting {
+struct NoteTarget {
     flush: usize,
     asked: usize,
     integration: u32,
@@ -78,8 +81,12 @@ struct Noting {
 }
 
 /// What the notice at a place of a ticket asks to be noted, where it may be.
-fn find_noting(flushes: &[OpenFlush], ticket: &Ticket, place: usize) -> Result<Noting, NoteFault>
-    ensures found { IfOk result (IsNoting flushes.now ticket.now place) }
+fn find_noting(
+    flushes: &[OpenFlush],
+    ticket: &Ticket,
+    place: usize,
+) -> Result<NoteTarget, NoteFault>
+    ensures found { IfOk result (IsNoteTarget flushes.now ticket.now place) }
     ensures cause { (config : ConfigData) (records : ℕ) (s : Data) → s.flushes ≡ map flush_state flushes.now
         → IfErr result (λ fault. flush_cause config records s ticket.now place (flush_numbered s.flushes ticket.now.number) ≡ Some fault) }
 {
@@ -91,7 +98,7 @@ fn find_noting(flushes: &[OpenFlush], ticket: &Ticket, place: usize) -> Result<N
     };
     let outcome = ticket.outcome(place);
     let asked = find_ready(&flushes[flush], integration, outcome)?;
-    Ok(Noting {
+    Ok(NoteTarget {
         flush,
         asked,
         integration,
@@ -116,7 +123,8 @@ fn find_ready(
     outcome: Option<Outcome>,
 ) -> Result<usize, NoteFault>
     ensures ready { IfOk result (IsReadyAt flush.now integration outcome) }
-    ensures cause { (config : ConfigData) (records : ℕ) (s : Data) → IfErr result (λ fault. asked_cause config records s outcome (asked_by (flush_state flush.now) integration) ≡ Some fault) }
+    ensures cause { (config : ConfigData) (records : ℕ) (s : Data)
+        → IfErr result (λ fault. asked_cause config records s outcome (asked_by (flush_state flush.now) integration) ≡ Some fault) }
 {
     let Some(a) = find_asked(flush.asked.as_slice(), integration) else {
         return Err(NoteFault::NotReady);
@@ -128,7 +136,8 @@ fn find_ready(
 /// Whether an integration that was asked may be noted with this outcome.
 fn check_ready(asked: &Asked, outcome: Option<Outcome>) -> Result<(), NoteFault>
     ensures ready { OnOk result ((is_ready outcome (asked_state_of asked.now) ≡ true) × IsSome asked.now.told) }
-    ensures cause { (config : ConfigData) (records : ℕ) (s : Data) → IfErr result (λ fault. asked_cause config records s outcome (Some (asked_state_of asked.now)) ≡ Some fault) }
+    ensures cause { (config : ConfigData) (records : ℕ) (s : Data)
+        → IfErr result (λ fault. asked_cause config records s outcome (Some (asked_state_of asked.now)) ≡ Some fault) }
 {
     if !(asked.nothing || is_delivered(outcome)) {
         return Err(NoteFault::NotReady);
@@ -146,7 +155,8 @@ fn log_at_once(log: &mut NfLog<GroupName, Labels>, flush: &mut OpenFlush, a: usi
     requires fits { t + flush.old.kept_for < 2 ^ 64 }
     ensures known { KnowTheSame log.new log.old }
     ensures flush { IsNotedAt a flush.old flush.new }
-    ensures rows { (d : Asked) → let asked = slice_index_or flush.old.asked.items a d in IsSome asked.told → (rows : List RowView) → IsPermutation (log_rows log.old) rows
+    ensures rows { (d : Asked) → let asked = slice_index_or flush.old.asked.items a d in IsSome asked.told
+        → (rows : List RowView) → IsPermutation (log_rows log.old) rows
         → IsPermutation (log_rows log.new) (log_with (row_for flush.old t asked.key.integration) rows) }
 {
     let kept_for = flush.kept_for;

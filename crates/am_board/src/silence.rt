@@ -30,8 +30,10 @@ pub(crate) fn put_silence(
 ) -> Result<Silenced, Fault>
     requires good { IsGood config.now state.old }
     ensures { MatchResult result
-        (λ silenced. (silence_cause config.now (vec_len state.old.history) (state_of state.old) silence ≡ None) × ((id : ℕ) → Accepts config.now id (entry pass (call_of_silence now silence) (Reply.Silenced silenced)) state.old state.new))
-        (λ fault. IsAnswer (silence_cause config.now (vec_len state.old.history) (state_of state.old) silence) fault × Stays config.now state.old state.new) }
+        (λ silenced. (silence_cause config.now (vec_len state.old.history) (state_of state.old) silence ≡ None)
+        × ((id : ℕ) → Accepts config.now id (entry pass (call_of_silence now silence) (Reply.Silenced silenced)) state.old state.new))
+        (λ fault. IsAnswer (silence_cause config.now (vec_len state.old.history) (state_of state.old) silence) fault
+        × Stays config.now state.old state.new) }
 {
     let place = place_for(config, state, silence.id())?;
     let call = Call::Silence {
@@ -57,7 +59,9 @@ pub(crate) fn put_silence(
 /// The place of the silence of this id, if there is one and the call isn't refused.
 fn place_for(config: &Config, state: &State, id: u64) -> Result<Option<usize>, Fault>
     ensures { (silence : SilenceData) → silence.id ≡ id →
-        result ≡ ok_unless (silence_cause config.now (vec_len state.now.history) (state_of state.now) silence) (position (same_silence silence) state.now.silences.items) }
+        result
+        ≡ ok_unless (silence_cause config.now (vec_len state.now.history) (state_of state.now) silence)
+        (position (same_silence silence) state.now.silences.items) }
 {
     if !state.has_room(1, config.limits.history) {
         return Err(Fault::HistoryFull);

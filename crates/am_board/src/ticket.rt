@@ -1,6 +1,7 @@
 //! The ticket of an open flush.
-ghost use Rattle.std.specs.Prelude.{◌≡◌, ℕ, Some, None, MatchResult, slice_get};
+ghost use Rattle.std.specs.Prelude.{◌≡◌, ◌≤◌, ℕ, Some, None, MatchResult, length, slice_get};
 ghost use Rattle.std.specs.Option.{option_and_then};
+ghost use Rattle.am_model.specs.declared.config.TheConstants.{MAX_INTEGRATIONS};
 ghost use Rattle.am_model.specs.Ticket.{outcome_of as first_outcome, report_fault, recorded};
 ghost use Rattle.am_model.specs.Notice.{has_something_for as has_something};
 
@@ -24,14 +25,25 @@ pub struct Ticket {
 
 impl Model for Ticket {
     ghost use Rattle.std.specs.Prelude.{◌+◌, ◌≤◌, vec_len, vec_capacity};
+    ghost use Rattle.am_model.specs.declared.config.TheConstants.{MAX_INTEGRATIONS};
     ghost use Rattle.am_model.specs.Ticket.{TicketData};
     ghost use Rattle.am_model.specs.Ticket.{count_unreported};
 
     ghost Value = { TicketData };
 
-    ghost view = { λ t. record { desk = t.desk; number = t.number; group = t.group; deadline = t.deadline; notices = t.notices.items; outcomes = t.outcomes.items } };
+    ghost view = { λ t.
+        record {
+          desk = t.desk;
+          number = t.number;
+          group = t.group;
+          deadline = t.deadline;
+          notices = t.notices.items;
+          outcomes = t.outcomes.items;
+        } };
 
-    ghost invariant = { λ t. count_unreported t.outcomes.items t.notices.items + vec_len t.outcomes ≤ vec_capacity t.outcomes };
+    ghost invariant = { λ t.
+        (count_unreported t.outcomes.items t.notices.items + vec_len t.outcomes ≤ vec_capacity t.outcomes)
+        × (vec_len t.notices ≤ MAX_INTEGRATIONS) };
 }
 
 impl Ticket {
@@ -63,9 +75,10 @@ impl Ticket {
         self.deadline
     }
 
-    /// The notices, by integration.
+    /// The notices, by integration; no more than a receiver may have integrations.
     pub fn notices(&self) -> &[Notice]
-        ensures { result.now ≡ self.now.notices }
+        ensures notices { result.now ≡ self.now.notices }
+        ensures within { length self.now.notices ≤ MAX_INTEGRATIONS }
     {
         self.notices.as_slice()
     }

@@ -11,9 +11,9 @@ ghost use Rattle.am_model.specs.Laws.{IsConsistent};
 ghost use Rattle.am_model.specs.Views.{row_views, group_view, group_views, summary, summary_at, summary_data, glance, glance_at};
 
 use crate::board::Board;
-use crate::found::by_labels;
 use crate::group::{Group, GroupName, Member};
 use crate::state::State;
+use crate::unmuted::by_labels;
 use am_alerts::alert::Alert;
 use am_alerts::labels::Labels;
 use am_alerts::sequence::copy_all;
@@ -36,7 +36,9 @@ impl Board {
     /// How much there is. Takes no memory.
     pub fn summary(&self) -> Summary
         ensures summary { summary_data result ≡ summary self.now.config self.now.history }
-        ensures within { (result.groups ≤ self.now.config.limits.groups) × (result.flushes ≤ self.now.config.limits.flushes) }
+        ensures within { (result.calls ≤ self.now.config.limits.history)
+            × (result.groups ≤ self.now.config.limits.groups)
+            × (result.flushes ≤ self.now.config.limits.flushes) }
     {
         summary_of(&self.state)
     }
@@ -48,9 +50,10 @@ impl Board {
         rows_of(alloc, &self.state)
     }
 
-    /// The groups, by route position and group labels.
+    /// The groups, by route position and group labels; no more than the limits.
     pub fn groups(&self, alloc: Global) -> Result<Vec<GroupView>, AllocError>
-        ensures { IfOk result (λ groups. groups.items ≡ group_views (state_at self.now)) }
+        ensures groups { IfOk result (λ groups. groups.items ≡ group_views (state_at self.now)) }
+        ensures within { IfOk result (λ groups. length groups.items ≤ self.now.config.limits.groups) }
     {
         groups_of(alloc, &self.state)
     }

@@ -131,10 +131,10 @@ pub config_sync : IsSync config_row.the_row
 config_sync = search (every, routes_sync, receiver.the_sync, rule_sync, limits.the_sync, sequence.the_sync) depth 40 fits 10000
 
 pub state_send : IsSend state_row.the_row
-state_send = search (every, known.the_send, groups.the_send, silence_send, log.the_send, name.the_send, labels.the_send, flush.the_send, line.the_send) depth 40 fits 10000
+state_send = search (every, known.the_send, groups.the_send, silence_send, log.the_send, name.the_send, labels.the_send, labels.the_sync, flush.the_send, line.the_send) depth 40 fits 10000
 
 pub state_sync : IsSync state_row.the_row
-state_sync = search (every, known.the_sync, groups.the_sync, silence_sync, log.the_sync, name.the_sync, labels.the_sync, flush.the_sync, line.the_sync) depth 40 fits 10000
+state_sync = search (every, known.the_sync, groups.the_sync, silence_sync, log.the_sync, name.the_sync, labels.the_sync, labels.the_send, flush.the_sync, line.the_sync) depth 40 fits 10000
 
 pub board_send : IsSend board_row.the_row
 board_send = search (every, config_send, state_send) depth 40 fits 10000

@@ -139,13 +139,13 @@ fn note<N: Name, R: Wait>(
 
 /// The replies that were told, in order, each with its pass as a text.
 #[derive(Drop)]
-struct Told {
+struct Replies {
     lines: Vec<String>,
 }
 
-impl Told {
-    fn new(alloc: Global) -> Told {
-        Told {
+impl Replies {
+    fn new(alloc: Global) -> Replies {
+        Replies {
             lines: Vec::new(alloc),
         }
     }
@@ -187,7 +187,7 @@ fn insert<N: Name, R: Wait + Abort>(
     desk: &Desk<N>,
     pass: &mut Pass<N>,
     name: &str,
-    told: &mut Told,
+    told: &mut Replies,
 ) {
     let alert = alert(rt, alloc, &[("alertname", name)]);
     let Ok(inserted) = desk.insert(rt, alloc, pass, 0, alert) else {
@@ -204,7 +204,7 @@ fn begin<N: Name, R: Wait + Abort>(
     desk: &Desk<N>,
     pass: &mut Pass<N>,
     now: u64,
-    told: &mut Told,
+    told: &mut Replies,
 ) -> OwnTicket<N> {
     let ticket = match desk.begin(rt, alloc, pass, now) {
         Ok(Begun::Flush(ticket)) => ticket,
@@ -225,7 +225,7 @@ fn finish<N: Name, R: Wait + Abort>(
     pass: &mut Pass<N>,
     own: OwnTicket<N>,
     now: u64,
-    told: &mut Told,
+    told: &mut Replies,
 ) -> (usize, usize) {
     let Ok(finished) = desk.finish_own(rt, pass, own, now) else {
         panic!(rt; "the flush is open")

@@ -9,4 +9,6 @@ pub mod ConsistentInsert
 pub mod ConsistentState
 pub mod EachCall
 pub mod FewGroups
+pub mod FewKnown
 pub mod Histories
+pub mod RowMoments

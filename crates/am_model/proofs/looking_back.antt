@@ -7,6 +7,7 @@ pub mod FoundRows
 pub mod FoundSteps
 pub mod LooksBack
 pub mod Opened
+pub mod Outlooks
 pub mod PastWords
 pub mod Pasts
 pub mod ReasonsDecide

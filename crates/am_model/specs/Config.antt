@@ -1,5 +1,6 @@
 -- What a configuration may be.
-use Rattle.std.specs.Prelude.{ℕ, ◌≤◌, Bool, not, ◌&&◌, ◌||◌, ◌==◌, nat_lt, nat_le, List, [], ◌++◌, length, map, codes, decimal, Option, Some, None, slice_get, unwrap_or, if◌then◌else◌}
+use Rattle.std.specs.Prelude.{ℕ, ◌≤◌, Bool, not, ◌&&◌, ◌||◌, ◌==◌, nat_lt, nat_le, List, [], ◌++◌, length, map, codes, decimal, Option}
+use Rattle.std.specs.Prelude.{Some, None, slice_get, unwrap_or, if◌then◌else◌}
 use Rattle.std.specs.List.{list_all, list_any}
 use Rattle.std.specs.Option.{option_map, option_or}
 use Rattle.std.specs.Str.{bytes_eq}
@@ -8,11 +9,13 @@ use Rattle.am_alerts.specs.RoutingTree.{routes_in}
 use Rattle.am_alerts.specs.declared.limits.TheConstants.{MAX_DURATION}
 use Rattle.am_model.specs.declared.config.Config.{Config}
 use Rattle.am_model.specs.declared.config.ConfigFault.{ConfigFault}
-use Rattle.am_model.specs.declared.config.ConfigFault.TheVariants.{UnknownReceiver, ReceiverTwice, TooManyReceivers, TooManyIntegrations, BadKind, TooManyRules, BadRetention, BadLimit}
+use Rattle.am_model.specs.declared.config.ConfigFault.TheVariants.{UnknownReceiver, ReceiverTwice, TooManyReceivers, TooManyIntegrations}
+use Rattle.am_model.specs.declared.config.ConfigFault.TheVariants.{BadKind, TooManyRules, BadRetention, BadLimit}
 use Rattle.am_model.specs.declared.config.Integration.{Integration}
 use Rattle.am_model.specs.declared.config.Limits.{Limits}
 use Rattle.am_model.specs.declared.config.Receiver.{Receiver}
-use Rattle.am_model.specs.declared.config.TheConstants.{MAX_RECEIVERS, MAX_INTEGRATIONS, MAX_RULES, MAX_NAMES, MAX_GROUPS, MAX_SILENCES, MAX_FLUSHES, MAX_HISTORY}
+use Rattle.am_model.specs.declared.config.TheConstants.{MAX_RECEIVERS, MAX_INTEGRATIONS, MAX_RULES, MAX_NAMES, MAX_GROUPS, MAX_SILENCES}
+use Rattle.am_model.specs.declared.config.TheConstants.{MAX_FLUSHES, MAX_HISTORY}
 
 -- the limits where none is lowered
 abbrev pub greatest_limits : Limits

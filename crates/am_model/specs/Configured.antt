@@ -32,6 +32,7 @@ HaveFewIntegrations config = All (λ r. length r.integrations ≤ MAX_INTEGRATIO
 abbrev pub integrations_of : Config → GroupName → List (ℕ × Integration)
 integrations_of config name = enumerate_from 0 (integrations_named (route_of config name).receiver config.receivers)
 
--- the expiry of a log row of a group at t: twice the repeat interval later, or the retention if that is less (Alertmanager's SetNotifiesStage)
+-- the expiry of a log row of a group at t: twice the repeat interval later, or the retention if that is less (Alertmanager's
+-- SetNotifiesStage)
 abbrev pub expiry_at : Config → GroupName → ℕ → ℕ
 expiry_at config name t = t + min config.retention (2 * (route_of config name).repeat_interval)

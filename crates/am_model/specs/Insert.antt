@@ -1,5 +1,6 @@
 -- Insert: an alert goes to the known ones and to the groups of its routes (Alertmanager's dispatch: processAlert and aggrGroup.insert).
-use Rattle.std.specs.Prelude.{ℕ, ◌+◌, Bool, false, not, ◌&&◌, nat_lt, min, List, [], length, map, fold, count_by, find, unwrap_or, if◌then◌else◌}
+use Rattle.std.specs.Prelude.{ℕ, ◌+◌, Bool, false, not, ◌&&◌, nat_lt, min, List, [], length, map, fold, count_by, find, unwrap_or}
+use Rattle.std.specs.Prelude.{if◌then◌else◌}
 use Rattle.am_alerts.specs.AlertData.{AlertData}
 use Rattle.am_alerts.specs.Labels.{same_label_set}
 use Rattle.am_alerts.specs.Route.{group_labels_of}
@@ -44,7 +45,8 @@ new_group config t name = record { name = name; due = t + wait_of config name; f
 abbrev pub group_or_new : Config → ℕ → List GroupState → GroupName → GroupState
 group_or_new config t groups name = unwrap_or (find (is_named name) groups) (new_group config t name)
 
--- when a group is due that gets an alert at t: at t at the latest, if it wasn't flushed and its wait was over before t, counted from the alert's start
+-- when a group is due that gets an alert at t: at t at the latest, if it wasn't flushed and its wait was over before t, counted from
+-- the alert's start
 abbrev pub due_with : Config → ℕ → AlertData → GroupState → ℕ
 due_with config t a g = if not g.flushed && nat_lt (a.starts + wait_of config g.name) t then min g.due t else g.due
 

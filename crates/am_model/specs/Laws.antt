@@ -1,5 +1,6 @@
 -- The laws of histories, record by record.
-use Rattle.std.specs.Prelude.{◌≡◌, ℕ, ◌+◌, ◌<◌, ◌≤◌, ◌↔◌, min, max, Bool, true, false, IsTrue, All, List, [], ◌∷◌, ◌++◌, fold, not, Option, Some, None, ◌==◌, if◌then◌else◌}
+use Rattle.std.specs.Prelude.{◌≡◌, ℕ, ◌+◌, ◌<◌, ◌≤◌, ◌↔◌, min, max, Bool, true, false, IsTrue, All, List, [], ◌∷◌, ◌++◌, fold, not}
+use Rattle.std.specs.Prelude.{Option, Some, None, ◌==◌, if◌then◌else◌}
 use Rattle.std.specs.List.{IsDistinct}
 use Rattle.am_alerts.specs.declared.limits.TheConstants.{MAX_MOMENT}
 use Rattle.am_nflog.specs.Members.{is_empty}
@@ -36,7 +37,8 @@ moment_of history = fold (λ t r. max t (min (now_of r.call) MAX_MOMENT)) 0 hist
 abbrev pub ClockIsMoment : Type 0
 ClockIsMoment = (config : Config) (history : List Record) → (replay config history).clock ≡ moment_of history
 
--- the moment of the last begin of a group since it was made, after a record that leaves the clock at t; a maintenance that finds the group without alerts ends it
+-- the moment of the last begin of a group since it was made, after a record that leaves the clock at t; a maintenance that finds the
+-- group without alerts ends it
 abbrev pub last_begin_after : GroupName → State → ℕ → Option ℕ → Reply → Option ℕ
 last_begin_after name s t last (Inserted inserted) = last
 last_begin_after name s t last (Silenced silenced) = last
@@ -91,7 +93,7 @@ pub record IsHeld (s : State) (f : FlushState) : Type 0 where
   pub each_once : IsDistinct same_asked f.asked
   pub alive : IsTrue (not (is_empty (members_in s.groups f.group)))
 
--- what holds of the state after each legal history: no two of a kind are alike, and each open flush has its group
+-- what holds of the state after any list of records: no two of a kind are alike, and each open flush has its group
 pub record IsConsistent (s : State) : Type 0 where
   pub clock : s.clock ≤ MAX_MOMENT
   pub known : IsDistinct same_alert s.known
@@ -104,8 +106,11 @@ pub record IsConsistent (s : State) : Type 0 where
   pub numbers : IsDistinct same_number s.flushes
   pub held : All (IsHeld s) s.flushes
 
--- the invariants of legal histories
-abbrev pub LegalKeeps : Type 0
-LegalKeeps =
-    (config : Config) (id : ℕ) (history : List Record)
-    → IsLegal config id history → IsConsistent (replay config history) × KeepsBegins config history
+-- any list of records, legal or not, leaves such a state
+abbrev pub ReplaysAreConsistent : Type 0
+ReplaysAreConsistent = (config : Config) (history : List Record) → IsConsistent (replay config history)
+
+-- a legal history keeps its begins
+abbrev pub LegalKeepsBegins : Type 0
+LegalKeepsBegins =
+    (config : Config) (id : ℕ) (history : List Record) → IsLegal config id history → KeepsBegins config history

@@ -14,5 +14,6 @@ pub mod Replay
 pub mod State
 pub mod Ticket
 pub mod Upkeep
+pub mod Values
 pub mod Views
 pub mod look_back

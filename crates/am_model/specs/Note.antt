@@ -1,4 +1,5 @@
--- Note: the success of one integration is logged before its flush is finished (Alertmanager's SetNotifiesStage, which runs for each integration by itself).
+-- Note: the success of one integration is logged before its flush is finished (Alertmanager's SetNotifiesStage, which runs for each
+-- integration by itself).
 use Rattle.std.specs.Prelude.{ℕ, Bool, true, false, not, find, ◌&&◌, ◌||◌, ◌==◌, Option, Some, None, if◌then◌else◌}
 use Rattle.am_retry.specs.declared.outcome.Outcome.{Outcome}
 use Rattle.am_model.specs.declared.config.Config.{Config}

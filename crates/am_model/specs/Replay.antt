@@ -15,7 +15,8 @@ use Rattle.am_model.specs.Note.{noted, after_note_of}
 use Rattle.am_model.specs.Upkeep.{silenced, after_silence, maintained, after_maintain}
 use Rattle.am_model.specs.State.{State, opening_state, moment, flush_numbered}
 
--- the reply to a call at a state; none where the call is no legal one: a finish or a note of a flush that isn't open, or a note that isn't allowed
+-- the reply to a call at a state; none where the call is no legal one: a finish or a note of a flush that isn't open, or a note that
+-- isn't allowed
 abbrev pub reply : Config → ℕ → State → Call → Option Reply
 reply config id s (Insert now alert) = Some (Inserted (inserted config s alert))
 reply config id s (Silence now number matchers start end) = Some (Silenced (silenced s (silence_of number matchers start end)))

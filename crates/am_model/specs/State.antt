@@ -35,7 +35,8 @@ pub record Stamped : Type 0 where
   pub labels : List Label
   pub stamp : ℕ
 
--- an open flush: whom it asked, the label sets that fired and those that were resolved in it, and the alerts of the group that were resolved at its begin
+-- an open flush: whom it asked, the label sets that fired and those that were resolved in it, and the alerts of the group that were
+-- resolved at its begin
 pub record FlushState : Type 0 where
   pub number : ℕ
   pub group : GroupName
@@ -44,7 +45,8 @@ pub record FlushState : Type 0 where
   pub resolved : List (List Label)
   pub leaving : List Stamped
 
--- state: the clock, the number of inserts, the known alerts, the groups, the silences, the rows of the log, the open flushes and the next flush's number
+-- state: the clock, the number of inserts, the known alerts, the groups, the silences, the rows of the log, the open flushes and the
+-- next flush's number
 pub record State : Type 0 where
   pub clock : ℕ
   pub inserts : ℕ

@@ -33,7 +33,8 @@ has_expired t row = nat_le row.expiry t
 abbrev pub maintained : State → ℕ → Maintained
 maintained s t = record { groups = count_by is_deserted s.groups; entries = count_by (has_expired t) s.rows }
 
--- the state after a maintenance at t: groups without alerts go, and so do expired rows (Alertmanager's dispatch maintenance, and its nflog's GC)
+-- the state after a maintenance at t: groups without alerts go, and so do expired rows (Alertmanager's dispatch maintenance, and its
+-- nflog's GC)
 abbrev pub after_maintain : State → ℕ → State
 after_maintain s t =
     record s { clock = t; groups = without is_deserted s.groups; rows = without (has_expired t) s.rows }

@@ -4,7 +4,9 @@ ghost use Rattle.std.specs.List.{list_all, list_any};
 ghost use Rattle.std.specs.Option.{option_copied};
 ghost use Rattle.std.specs.Str.{bytes_eq};
 ghost use Rattle.am_alerts.specs.Fault.{ok_unless};
-ghost use Rattle.am_model.specs.Config.{AreAllowed, IsWithin, is_within, are_allowed, has_receiver, has_receivers, has_receiver_twice, has_many_integrations, has_good_kinds, greatest_limits, receivers_fault, bounds_fault, config_fault, kind_at, integration_text};
+ghost use Rattle.am_model.specs.Config.{AreAllowed, IsWithin, is_within, are_allowed, has_receiver, has_receivers, has_receiver_twice};
+ghost use Rattle.am_model.specs.Config.{has_many_integrations, has_good_kinds, greatest_limits, receivers_fault, bounds_fault};
+ghost use Rattle.am_model.specs.Config.{config_fault, kind_at, integration_text};
 
 use am_alerts::labels::is_label_name;
 use am_alerts::limits::{MAX_CHILDREN, MAX_DURATION};

@@ -1,10 +1,60 @@
-//! Laws of histories.
-ghost use Rattle.am_model.specs.Laws.{ReplayAppends, LegalAppends, ClockIsMoment, LegalKeeps};
+//! Laws of histories, and the limits and the faults' numbers, each as it is meant.
+ghost use Rattle.am_model.specs.Laws.{ReplayAppends, LegalAppends, ClockIsMoment, ReplaysAreConsistent, LegalKeepsBegins};
 ghost use Rattle.am_model.specs.look_back.Interval.{BeginsKeepTheInterval};
 ghost use Rattle.am_model.specs.look_back.Laws.{EveryLegalHistory, AlertsAreFound, ShownAlertsAreFound, RowsAreFound, ShownRowsAreFound};
-ghost use Rattle.am_model.specs.look_back.Laws.{OnlyDeliveredIsLogged, RowsComeByDelivery, RowsWereDelivered, RefiringAlertsStay, FlushesEndOnce};
+ghost use Rattle.am_model.specs.look_back.Laws.{OnlyDeliveredIsLogged, RowsComeByDelivery, RowsWereDelivered, RefiringAlertsStay};
+ghost use Rattle.am_model.specs.look_back.Laws.{FlushesEndOnce};
 ghost use Rattle.am_model.specs.look_back.Laws.{BeginsAskRightly, BeginsTellWhatIsThere, LooksBack};
+ghost use Rattle.am_model.specs.look_back.Outlook.{OutlooksAreFound};
 ghost use Rattle.am_model.specs.look_back.Reasons.{BeginsHaveReasons, ReasonsAreSo, NotYetEnds};
+ghost use Rattle.am_model.specs.Values.{LimitsAre, DefaultIs, TimesAre};
+ghost use Rattle.am_model.specs.Values.{CallFaultsAre, NoteFaultsAre, ConfigFaultsAre, BoardFaultsAre, ReportFaultsAre};
+
+use crate::config::ConfigFault;
+use crate::fault::{Fault, NoteFault, ReportFault};
+
+const CALL_FAULTS: [(Fault, u8); 6] = [
+    (Fault::NoMemory, Fault::NoMemory as u8),
+    (Fault::TooManyNames, Fault::TooManyNames as u8),
+    (Fault::TooManyGroups, Fault::TooManyGroups as u8),
+    (Fault::TooManySilences, Fault::TooManySilences as u8),
+    (Fault::TooManyOpen, Fault::TooManyOpen as u8),
+    (Fault::HistoryFull, Fault::HistoryFull as u8),
+];
+
+const NOTE_FAULTS: [(NoteFault, u8); 6] = [
+    (NoteFault::NoMemory, NoteFault::NoMemory as u8),
+    (NoteFault::HistoryFull, NoteFault::HistoryFull as u8),
+    (NoteFault::Foreign, NoteFault::Foreign as u8),
+    (NoteFault::NotOpen, NoteFault::NotOpen as u8),
+    (NoteFault::NotReady, NoteFault::NotReady as u8),
+    (NoteFault::Already, NoteFault::Already as u8),
+];
+
+const CONFIG_FAULTS: [(ConfigFault, u8); 8] = [
+    (
+        ConfigFault::UnknownReceiver,
+        ConfigFault::UnknownReceiver as u8,
+    ),
+    (ConfigFault::ReceiverTwice, ConfigFault::ReceiverTwice as u8),
+    (
+        ConfigFault::TooManyReceivers,
+        ConfigFault::TooManyReceivers as u8,
+    ),
+    (
+        ConfigFault::TooManyIntegrations,
+        ConfigFault::TooManyIntegrations as u8,
+    ),
+    (ConfigFault::BadKind, ConfigFault::BadKind as u8),
+    (ConfigFault::TooManyRules, ConfigFault::TooManyRules as u8),
+    (ConfigFault::BadRetention, ConfigFault::BadRetention as u8),
+    (ConfigFault::BadLimit, ConfigFault::BadLimit as u8),
+];
+
+const REPORT_FAULTS: [(ReportFault, u8); 2] = [
+    (ReportFault::Stranger, ReportFault::Stranger as u8),
+    (ReportFault::Twice, ReportFault::Twice as u8),
+];
 
 /// What the definitions of the sequential dispatcher say of a history with one record more: its
 /// state is the one after that record, it is legal where the history before is and the record's
@@ -15,12 +65,13 @@ pub fn histories_go_record_by_record()
     ensures clock { ClockIsMoment }
 {}
 
-/// What holds after every legal history: no two known alerts, silences, groups, members of a group,
-/// rows or open flushes are alike; a group with an open flush has alerts, so no maintenance removes
-/// it; and a group that was begun since it was made is there, flushed, and due one group interval
-/// after its last begin.
+/// What holds after every list of records, legal or not: no two known alerts, silences, groups,
+/// members of a group, rows or open flushes are alike; and a group with an open flush has alerts, so
+/// no maintenance removes it. After a legal history a group that was begun since it was made is
+/// there, flushed, and due one group interval after its last begin.
 pub fn legal_histories_are_consistent()
-    ensures { LegalKeeps }
+    ensures consistent { ReplaysAreConsistent }
+    ensures begins { LegalKeepsBegins }
 {}
 
 /// Which alerts are in which group after a legal history, read off the history from its end; and
@@ -88,7 +139,29 @@ pub fn reasons_decide()
     ensures waits { NotYetEnds }
 {}
 
+/// What a begin is to do, worked out of the state alone, is what looking back finds.
+pub fn outlooks_look_back()
+    ensures { OutlooksAreFound }
+{}
+
 /// What looking back says of every legal history, all of it.
 pub fn legal_histories_look_back()
     ensures { EveryLegalHistory LooksBack }
+{}
+
+/// What each limit of a configuration is, the default of `Limits`, and, in milliseconds, the least
+/// time of a flush and the greatest deadline.
+pub fn limits_are()
+    ensures limits { LimitsAre }
+    ensures default { DefaultIs }
+    ensures times { TimesAre }
+{}
+
+/// Which number each fault has.
+pub fn fault_numbers_are()
+    ensures calls { CallFaultsAre }
+    ensures notes { NoteFaultsAre }
+    ensures configs { ConfigFaultsAre }
+    ensures boards { BoardFaultsAre }
+    ensures reports { ReportFaultsAre }
 {}

@@ -40,7 +40,16 @@ impl Model for Notice {
 
     ghost Value = { NoticeData };
 
-    ghost view = { λ n. record { desk = n.desk; ticket = n.ticket; deadline = n.deadline; group = n.group; integration = n.integration; firing = n.firing; resolved = n.resolved } };
+    ghost view = { λ n.
+        record {
+          desk = n.desk;
+          ticket = n.ticket;
+          deadline = n.deadline;
+          group = n.group;
+          integration = n.integration;
+          firing = n.firing;
+          resolved = n.resolved;
+        } };
 
     ghost invariant = { λ n. n.deadline ≤ MAX_DEADLINE };
 }

@@ -1,57 +1,60 @@
 //! The texts of answers.
 use crate::desk::OwnTicket;
-use crate::stage::{Stage, Told};
+use crate::stage::{Answer, Stage};
 use am_alerts::alert::Alert;
 use am_alerts::labels::Labels;
 use am_board::board::Board;
+use am_board::outlook::{MutedAlert, Outlook};
 use am_board::record::Call;
+use am_mute::mute::MuteCause;
 use am_retry::Outcome;
 use std::alloc::{AllocError, Global};
 
 /// The text of an answer.
-pub fn answer(alloc: Global, stage: &Stage, told: Told) -> Result<String, AllocError> {
+pub fn answer(alloc: Global, stage: &Stage, told: Answer) -> Result<String, AllocError> {
     match told {
-        Told::Kept => String::from_str(alloc, "kept"),
-        Told::Opened => String::from_str(alloc, "opened"),
-        Told::BadConfig(fault) => format!(in alloc; "{fault:?}"),
-        Told::Inserted(told) => {
+        Answer::Kept => String::from_str(alloc, "kept"),
+        Answer::Opened => String::from_str(alloc, "opened"),
+        Answer::BadConfig(fault) => format!(in alloc; "{fault:?}"),
+        Answer::Inserted(told) => {
             let (stamp, groups, made) = (told.stamp, told.groups, told.made);
             format!(in alloc; "stamp {stamp}, groups {groups}, made {made}")
         }
-        Told::Filled(count) => format!(in alloc; "{count} accepted"),
-        Told::Silenced(told) => {
+        Answer::Filled(count) => format!(in alloc; "{count} accepted"),
+        Answer::Silenced(told) => {
             let replaced = told.replaced;
             format!(in alloc; "replaced {replaced}")
         }
-        Told::Maintained(told) => {
+        Answer::Maintained(told) => {
             let (groups, entries) = (told.groups, told.entries);
             format!(in alloc; "groups {groups}, entries {entries}")
         }
-        Told::Finished(told) => {
+        Answer::Finished(told) => {
             let (logged, removed) = (told.logged, told.removed);
             format!(in alloc; "logged {logged}, removed {removed}")
         }
-        Told::Foreign(records) => format!(in alloc; "Foreign, {records} record there"),
-        Told::Refused(fault) => format!(in alloc; "{fault:?}"),
-        Told::Unnoted(fault) => format!(in alloc; "{fault:?}"),
-        Told::Unrecorded(fault) => format!(in alloc; "{fault:?}"),
+        Answer::Foreign(records) => format!(in alloc; "Foreign, {records} record there"),
+        Answer::Refused(fault) => format!(in alloc; "{fault:?}"),
+        Answer::Unnoted(fault) => format!(in alloc; "{fault:?}"),
+        Answer::Unrecorded(fault) => format!(in alloc; "{fault:?}"),
         _ => of_flush(alloc, stage, told),
     }
 }
 
 /// The text of an answer on flushes and tickets, or of a look.
-fn of_flush(alloc: Global, stage: &Stage, told: Told) -> Result<String, AllocError> {
+fn of_flush(alloc: Global, stage: &Stage, told: Answer) -> Result<String, AllocError> {
     match told {
-        Told::NothingDue => String::from_str(alloc, "nothing due"),
-        Told::Quiet(removed) => format!(in alloc; "quiet, removed {removed}"),
-        Told::Flush(place) => opened(alloc, stage.tickets().get(place)),
-        Told::Outcomes(place) => outcomes(alloc, stage.tickets().get(place)),
-        Told::Recorded => String::from_str(alloc, "recorded"),
-        Told::Noted => String::from_str(alloc, "noted"),
-        Told::NotOpen => String::from_str(alloc, "NotOpen"),
-        Told::Rows => rows(alloc, stage.board()),
-        Told::Groups => groups(alloc, stage.board()),
-        Told::Summary => summary(alloc, stage.board()),
+        Answer::NothingDue => String::from_str(alloc, "nothing due"),
+        Answer::Quiet(removed) => format!(in alloc; "quiet, removed {removed}"),
+        Answer::Flush(place) => opened(alloc, stage.tickets().get(place)),
+        Answer::Outcomes(place) => outcomes(alloc, stage.tickets().get(place)),
+        Answer::Recorded => String::from_str(alloc, "recorded"),
+        Answer::Noted => String::from_str(alloc, "noted"),
+        Answer::NotOpen => String::from_str(alloc, "NotOpen"),
+        Answer::Outlook(now) => outlook(alloc, stage.board(), now),
+        Answer::Rows => rows(alloc, stage.board()),
+        Answer::Groups => groups(alloc, stage.board()),
+        Answer::Summary => summary(alloc, stage.board()),
         _ => history(alloc, stage.board()),
     }
 }
@@ -158,6 +161,41 @@ fn push_labels(text: &mut String, labels: &Labels) -> Result<(), AllocError> {
         text.push_str(label.value.as_str())?;
     }
     Ok(())
+}
+
+/// What a begin at a moment is to do.
+fn outlook(alloc: Global, board: &Board, now: u64) -> Result<String, AllocError> {
+    match board.outlook(alloc, now)? {
+        None => String::from_str(alloc, "nothing due"),
+        Some(outlook) => on_group(alloc, &outlook),
+    }
+}
+
+/// The moment of a begin, its group, each alert that is muted, and the reason of each integration.
+fn on_group(alloc: Global, outlook: &Outlook) -> Result<String, AllocError> {
+    let (moment, route) = (outlook.moment, outlook.group.route);
+    let mut text = format!(in alloc; "at {moment} {route}:")?;
+    push_labels(&mut text, &outlook.group.labels)?;
+    for muted in outlook.muted.as_slice() {
+        push_muted(&mut text, muted)?;
+    }
+    text.push_str(":")?;
+    for reason in outlook.reasons.as_slice() {
+        write!(text, " {reason:?}")?;
+    }
+    Ok(text)
+}
+
+fn push_muted(text: &mut String, muted: &MutedAlert) -> Result<(), AllocError> {
+    text.push_str(", ")?;
+    push_labels(text, &muted.labels)?;
+    match &muted.cause {
+        MuteCause::Silenced { id, until } => write!(text, " silenced by {id} until {until}"),
+        MuteCause::Inhibited { rule, by } => {
+            write!(text, " inhibited by rule {rule} and ")?;
+            push_labels(text, by)
+        }
+    }
 }
 
 /// The rows of the log: group, integration, moment, expiry, firing and resolved label sets.

@@ -37,7 +37,7 @@ pub struct OwnTicket {
 }
 
 /// The answer to a begin.
-pub enum Step {
+pub enum OwnBegun {
     NothingDue,
     Quiet(usize),
     Flush(OwnTicket),
@@ -91,11 +91,11 @@ impl Desk {
     }
 
     /// Begins the flush of the group that is due first.
-    pub fn begin(&mut self, alloc: Global, now: u64) -> Result<Step, Fault> {
+    pub fn begin(&mut self, alloc: Global, now: u64) -> Result<OwnBegun, Fault> {
         match self.board.begin(alloc, PASS, now) {
-            Ok(Begun::NothingDue) => Ok(Step::NothingDue),
-            Ok(Begun::Quiet { group: _, removed }) => Ok(Step::Quiet(removed)),
-            Ok(Begun::Flush(ticket)) => Ok(Step::Flush(OwnTicket { ticket })),
+            Ok(Begun::NothingDue) => Ok(OwnBegun::NothingDue),
+            Ok(Begun::Quiet { group: _, removed }) => Ok(OwnBegun::Quiet(removed)),
+            Ok(Begun::Flush(ticket)) => Ok(OwnBegun::Flush(OwnTicket { ticket })),
             Err(fault) => Err(fault),
         }
     }

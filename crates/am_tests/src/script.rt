@@ -1,6 +1,6 @@
 //! Scripts: a call in each line, which is told its answer.
 use crate::answers::{answer, look};
-use crate::stage::{Stage, Told};
+use crate::stage::{Answer, Stage};
 use crate::words::Trouble;
 use am_board::fault::Fault;
 use std::alloc::{AllocError, Global};
@@ -41,10 +41,10 @@ fn tell(alloc: Global, stage: &mut Stage, call: &str) -> Result<String, Trouble>
 }
 
 /// Whether a call was refused for want of memory.
-fn is_memory(told: &Result<Told, Trouble>) -> bool {
+fn is_memory(told: &Result<Answer, Trouble>) -> bool {
     matches!(
         told,
-        Err(Trouble::NoMemory) | Ok(Told::Refused(Fault::NoMemory))
+        Err(Trouble::NoMemory) | Ok(Answer::Refused(Fault::NoMemory))
     )
 }
 

@@ -1,5 +1,5 @@
 //! The calls of a script, one after the other, on one desk.
-use crate::desk::{ABROAD, Desk, Elsewhere, Ending, HOME, OwnTicket, Step, finish_at, note_at};
+use crate::desk::{ABROAD, Desk, Elsewhere, Ending, HOME, OwnBegun, OwnTicket, finish_at, note_at};
 use crate::setup::read_config;
 use crate::values::{read_alert, read_outcome, read_silence};
 use crate::words::{Trouble, Words};
@@ -20,7 +20,7 @@ pub struct Stage {
 
 /// The answer to a line.
 #[derive(Clone, Copy)]
-pub enum Told {
+pub enum Answer {
     Kept,
     Opened,
     BadConfig(ConfigFault),
@@ -44,6 +44,8 @@ pub enum Told {
     /// Foreign, and the board that said so has so many records.
     Foreign(usize),
     Refused(Fault),
+    /// What a begin at this moment is to do.
+    Outlook(u64),
     Rows,
     Groups,
     Summary,
@@ -78,7 +80,7 @@ impl Stage {
 
     /// Makes the call of a line. Where a request for memory is refused, nothing changes, but for a
     /// `fill`.
-    pub fn make(&mut self, alloc: Global, line: &str) -> Result<Told, Trouble> {
+    pub fn make(&mut self, alloc: Global, line: &str) -> Result<Answer, Trouble> {
         let mut words = Words::of(line);
         match words.word()? {
             "desk" => self.open(alloc, words.rest()),
@@ -88,100 +90,101 @@ impl Stage {
             "maintain" => self.maintain(alloc, &mut words),
             "begin" => self.begin(alloc, &mut words),
             "report" => self.report(&mut words),
-            "outcomes" => Ok(Told::Outcomes(self.find(words.number()?)?)),
+            "outcomes" => Ok(Answer::Outcomes(self.find(words.number()?)?)),
             "note" => self.note(alloc, &mut words),
             "finish" => self.finish(alloc, &mut words),
-            "rows" => Ok(Told::Rows),
-            "groups" => Ok(Told::Groups),
-            "summary" => Ok(Told::Summary),
-            "history" => Ok(Told::History),
+            "outlook" => Ok(Answer::Outlook(words.number()?)),
+            "rows" => Ok(Answer::Rows),
+            "groups" => Ok(Answer::Groups),
+            "summary" => Ok(Answer::Summary),
+            "history" => Ok(Answer::History),
             "retention" | "limit" | "ungrouped" | "child" | "inhibit" => self.keep(alloc, line),
             _ => Err(Trouble::BadLine),
         }
     }
 
     /// Keeps a line on the configuration of the next desk.
-    fn keep(&mut self, alloc: Global, line: &str) -> Result<Told, Trouble> {
+    fn keep(&mut self, alloc: Global, line: &str) -> Result<Answer, Trouble> {
         let kept = String::from_str(alloc, line)?;
         self.setup.push(kept)?;
-        Ok(Told::Kept)
+        Ok(Answer::Kept)
     }
 
     /// Opens a new desk in the place of the one before, whose flushes are finished.
-    fn open(&mut self, alloc: Global, integrations: &str) -> Result<Told, Trouble> {
+    fn open(&mut self, alloc: Global, integrations: &str) -> Result<Answer, Trouble> {
         let config = read_config(alloc, self.setup.as_slice(), integrations)?;
         match Desk::open(alloc, config) {
             Ok(desk) => {
                 finish_all(&mut self.desk, replace(&mut self.tickets, Vec::new(alloc)));
                 self.desk = desk;
                 self.setup.clear();
-                Ok(Told::Opened)
+                Ok(Answer::Opened)
             }
             Err(BoardFault::NoMemory) => Err(Trouble::NoMemory),
             Err(BoardFault::BadConfig(fault)) => {
                 self.setup.clear();
-                Ok(Told::BadConfig(fault))
+                Ok(Answer::BadConfig(fault))
             }
         }
     }
 
-    fn insert(&mut self, alloc: Global, words: &mut Words<'_>) -> Result<Told, Trouble> {
+    fn insert(&mut self, alloc: Global, words: &mut Words<'_>) -> Result<Answer, Trouble> {
         let now = words.number()?;
         let alert = read_alert(alloc, words)?;
         Ok(match self.desk.insert(alloc, now, alert) {
-            Ok(told) => Told::Inserted(told),
-            Err(fault) => Told::Refused(fault),
+            Ok(told) => Answer::Inserted(told),
+            Err(fault) => Answer::Refused(fault),
         })
     }
 
     /// `fill MOMENT COUNT`: inserts as many alerts, named `F0`, `F1` and so on. It isn't for scripts
     /// that run short of memory, since it makes several calls.
-    fn fill(&mut self, alloc: Global, words: &mut Words<'_>) -> Result<Told, Trouble> {
+    fn fill(&mut self, alloc: Global, words: &mut Words<'_>) -> Result<Answer, Trouble> {
         let now = words.number()?;
         let count = words.number()?;
         for i in 0..count {
             let line = format!(in alloc; "F{i} {now}")?;
             let alert = read_alert(alloc, &mut Words::of(line.as_str()))?;
             if let Err(fault) = self.desk.insert(alloc, now, alert) {
-                return Ok(Told::Refused(fault));
+                return Ok(Answer::Refused(fault));
             }
         }
-        Ok(Told::Filled(count))
+        Ok(Answer::Filled(count))
     }
 
-    fn silence(&mut self, alloc: Global, words: &mut Words<'_>) -> Result<Told, Trouble> {
+    fn silence(&mut self, alloc: Global, words: &mut Words<'_>) -> Result<Answer, Trouble> {
         let silence = read_silence(alloc, words)?;
         Ok(match self.desk.silence(alloc, 0, silence) {
-            Ok(told) => Told::Silenced(told),
-            Err(fault) => Told::Refused(fault),
+            Ok(told) => Answer::Silenced(told),
+            Err(fault) => Answer::Refused(fault),
         })
     }
 
-    fn maintain(&mut self, alloc: Global, words: &mut Words<'_>) -> Result<Told, Trouble> {
+    fn maintain(&mut self, alloc: Global, words: &mut Words<'_>) -> Result<Answer, Trouble> {
         Ok(match self.desk.maintain(alloc, words.number()?) {
-            Ok(told) => Told::Maintained(told),
-            Err(fault) => Told::Refused(fault),
+            Ok(told) => Answer::Maintained(told),
+            Err(fault) => Answer::Refused(fault),
         })
     }
 
-    fn begin(&mut self, alloc: Global, words: &mut Words<'_>) -> Result<Told, Trouble> {
+    fn begin(&mut self, alloc: Global, words: &mut Words<'_>) -> Result<Answer, Trouble> {
         let now = words.number()?;
         self.tickets.reserve(1)?;
         Ok(match self.desk.begin(alloc, now) {
-            Ok(Step::NothingDue) => Told::NothingDue,
-            Ok(Step::Quiet(removed)) => Told::Quiet(removed),
-            Ok(Step::Flush(own)) => {
+            Ok(OwnBegun::NothingDue) => Answer::NothingDue,
+            Ok(OwnBegun::Quiet(removed)) => Answer::Quiet(removed),
+            Ok(OwnBegun::Flush(own)) => {
                 let place = self.tickets.len();
                 self.tickets.push_reserved(own);
-                Told::Flush(place)
+                Answer::Flush(place)
             }
-            Err(fault) => Told::Refused(fault),
+            Err(fault) => Answer::Refused(fault),
         })
     }
 
     /// `report TICKET INTEGRATION OUTCOME`, and the number of another ticket if the report is of
     /// that one, and `abroad` if it is of another desk.
-    fn report(&mut self, words: &mut Words<'_>) -> Result<Told, Trouble> {
+    fn report(&mut self, words: &mut Words<'_>) -> Result<Answer, Trouble> {
         let number = words.number()?;
         let i = self.find(number)?;
         let integration = words.position()?;
@@ -200,13 +203,13 @@ impl Stage {
             return Err(Trouble::BadLine);
         };
         Ok(match own.record(desk, named, integration, outcome) {
-            Ok(()) => Told::Recorded,
-            Err(fault) => Told::Unrecorded(fault),
+            Ok(()) => Answer::Recorded,
+            Err(fault) => Answer::Unrecorded(fault),
         })
     }
 
     /// `note TICKET PLACE MOMENT`, and `abroad` or `namesake` if another board is asked.
-    fn note(&mut self, alloc: Global, words: &mut Words<'_>) -> Result<Told, Trouble> {
+    fn note(&mut self, alloc: Global, words: &mut Words<'_>) -> Result<Answer, Trouble> {
         let i = self.find(words.number()?)?;
         let place = words.place()?;
         let now = words.number()?;
@@ -218,14 +221,14 @@ impl Stage {
             Some(which) => note_at(alloc, &mut other(alloc, which)?, own, place, now),
         };
         Ok(match noted {
-            Ok(_) => Told::Noted,
-            Err(NoteFault::NoMemory) => Told::Refused(Fault::NoMemory),
-            Err(fault) => Told::Unnoted(fault),
+            Ok(_) => Answer::Noted,
+            Err(NoteFault::NoMemory) => Answer::Refused(Fault::NoMemory),
+            Err(fault) => Answer::Unnoted(fault),
         })
     }
 
     /// `finish TICKET MOMENT`, and `abroad` or `namesake` if another board is asked.
-    fn finish(&mut self, alloc: Global, words: &mut Words<'_>) -> Result<Told, Trouble> {
+    fn finish(&mut self, alloc: Global, words: &mut Words<'_>) -> Result<Answer, Trouble> {
         let i = self.find(words.number()?)?;
         let now = words.number()?;
         match words.next() {
@@ -237,26 +240,26 @@ impl Stage {
         }
     }
 
-    fn finish_here(&mut self, i: usize, now: u64) -> Result<Told, Trouble> {
+    fn finish_here(&mut self, i: usize, now: u64) -> Result<Answer, Trouble> {
         if i >= self.tickets.len() {
             return Err(Trouble::BadLine);
         }
         Ok(match self.desk.finish(self.tickets.remove(i), now) {
-            Ending::Finished(told) => Told::Finished(told),
-            Ending::NotOpen => Told::NotOpen,
+            Ending::Finished(told) => Answer::Finished(told),
+            Ending::NotOpen => Answer::NotOpen,
         })
     }
 
-    fn finish_there(&mut self, board: &mut Board, i: usize, now: u64) -> Result<Told, Trouble> {
+    fn finish_there(&mut self, board: &mut Board, i: usize, now: u64) -> Result<Answer, Trouble> {
         if i >= self.tickets.len() {
             return Err(Trouble::BadLine);
         }
         Ok(match finish_at(board, self.tickets.remove(i), now) {
-            Elsewhere::Finished(told) => Told::Finished(told),
-            Elsewhere::NotOpen => Told::NotOpen,
+            Elsewhere::Finished(told) => Answer::Finished(told),
+            Elsewhere::NotOpen => Answer::NotOpen,
             Elsewhere::Back(own) => {
                 self.tickets.push_reserved(own);
-                Told::Foreign(board.history().len())
+                Answer::Foreign(board.history().len())
             }
         })
     }

@@ -5,14 +5,14 @@ use Rattle.std.proofs.lemmas.Bool.Decides.{nat_tests}
 use Rattle.std.proofs.lemmas.List.{get_or_default, length-map}
 use Rattle.am_alerts.specs.RoutingTree.{route_at}
 use Rattle.am_board.specs.declared.begin.Begun.{Begun}
-use Rattle.am_board.specs.declared.begin.Taking.{Taking}
+use Rattle.am_board.specs.declared.begin.ChosenGroup.{ChosenGroup}
 use Rattle.am_model.specs.declared.config.Config.{Config}
 use Rattle.am_model.specs.declared.config.Integration.{Integration}
 use Rattle.am_model.specs.declared.fault.Fault.{Fault}
 use Rattle.am_model.specs.declared.fault.Fault.TheVariants.{NoMemory, TooManyOpen, HistoryFull}
 use Rattle.am_board.specs.declared.flush.OpenFlush.{OpenFlush}
 use Rattle.am_board.specs.declared.group.Group.{Group}
-use Rattle.am_board.specs.declared.opening.Opening.{Opening}
+use Rattle.am_board.specs.declared.plan.PlannedFlush.{PlannedFlush}
 use Rattle.am_model.specs.declared.record.Call.TheVariants.{Begin}
 use Rattle.am_board.specs.declared.state.State as kept
 use Rattle.am_model.specs.Begin.{asked_of, taken}
@@ -20,7 +20,7 @@ use Rattle.am_model.specs.Causes.{is_full, asks_some, opens_by, begin_cause}
 use Rattle.am_model.specs.Records.{entry}
 use Rattle.am_board.specs.History.{reply_of, IsFresh}
 use Rattle.am_board.specs.Kept.{state_of, group_state, flush_state}
-use Rattle.am_board.specs.Beginning.{IsPlan, first_of, IsTaking, IsEnd}
+use Rattle.am_board.specs.Beginning.{IsPlan, first_of, IsChosen, IsEnd}
 use Rattle.am_model.specs.State.{moment}
 use Rattle.am_board.specs.Step.{Accepts, Stays, IsAnswer}
 
@@ -97,65 +97,65 @@ pub taken-none : (s : kept.State) (t : ℕ) (groups : List Group) (flushes : Lis
 taken-none s t groups flushes all open_now none = (λ i. first_of (map flush_state (sym open_now i)) t (map group_state (sym all i))) ∙ none
 
 -- the group that was found is the one that the begin takes
-pub taking_found : (config : Config) (s : kept.State) (taking : Taking) (g : Group) (groups : List Group) (flushes : List OpenFlush)
+pub taking_found : (config : Config) (s : kept.State) (chosen : ChosenGroup) (g : Group) (groups : List Group) (flushes : List OpenFlush)
     → groups ≡ s.groups.items → flushes ≡ s.flushes.items
-    → taking.t ≡ moment (state_of s) taking.now → taking.place < length groups
-    → first_of (map flush_state flushes) taking.t (map group_state groups) ≡ Some (group_state (get_or groups taking.place g))
-    → g ≡ get_or s.groups.items taking.place g
-    → taking.due ≡ taking.t + (route_at config.routes g.name.route).group_interval
-    → IsTaking config s taking g
-taking_found config s taking g groups flushes all open_now at within first is due =
-    let place : taking.place < length s.groups.items = omega (arith, within, ap (λ (gs : List Group). length gs) all) in
+    → chosen.t ≡ moment (state_of s) chosen.now → chosen.place < length groups
+    → first_of (map flush_state flushes) chosen.t (map group_state groups) ≡ Some (group_state (get_or groups chosen.place g))
+    → g ≡ get_or s.groups.items chosen.place g
+    → chosen.due ≡ chosen.t + (route_at config.routes g.name.route).group_interval
+    → IsChosen config s chosen g
+taking_found config s chosen g groups flushes all open_now at within first is due =
+    let place : chosen.place < length s.groups.items = omega (arith, within, ap (λ (gs : List Group). length gs) all) in
     record {
       moment = at;
       place = place;
-      group = λ d. get_or_default s.groups.items taking.place d g place ∙ sym is;
+      group = λ d. get_or_default s.groups.items chosen.place d g place ∙ sym is;
       first =
-          (λ i. first_of (map flush_state (sym open_now i)) taking.t (map group_state (sym all i)))
+          (λ i. first_of (map flush_state (sym open_now i)) chosen.t (map group_state (sym all i)))
           ∙ first
-          ∙ ap (λ (gs : List Group). Some (group_state (get_or gs taking.place g))) all
+          ∙ ap (λ (gs : List Group). Some (group_state (get_or gs chosen.place g))) all
           ∙ ap (λ (x : Group). Some (group_state x)) (sym is);
       due = due;
     }
 
 -- ---- what is worked out for the group that a begin takes
 
-module _ (config : Config) (id : ℕ) (s : kept.State) (taking : Taking) (g : Group) (takes : IsTaking config s taking g) where
+module _ (config : Config) (id : ℕ) (s : kept.State) (chosen : ChosenGroup) (g : Group) (takes : IsChosen config s chosen g) where
   -- the plan is for this group
-  planned : (r : Result (Option Opening) Fault)
-      → ((d : Group) → IsPlan config id (vec_len s.flushes) (state_of s) taking.t (group_state (slice_index_or s.groups.items taking.place d)) r)
-      → IsPlan config id (vec_len s.flushes) (state_of s) taking.t (group_state g) r
-  planned r plan = subst (λ (x : Group). IsPlan config id (vec_len s.flushes) (state_of s) taking.t (group_state x) r) (takes.group g) (plan g)
+  planned : (r : Result (Option PlannedFlush) Fault)
+      → ((d : Group) → IsPlan config id (vec_len s.flushes) (state_of s) chosen.t (group_state (slice_index_or s.groups.items chosen.place d)) r)
+      → IsPlan config id (vec_len s.flushes) (state_of s) chosen.t (group_state g) r
+  planned r plan = subst (λ (x : Group). IsPlan config id (vec_len s.flushes) (state_of s) chosen.t (group_state x) r) (takes.group g) (plan g)
 
   -- nobody is asked
-  pub planned_none : (o : Option Opening)
-      → ((d : Group) → IsPlan config id (vec_len s.flushes) (state_of s) taking.t (group_state (slice_index_or s.groups.items taking.place d)) (Ok o))
-      → o ≡ None → asked_of config (state_of s) taking.t (group_state g) ≡ []
-  planned_none o plan e = subst (λ (x : Option Opening). IsPlan config id (vec_len s.flushes) (state_of s) taking.t (group_state g) (Ok x)) e (planned (Ok o) plan)
+  pub planned_none : (o : Option PlannedFlush)
+      → ((d : Group) → IsPlan config id (vec_len s.flushes) (state_of s) chosen.t (group_state (slice_index_or s.groups.items chosen.place d)) (Ok o))
+      → o ≡ None → asked_of config (state_of s) chosen.t (group_state g) ≡ []
+  planned_none o plan e = subst (λ (x : Option PlannedFlush). IsPlan config id (vec_len s.flushes) (state_of s) chosen.t (group_state g) (Ok x)) e (planned (Ok o) plan)
 
   -- a flush is opened
-  pub planned_some : (o : Option Opening) (opening : Opening)
-      → ((d : Group) → IsPlan config id (vec_len s.flushes) (state_of s) taking.t (group_state (slice_index_or s.groups.items taking.place d)) (Ok o))
-      → o ≡ Some opening → IsPlan config id (vec_len s.flushes) (state_of s) taking.t (group_state g) (Ok (Some opening))
-  planned_some o opening plan e = subst (λ (x : Option Opening). IsPlan config id (vec_len s.flushes) (state_of s) taking.t (group_state g) (Ok x)) e (planned (Ok o) plan)
+  pub planned_some : (o : Option PlannedFlush) (flush : PlannedFlush)
+      → ((d : Group) → IsPlan config id (vec_len s.flushes) (state_of s) chosen.t (group_state (slice_index_or s.groups.items chosen.place d)) (Ok o))
+      → o ≡ Some flush → IsPlan config id (vec_len s.flushes) (state_of s) chosen.t (group_state g) (Ok (Some flush))
+  planned_some o flush plan e = subst (λ (x : Option PlannedFlush). IsPlan config id (vec_len s.flushes) (state_of s) chosen.t (group_state g) (Ok x)) e (planned (Ok o) plan)
 
   -- whether a flush is to be opened, by what is asked
-  opens_taken : opens_by config (state_of s) taking.t (taken (state_of s) taking.t) ≡ asks_some (asked_of config (state_of s) taking.t (group_state g))
-  opens_taken = ap (λ o. opens_by config (state_of s) taking.t o) takes.first
+  opens_taken : opens_by config (state_of s) chosen.t (taken (state_of s) chosen.t) ≡ asks_some (asked_of config (state_of s) chosen.t (group_state g))
+  opens_taken = ap (λ o. opens_by config (state_of s) chosen.t o) takes.first
 
   module _ (room : vec_len s.history + vec_len s.flushes + 2 ≤ config.limits.history) where
     -- nobody is asked: only memory can be wanting
-    pub cause-quiet : asked_of config (state_of s) taking.t (group_state g) ≡ [] → begin_cause config (vec_len s.history) (state_of s) (moment (state_of s) taking.now) ≡ None
-    cause-quiet none = cause-closed config s taking.now taking.t takes.moment room (opens_taken ∙ ap asks_some none)
+    pub cause-quiet : asked_of config (state_of s) chosen.t (group_state g) ≡ [] → begin_cause config (vec_len s.history) (state_of s) (moment (state_of s) chosen.now) ≡ None
+    cause-quiet none = cause-closed config s chosen.now chosen.t takes.moment room (opens_taken ∙ ap asks_some none)
 
     -- why it is refused before anything is put
     pub planned_err : (fault : Fault)
-        → ((d : Group) → IsPlan config id (vec_len s.flushes) (state_of s) taking.t (group_state (slice_index_or s.groups.items taking.place d)) (Err fault))
-        → IsAnswer (begin_cause config (vec_len s.history) (state_of s) (moment (state_of s) taking.now)) fault
+        → ((d : Group) → IsPlan config id (vec_len s.flushes) (state_of s) chosen.t (group_state (slice_index_or s.groups.items chosen.place d)) (Err fault))
+        → IsAnswer (begin_cause config (vec_len s.history) (state_of s) (moment (state_of s) chosen.now)) fault
     planned_err fault plan =
         elim (planned (Err fault) plan) [
-          | inl memory ↦ subst (λ f. IsAnswer (begin_cause config (vec_len s.history) (state_of s) (moment (state_of s) taking.now)) f) (sym memory) (answer-memory config s taking.now taking.t takes.moment room)
+          | inl memory ↦ subst (λ f. IsAnswer (begin_cause config (vec_len s.history) (state_of s) (moment (state_of s) chosen.now)) f) (sym memory) (answer-memory config s chosen.now chosen.t takes.moment room)
           | inr full ↦
-              let many = cause-many config s taking.now taking.t takes.moment room full.2 (opens_taken ∙ asks_some-true (asked_of config (state_of s) taking.t (group_state g)) full.1) in
+              let many = cause-many config s chosen.now chosen.t takes.moment room full.2 (opens_taken ∙ asks_some-true (asked_of config (state_of s) chosen.t (group_state g)) full.1) in
               subst (λ o. IsAnswer o fault) (sym many) (inl full.0)
         ]

@@ -1,7 +1,11 @@
 -- The rows that a finish logs, one integration after the other.
-use Rattle.std.proofs.Common.{◌≡◌, ℕ, ◌+◌, ◌≤◌, not, ◌&&◌, List, [], ◌∷◌, ◌++◌, length, map, filter, fold, sym, ap, ◌∙◌, subst, arith, length-append}
+use Rattle.std.proofs.Common.{◌≡◌, ℕ, ◌+◌, ◌≤◌, Bool, true, false, cond, not, ◌&&◌}
+use Rattle.std.proofs.Common.{List, [], ◌∷◌, ◌++◌, length, map, filter, fold, sym, ap, ◌∙◌, subst, arith, length-append}
 use Rattle.std.specs.Prelude.{IsTrue}
-use Rattle.std.proofs.lemmas.List.{length-map, map-append}
+use Rattle.std.specs.List.{list_all}
+use Rattle.std.proofs.Math.Bool.{and-true}
+use Rattle.std.proofs.lemmas.List.{append-nil, length-map, map-append}
+use Rattle.std.proofs.lemmas.List.Folds.{list_all-append}
 use Rattle.std.proofs.lemmas.List.Elements.{filter-append}
 use Rattle.std.proofs.lemmas.List.Sums.{length-filter, count_by-le-length, fold-append}
 use Rattle.am_alerts.specs.declared.labels.Label.{Label}
@@ -34,6 +38,24 @@ module _ (outcomes : List (ℕ × Outcome)) where
   pub logged-at-most : (xs : List Asked) → length (logged_of outcomes xs) ≤ length xs
   logged-at-most xs =
       omega (arith, length-filter (λ a. has_succeeded outcomes a && not a.noted) (map asked_state_of xs), count_by-le-length (λ a. has_succeeded outcomes a && not a.noted) (map asked_state_of xs), length-map xs asked_state_of)
+
+  -- an integration that didn't succeed is passed over
+  module _ (xs : List Asked) (x : Asked) (failed : has_succeeded outcomes (asked_state_of x) ≡ false) where
+    pub logged-same : logged_of outcomes xs ≡ logged_of outcomes (xs ++ x ∷ [])
+    logged-same =
+        sym (logged_of-more xs x
+        ∙ (ap (λ b. logged_of outcomes xs ++ cond (b && not (asked_state_of x).noted) (asked_state_of x ∷ []) []) failed ∙ append-nil (logged_of outcomes xs)))
+
+    pub rows_with-same : (f : OpenFlush) (t : ℕ) (rows : List RowView) → rows_with f t outcomes xs rows ≡ rows_with f t outcomes (xs ++ x ∷ []) rows
+    rows_with-same f t rows = ap (fold (λ log a. log_with (row_for f t a.integration) log) rows) logged-same
+
+  -- whether all succeeded, with an integration more
+  pub all-more : (xs : List Asked) (x : Asked) (b : Bool) → has_succeeded outcomes (asked_state_of x) ≡ b
+      → list_all (λ a. has_succeeded outcomes (asked_state_of a)) (xs ++ x ∷ []) ≡ (list_all (λ a. has_succeeded outcomes (asked_state_of a)) xs && b)
+  all-more xs x b is =
+      let all = list_all (λ a. has_succeeded outcomes (asked_state_of a)) xs in
+      list_all-append (λ a. has_succeeded outcomes (asked_state_of a)) xs (x ∷ [])
+      ∙ (ap (λ c. all && (c && true)) is ∙ ap (λ c. all && c) (and-true b))
 
 -- what is asked of one log is asked of another that knows the same keys
 pub asked-of : (log new : Slots GroupName (List Label)) (f : OpenFlush) (a : Asked) → KnowTheSame new log → IsAsked log f a → IsAsked new f a

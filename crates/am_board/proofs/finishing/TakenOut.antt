@@ -1,5 +1,6 @@
 -- A finish takes the alerts that leave out of their group.
-use Rattle.std.proofs.Common.{◌≡◌, ℕ, ◌<◌, Bool, true, false, ◌&&◌, Option, Some, None, List, [], length, map, get_or, set, find, count_by, unwrap_or, sym, ap, ◌∙◌, arith}
+use Rattle.std.proofs.Common.{◌≡◌, ℕ, ◌<◌, false, Option, Some, None, List}
+use Rattle.std.proofs.Common.{[], length, map, get_or, set, find, count_by, unwrap_or, refl, sym, ap, ◌∙◌, arith}
 use Rattle.std.specs.Prelude.{position}
 use Rattle.std.specs.List.{list_all, IsDistinct}
 use Rattle.std.specs.Option.{option_map}
@@ -8,11 +9,13 @@ use Rattle.std.proofs.lemmas.List.Folds.{list_all-map}
 use Rattle.std.proofs.lemmas.List.Quantifiers.{position-Some}
 use Rattle.std.proofs.lemmas.List.Sums.{length-filter}
 use Rattle.am_retry.specs.declared.outcome.Outcome.{Outcome}
-use Rattle.am_model.specs.Finish.{has_succeeded, all_succeeded, is_leaving, leaves_by, finished_group}
+use Rattle.am_model.specs.Finish.{has_succeeded, all_succeeded}
 use Rattle.am_model.specs.Insert.{same_group}
-use Rattle.am_board.specs.Kept.{asked_state_of, member_state, stamped, group_state, flush_state}
-use Rattle.am_model.specs.Lists.{without, changed_where}
+use Rattle.am_board.specs.Finishing.{leaves_where, without_leaving}
+use Rattle.am_board.specs.Kept.{asked_state_of, member_state, group_state, flush_state}
+use Rattle.am_model.specs.Lists.{changed_where}
 use Rattle.am_model.specs.State.{MemberState, GroupState, same_name, is_named, members_in}
+use Rattle.am_board.specs.declared.flush.LeavingAlert.{LeavingAlert}
 use Rattle.am_board.specs.declared.flush.OpenFlush.{OpenFlush}
 use Rattle.am_board.specs.declared.group.Group.{Group}
 use Rattle.am_model.specs.declared.group.GroupName.{GroupName}
@@ -51,33 +54,18 @@ changed-found name groups i d change g at distinct is =
 
 -- ---- whether all succeeded
 
-module _ (outcomes : List (ℕ × Outcome)) (f : OpenFlush) where
-  all-kept : (b : Bool) → list_all (λ a. has_succeeded outcomes (asked_state_of a)) f.asked.items ≡ b → all_succeeded outcomes (flush_state f) ≡ b
-  all-kept b h = list_all-map (has_succeeded outcomes) asked_state_of f.asked.items ∙ h
+pub all-kept : (outcomes : List (ℕ × Outcome)) (f : OpenFlush) → all_succeeded outcomes (flush_state f) ≡ list_all (λ a. has_succeeded outcomes (asked_state_of a)) f.asked.items
+all-kept outcomes f = list_all-map (has_succeeded outcomes) asked_state_of f.asked.items
 
-  -- where one failed nobody leaves
-  module _ (failed : list_all (λ a. has_succeeded outcomes (asked_state_of a)) f.asked.items ≡ false) where
-    nobody : (m : MemberState) → leaves_by outcomes (flush_state f) m ≡ false
-    nobody m = ap (λ b. b && is_leaving (map stamped f.leaving.items) m) (all-kept false failed)
+-- where one failed nobody leaves
+module _ (leaving : List LeavingAlert) where
+  pub none-leave : (ms : List MemberState) → count_by (leaves_where false leaving) ms ≡ 0
+  none-leave ms =
+      sym (length-filter (leaves_where false leaving) ms)
+      ∙ ap length (filter-none (leaves_where false leaving) ms (all-never (leaves_where false leaving) (λ m. refl) ms))
 
-    pub none-leave : (ms : List MemberState) → count_by (leaves_by outcomes (flush_state f)) ms ≡ 0
-    none-leave ms =
-        sym (length-filter (leaves_by outcomes (flush_state f)) ms)
-        ∙ ap length (filter-none (leaves_by outcomes (flush_state f)) ms (all-never (leaves_by outcomes (flush_state f)) nobody ms))
+  same-group : (g : GroupState) → without_leaving false leaving g ≡ g
+  same-group g = ap (λ ms. record g { members = ms }) (without-none (leaves_where false leaving) g.members (all-never (leaves_where false leaving) (λ m. refl) g.members))
 
-    same-group : (g : GroupState) → finished_group outcomes (flush_state f) g ≡ g
-    same-group g = ap (λ ms. record g { members = ms }) (without-none (leaves_by outcomes (flush_state f)) g.members (all-never (leaves_by outcomes (flush_state f)) nobody g.members))
-
-    pub groups-stay : (groups : List GroupState) → changed_where (is_named f.group) (finished_group outcomes (flush_state f)) groups ≡ groups
-    groups-stay groups = changed_where-same (is_named f.group) (finished_group outcomes (flush_state f)) same-group groups
-
-  -- where all succeeded those leave that stand in the group as they did
-  module _ (succeeded : list_all (λ a. has_succeeded outcomes (asked_state_of a)) f.asked.items ≡ true) where
-    leavers : leaves_by outcomes (flush_state f) ≡ is_leaving (map stamped f.leaving.items)
-    leavers i m = all-kept true succeeded i && is_leaving (map stamped f.leaving.items) m
-
-    pub count-left : (ms : List MemberState) → count_by (leaves_by outcomes (flush_state f)) ms ≡ count_by (is_leaving (map stamped f.leaving.items)) ms
-    count-left ms = ap (λ test. count_by test ms) leavers
-
-    pub group-left : (g : GroupState) → finished_group outcomes (flush_state f) g ≡ record g { members = without (is_leaving (map stamped f.leaving.items)) g.members }
-    group-left g = ap (λ (test : MemberState → Bool). record g { members = without test g.members }) leavers
+  pub groups-stay : (name : GroupName) (groups : List GroupState) → changed_where (is_named name) (without_leaving false leaving) groups ≡ groups
+  groups-stay name groups = changed_where-same (is_named name) (without_leaving false leaving) same-group groups

@@ -6,9 +6,8 @@ use Rattle.std.proofs.lemmas.List.{get_or_default}
 use Rattle.std.proofs.lemmas.List.Elements.{All-nil, All-cons}
 use Rattle.std.proofs.lemmas.List.Quantifiers.{position-Some}
 use Rattle.indexmap.specs.Layout.{set_value_at}
-use Rattle.am_board.specs.Group.{names_of, HasRoom, Fits}
+use Rattle.am_board.specs.Group.{names_of, HasRoom, Fits, Changes}
 use Rattle.am_board.specs.GroupList.{GroupList}
-use Rattle.am_board.specs.Groups.{Changes}
 use Rattle.am_model.specs.State.{same_name}
 use Rattle.am_board.specs.declared.group.Group.{Group}
 use Rattle.am_model.specs.declared.group.GroupName.{GroupName}

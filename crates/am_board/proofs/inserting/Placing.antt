@@ -1,24 +1,20 @@
 -- The groups of a state, as an insert puts an alert into one of those that are kept.
 use Rattle.std.proofs.Common.{◌≡◌, ℕ, ◌+◌, ◌<◌, Bool, false, Option, Some, None, List, [], ◌∷◌, ◌++◌, map, length, get_or, take, refl, sym, ap, ◌∙◌, subst, arith}
 use Rattle.std.specs.Prelude.{find, unwrap_or}
-use Rattle.std.specs.List.{position}
 use Rattle.std.proofs.Math.ListN.{set}
 use Rattle.std.proofs.lemmas.List.{get_or-map, map-append, take_more}
 use Rattle.am_model.specs.declared.config.Config.{Config}
 use Rattle.am_board.specs.declared.group.Group.{Group}
 use Rattle.am_model.specs.declared.group.GroupName.{GroupName}
-use Rattle.am_board.specs.declared.insert.Placement.{Placement}
+use Rattle.am_board.specs.declared.insert.Target.{Target}
 use Rattle.am_model.specs.Insert.{same_group, wait_of, new_group, group_with, put_into_group}
 use Rattle.am_board.specs.declared.group.Member.{Member}
+use Rattle.am_board.specs.Inserting.{place_in}
 use Rattle.am_board.specs.Kept.{member_state, group_state}
 use Rattle.am_model.specs.Lists.{put_in}
-use Rattle.am_model.specs.State.{MemberState, GroupState, same_name, is_named}
+use Rattle.am_model.specs.State.{MemberState, GroupState, is_named}
 use Rattle.am_model.proofs.lists.Alone.{find-position, find-no_position}
 use Rattle.am_model.proofs.lists.Places.{put_map_at, put_map_new, position-map}
-
--- the place of a group, told of the states of the groups
-abbrev pub place_in : GroupName → List Group → Option ℕ
-place_in name gs = position (λ g. same_name name g.name) gs
 
 find_kept : (gs : List Group) (i : ℕ) (old : Group) (name : GroupName) → place_in name gs ≡ Some i → i < length gs → old ≡ get_or gs i old → find (is_named name) (map group_state gs) ≡ Some (group_state old)
 find_kept gs i old name at within is =
@@ -59,9 +55,9 @@ module _ (config : Config) (t : ℕ) (m : MemberState) where
       ∙ (ap (λ (g : GroupState). put_in same_group g (map group_state gs)) e ∙ sym given)
 
 -- the names so far, with one more
-pub names_more : (f : ℕ → GroupName) (ps : List Placement) (p : Placement) (routes : List ℕ) (i : ℕ) → i < length routes → map (λ x. x.name) ps ≡ map f (take i routes) → p.name ≡ f (get_or routes i 0) → map (λ x. x.name) (ps ++ p ∷ []) ≡ map f (take (i + 1) routes)
+pub names_more : (f : ℕ → GroupName) (ps : List Target) (p : Target) (routes : List ℕ) (i : ℕ) → i < length routes → map (λ x. x.name) ps ≡ map f (take i routes) → p.name ≡ f (get_or routes i 0) → map (λ x. x.name) (ps ++ p ∷ []) ≡ map f (take (i + 1) routes)
 names_more f ps p routes i within before e =
-    map-append (λ (x : Placement). x.name) ps (p ∷ [])
+    map-append (λ (x : Target). x.name) ps (p ∷ [])
     ∙ (ap (λ ns. ns ++ p.name ∷ []) before
     ∙ (ap (λ n. map f (take i routes) ++ n ∷ []) e
     ∙ (sym (map-append f (take i routes) (get_or routes i 0 ∷ []))

@@ -1,7 +1,8 @@
 -- States that are one but for the order of the rows of the log: each call is answered alike, and leads to such states again.
-use Rattle.std.proofs.Common.{◌≡◌, ℕ, true, false, ◌&&◌, nat_le, Option, Some, None, List, [], ◌∷◌, length, fold, filter, count_by, refl, sym, ap, ◌∙◌, subst, if◌then◌else◌}
+use Rattle.std.proofs.Common.{◌≡◌, ℕ, true, false, ◌&&◌, nat_le, Option, Some, None, List, [], ◌∷◌, length, fold, map, filter, count_by, refl, sym, ap, ◌∙◌, subst, if◌then◌else◌}
 use Rattle.std.specs.Prelude.{IsPermutation}
 use Rattle.std.specs.List.{IsDistinct}
+use Rattle.std.specs.Option.{option_map}
 use Rattle.std.proofs.lemmas.List.Elements.{All-weaker}
 use Rattle.std.proofs.lemmas.List.Sorted.{IsPermutation-refl, IsPermutation-sym, IsPermutation-trans, length_permutation}
 use Rattle.am_alerts.specs.AlertData.{AlertData}
@@ -18,6 +19,8 @@ use Rattle.am_model.specs.Configured.{route_of, integrations_of}
 use Rattle.am_model.specs.Ticket.{TicketData}
 use Rattle.am_model.specs.Finish.{same_key, log_with, row_at, rows_after, logged_by, after_finish_of}
 use Rattle.am_model.specs.Laws.{IsConsistent, IsHeld}
+use Rattle.am_model.specs.look_back.Outlook.{muted_of, outlook_at}
+use Rattle.am_model.specs.look_back.Reasons.{reason_told}
 use Rattle.am_model.specs.Note.{may_note, after_note, after_note_of}
 use Rattle.am_model.specs.Replay.{reply, after_call}
 use Rattle.am_model.specs.State.{GroupState, AskedState, FlushState, State, at_moment, moment, flush_numbered}
@@ -34,7 +37,7 @@ use Rattle.am_model.specs.declared.views.RowView.{RowView}
 use Rattle.am_board.specs.Kept.{Agrees}
 use Rattle.am_model.proofs.lists.Exchanges.{put_in-permutation, count_by-permutation, without-permutation, IsDistinct-permutation}
 use Rattle.am_model.proofs.states.InOrder.{in_order-rows}
-use Rattle.am_board.proofs.keeping.LogRows.{entry_of-permutation}
+use Rattle.am_board.proofs.keeping.LogRows.{find_row-permutation, entry_of-permutation}
 use Rattle.am_model.proofs.states.Alike.{same_key_equiv}
 
 -- a state with its rows in another order
@@ -75,6 +78,15 @@ module _ (config : Config) (s : State) (rows : List RowView) (moved : IsPermutat
   reply-rows id (Finish now number outcomes) = refl
   reply-rows id (Maintain now) = ap (λ n. Some (reply_is.Maintained (record { groups = count_by is_deserted s.groups; entries = n }))) (sym (count_by-permutation (has_expired (moment s now)) rows s.rows moved))
   reply-rows id (Note now number integration outcome) = refl
+
+  outlook_at-rows : (t : ℕ) → outlook_at config (with_rows rows s) t ≡ outlook_at config s t
+  outlook_at-rows t = λ j. option_map (λ g. record {
+    moment = t;
+    group = g.name;
+    muted = muted_of config s t g;
+    reasons = map (λ (i : ℕ × Integration). reason_told (find_row-permutation rows s.rows moved apart g.name i.0 j) (label_sets (firing_of config s t g)) (label_sets (resolved_of config s t g))
+        i.1.send_resolved (route_of config g.name).repeat_interval t) (integrations_of config g.name);
+  }) (taken s t)
 
   -- ---- the states after a call
 
@@ -195,6 +207,9 @@ module _ (a b : State) (agrees : Agrees a b) where
 
     pub asked_of-agrees : (config : Config) (t : ℕ) (g : GroupState) → asked_of config a t g ≡ asked_of config b t g
     asked_of-agrees config t g = from_rows (λ s. asked_of config s t g ≡ asked_of config b t g) (asked_of-rows config b a.rows agrees.rows apart t g)
+
+    pub outlook_at-agrees : (config : Config) (t : ℕ) → outlook_at config a t ≡ outlook_at config b t
+    outlook_at-agrees config t = from_rows (λ s. outlook_at config s t ≡ outlook_at config b t) (outlook_at-rows config b a.rows agrees.rows apart t)
 
     pub row_views-agrees : row_views a ≡ row_views b
     row_views-agrees = in_order-rows a.rows b.rows agrees.rows apart

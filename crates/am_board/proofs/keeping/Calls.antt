@@ -1,10 +1,11 @@
 -- What a board tells of a call that its state accepted or refused.
-use Rattle.std.proofs.Common.{◌≡◌, ℕ, ◌+◌, ◌≤◌, true, false, not, Option, Some, None, Result, Ok, Err, List, length, vec_len, refl, ap, ◌∙◌, subst, arith, if◌then◌else◌}
+use Rattle.std.proofs.Common.{All, ◌≡◌, ℕ, ◌+◌, ◌≤◌, true, false, not, Option, Some, None, Result, Ok, Err, List, length, vec_len, refl, ap, ◌∙◌, subst, arith, Vec, Global, if◌then◌else◌}
 use Rattle.std.specs.Prelude.{◌==◌, IfOk, OnOk, OnErr, MatchResult, slice_get}
 use Rattle.std.proofs.lemmas.List.{length-map}
 use Rattle.std.proofs.lemmas.Bool.Decides.{nat_tests}
 use Rattle.am_board.specs.declared.board.Board.TheInside.{Inside}
 use Rattle.am_model.specs.declared.config.Config.{Config}
+use Rattle.am_model.specs.declared.fault.Fault.{Fault}
 use Rattle.am_model.specs.declared.fault.NoteFault.TheVariants as note
 use Rattle.am_model.specs.declared.record.Call.{Call}
 use Rattle.am_model.specs.declared.record.Call.TheVariants.{Note}
@@ -15,18 +16,31 @@ use Rattle.am_board.specs.Board.{IsSound}
 use Rattle.am_model.specs.Causes.{is_full, asked_cause, notice_cause, flush_cause}
 use Rattle.am_model.specs.Notice.{NoticeData}
 use Rattle.am_model.specs.Ticket.{TicketData, outcome_of}
-use Rattle.am_board.specs.History.{BoardData, IsToldAt, with_record, state_at}
+use Rattle.am_board.specs.History.{BoardData, KeepsLimits, IsToldAt, with_record, state_at}
 use Rattle.am_model.specs.Records.{IsNoteOf, entry}
 use Rattle.am_board.specs.Kept.{state_of}
 use Rattle.am_model.specs.Note.{is_ready, asked_by, may_note, with_note, after_note, after_note_of}
 use Rattle.am_model.specs.Replay.{after, after_call, replay}
 use Rattle.am_model.specs.State.{AskedState, FlushState, State, moment, at_moment, flush_numbered}
 use Rattle.am_retry.specs.declared.outcome.Outcome.{Outcome}
-use Rattle.am_board.specs.Step.{Accepts, Stays}
-use Rattle.am_model.proofs.legal.FewGroups.{IsInsert, few_others}
-use Rattle.am_board.proofs.keeping.Agreeing.{row_views-agrees, group_views-agrees, summary_at-agrees}
-use Rattle.am_model.specs.Views.{row_views, group_views, summary_at, summary}
-use Rattle.am_board.proofs.keeping.Sound.{opened_now, counted, consistent_now, told_at, sound_then, sound_still}
+use Rattle.am_board.specs.Step.{Accepts, Stays, IsAnswer, IsCaused}
+use Rattle.am_model.proofs.legal.FewGroups.{IsInsert}
+use Rattle.am_model.proofs.legal.FewKnown.{IsSilence}
+use Rattle.am_board.proofs.keeping.Agreeing.{row_views-agrees, group_views-agrees, outlook_at-agrees, summary_at-agrees}
+use Rattle.am_model.specs.Views.{row_views, group_cmp, group_view, group_views, summary_at, summary}
+use Rattle.am_model.specs.Lists.{in_order}
+use Rattle.am_model.specs.declared.views.GroupView.{GroupView}
+use Rattle.am_model.proofs.lists.Words.{in_order-moves}
+use Rattle.std.proofs.lemmas.List.Sorted.{length_permutation}
+use Rattle.std.proofs.lemmas.List.Sorted.{All-permutation, IsPermutation-sym}
+use Rattle.am_alerts.specs.declared.limits.TheConstants.{MAX_MOMENT}
+use Rattle.am_model.specs.declared.views.RowView.{RowView}
+use Rattle.am_model.specs.look_back.Outlook.{outlook_at, outlook}
+use Rattle.am_board.specs.LogRows.{log_rows}
+use Rattle.am_model.proofs.legal.RowMoments.{rows-timely}
+use Rattle.am_model.proofs.looking_back.Outlooks.{outlook-found}
+use Rattle.am_model.proofs.lists.Distinct.{all_from}
+use Rattle.am_board.proofs.keeping.Sound.{IsFew, few_after, opened_now, counted, consistent_now, told_at, sound_then, sound_still}
 
 -- a board as it is seen with another state
 abbrev seen : Inside → kept.State → BoardData
@@ -34,7 +48,7 @@ seen b s = record { config = b.config; id = b.id; history = s.history.items }
 
 -- the limits, as a board's invariant has them
 abbrev pub IsWithin : Config → State → kept.State → Type 0
-IsWithin config after s = (length after.groups ≤ config.limits.groups) × (vec_len s.flushes ≤ config.limits.flushes) × (vec_len s.history + vec_len s.flushes ≤ config.limits.history)
+IsWithin config after s = IsFew config after × (vec_len s.flushes ≤ config.limits.flushes) × (vec_len s.history + vec_len s.flushes ≤ config.limits.history)
 
 -- a history that isn't full has room for so many records
 pub room_of : (config : Config) (records : ℕ) (s : State) (more : ℕ) {X : Type 0} (full other : Option X) → (if is_full config records s more then full else other) ≡ None → (full ≡ None → ⊥)
@@ -76,14 +90,14 @@ module _ (b : Inside) (sound : IsSound b) (now : BoardData) (view_is : seen b b.
   sound_again within (Err fault) h = sound_still b sound new h.1
 
 -- why a call was refused, in other words
-pub caused : {T E X : Type 0} (cause other : X) (Of : X → Type 0) (Is : X → E → Type 0) → cause ≡ other → (P : T → Type 0) (S : Type 0) (r : Result T E) → MatchResult r (λ x. Of cause × P x) (λ fault. Is cause fault × S) → MatchResult r (λ x. Of other) (Is other)
-caused cause other Of Is same P S (Ok x) h = subst Of same h.0
-caused cause other Of Is same P S (Err fault) h = subst (λ c. Is c fault) same h.0
+pub caused : {T : Type 0} (cause other : Option Fault) → cause ≡ other → (P : T → Type 0) (S : Type 0) (r : Result T Fault) → MatchResult r (λ x. (cause ≡ None) × P x) (λ fault. IsAnswer cause fault × S) → IsCaused other r
+caused cause other same P S (Ok x) h = subst (λ c. c ≡ None) same h.0
+caused cause other same P S (Err fault) h = subst (λ c. IsAnswer c fault) same h.0
 
 -- the same, where more is told of an accepted call
-pub caused_too : {T E X : Type 0} (cause other : X) (Of : X → Type 0) (Is : X → E → Type 0) → cause ≡ other → (P F : T → Type 0) (S : Type 0) (r : Result T E) → MatchResult r (λ x. Of cause × P x × F x) (λ fault. Is cause fault × S) → MatchResult r (λ x. Of other) (Is other)
-caused_too cause other Of Is same P F S (Ok x) h = subst Of same h.0
-caused_too cause other Of Is same P F S (Err fault) h = subst (λ c. Is c fault) same h.0
+pub caused_too : {T : Type 0} (cause other : Option Fault) → cause ≡ other → (P F : T → Type 0) (S : Type 0) (r : Result T Fault) → MatchResult r (λ x. (cause ≡ None) × P x × F x) (λ fault. IsAnswer cause fault × S) → IsCaused other r
+caused_too cause other same P F S (Ok x) h = subst (λ c. c ≡ None) same h.0
+caused_too cause other same P F S (Err fault) h = subst (λ c. IsAnswer c fault) same h.0
 
 -- what more is told
 pub fresh_too : {T E : Type 0} (A P F : T → Type 0) (Q : E → Type 0) (r : Result T E) → MatchResult r (λ x. A x × P x × F x) Q → IfOk r F
@@ -149,8 +163,8 @@ module _ (b : Inside) (sound : IsSound b) (now : BoardData) (view_is : seen b b.
       let opened : vec_len new.flushes ≡ length (after_call b.config s r.call).flushes = opened_then b.config b.id r b.state new accepts in
       let called : length (after_call b.config s r.call).flushes ≡ length (after_call b.config s told).flushes = ap (λ (x : Record). length (after_call b.config s x.call).flushes) is.2 in
       let before = opened_now b.state in
-      let few : length (after_call b.config s r.call).groups ≤ length s.groups = few_others b.config s r.call (ap (λ (x : Record). IsInsert x.call) is.2) in
-      (omega (arith, few, sound.groups), omega (arith, opened, called, same, before, sound.opened), omega (arith, opened, called, same, room, accepts.records))
+      let few : IsFew b.config (after_call b.config s r.call) = few_after b sound r.call (ap (λ (x : Record). IsInsert x.call) is.2) (ap (λ (x : Record). IsSilence x.call) is.2) in
+      (few, omega (arith, opened, called, same, before, sound.opened), omega (arith, opened, called, same, room, accepts.records))
 
   pub sound_noted : {T E : Type 0} (Q : E → Type 0) (result : Result T E) → MatchResult result (λ _. IsNoted) (λ fault. Q fault × Stays b.config b.state new) → IsSound (record b { state = new })
   sound_noted Q (Ok x) h =
@@ -168,6 +182,20 @@ module _ (b : Inside) (sound : IsSound b) (now : BoardData) (view_is : seen b b.
       subst (λ (d : BoardData). row_views (state_of b.state) ≡ row_views (state_at d)) view_is
       (row_views-agrees (state_of b.state) (replay b.config b.state.history.items) sound.agrees (consistent_now b sound).rows)
 
+  pub outlook_now : (at : ℕ) → outlook_at b.config (state_of b.state) (moment (state_of b.state) at) ≡ outlook now.config now.history at
+  outlook_now at =
+      let replayed = replay b.config b.state.history.items in
+      subst (λ (d : BoardData). outlook_at b.config (state_of b.state) (moment (state_of b.state) at) ≡ outlook d.config d.history at) view_is
+      (outlook_at-agrees (state_of b.state) replayed sound.agrees (consistent_now b sound).rows b.config (moment (state_of b.state) at)
+      ∙ (ap (λ (s : State). outlook_at b.config replayed (moment s at)) sound.agrees.rest ∙ outlook-found b.config b.id b.state.history.items at sound.legal))
+
+  -- no row of the log is of a moment after the greatest
+  pub rows_timely : All (λ row. row.moment ≤ MAX_MOMENT) (log_rows b.state.log)
+  rows_timely =
+      let rows = (replay b.config b.state.history.items).rows in
+      All-permutation (λ (row : RowView). row.moment ≤ MAX_MOMENT) rows (state_of b.state).rows (IsPermutation-sym (state_of b.state).rows rows sound.agrees.rows)
+      (all_from (λ (row : RowView). row.moment ≤ MAX_MOMENT) rows (rows-timely b.config b.state.history.items))
+
   pub groups_at : group_views (state_of b.state) ≡ group_views (state_at now)
   groups_at =
       subst (λ (d : BoardData). group_views (state_of b.state) ≡ group_views (state_at d)) view_is
@@ -178,3 +206,23 @@ module _ (b : Inside) (sound : IsSound b) (now : BoardData) (view_is : seen b b.
       subst (λ (d : BoardData). summary_at (vec_len b.state.history) (state_of b.state) ≡ summary d.config d.history) view_is
       (summary_at-agrees (state_of b.state) (replay b.config b.state.history.items) sound.agrees (vec_len b.state.history)
       ∙ ap (λ n. summary_at n (replay b.config b.state.history.items)) (counted b sound))
+
+  -- no more groups are shown than there may be
+  pub few_views : {E : Type 0} (result : Result (Vec GroupView Global) E) → IfOk result (λ groups. groups.items ≡ group_views (state_of b.state)) → IfOk result (λ groups. length groups.items ≤ now.config.limits.groups)
+  few_views (Ok groups) shown =
+      let s : State = state_of b.state in
+      let count : length (group_views s) ≡ length s.groups = length-map (in_order group_cmp s.groups) group_view ∙ length_permutation s.groups (in_order group_cmp s.groups) (in_order-moves group_cmp s.groups) in
+      omega (arith, ap (λ (vs : List GroupView). length vs) shown, count, sound.groups, ap (λ (d : BoardData). d.config.limits.groups) view_is)
+  few_views (Err fault) shown = tt
+
+  -- the state after the history keeps to the limits
+  pub limits_kept : KeepsLimits now
+  limits_kept =
+      let rest = sound.agrees.rest in
+      subst KeepsLimits view_is
+      (record {
+        names = omega (arith, ap (λ (s : State). length s.known) rest, sound.names);
+        groups = omega (arith, ap (λ (s : State). length s.groups) rest, sound.groups);
+        silences = omega (arith, ap (λ (s : State). length s.silences) rest, sound.silences);
+        flushes = omega (arith, ap (λ (s : State). length s.flushes) rest, opened_now b.state, sound.opened);
+      })

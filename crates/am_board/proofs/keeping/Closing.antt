@@ -16,13 +16,12 @@ use Rattle.am_board.specs.Board.{IsSound}
 use Rattle.am_model.specs.Ticket.{TicketData}
 use Rattle.am_board.specs.History.{BoardData, IsToldAt, with_record, state_at}
 use Rattle.am_model.specs.Records.{entry}
-use Rattle.am_board.specs.Kept.{state_of, flush_state}
+use Rattle.am_board.specs.Kept.{flush_state}
 use Rattle.am_model.specs.State.{FlushState, State, flush_numbered}
 use Rattle.am_board.specs.Step.{IsGood, Accepts}
 use Rattle.am_model.proofs.lists.Alone.{find-mapped, find-no_position}
 use Rattle.am_board.proofs.keeping.Calls.{recorded, told_now}
-use Rattle.am_model.proofs.legal.FewGroups.{few_others}
-use Rattle.am_board.proofs.keeping.Sound.{good, sound_then}
+use Rattle.am_board.proofs.keeping.Sound.{few_after, good, sound_then}
 
 -- an element of a list in which a place is found
 first_of : {X : Type 0} (p : X → Bool) (xs : List X) (i : ℕ) → position p xs ≡ Some i → X
@@ -68,6 +67,5 @@ module _ (b : Inside) (sound : IsSound b) (now : BoardData) (view_is : record { 
 
     pub finish_sound : vec_len new.flushes + 1 ≡ vec_len b.state.flushes → IsSound (record b { state = new })
     finish_sound closed =
-        let few = few_others b.config (state_of b.state) call refl in
         sound_then b sound (entry pass call (replies.Finished x)) new accepted
-        (omega (arith, few, sound.groups)) (omega (arith, closed, sound.opened)) (omega (arith, closed, accepted.records, sound.kept))
+        (few_after b sound call refl refl) (omega (arith, closed, sound.opened)) (omega (arith, closed, accepted.records, sound.kept))

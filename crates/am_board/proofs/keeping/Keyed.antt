@@ -1,5 +1,5 @@
 -- Entries under their values' keys, and the list of the values.
-use Rattle.std.proofs.Common.{◌≡◌, ℕ, suc, zero, ◌+◌, ◌<◌, Bool, true, false, cond, not, ltb, Some, None, List, [], ◌∷◌, length, map, filter, get_or, slice_get, set, refl, sym, ap, ◌∙◌, arith}
+use Rattle.std.proofs.Common.{◌≡◌, ℕ, suc, zero, ◌+◌, ◌<◌, Bool, true, false, cond, not, ltb, Some, None, List, [], ◌∷◌, length, filter, get_or, slice_get, set, refl, sym, ap, ◌∙◌, arith}
 use Rattle.std.specs.List.{position, position_or_len}
 use Rattle.std.specs.Map.{keys_of, values_of}
 use Rattle.std.proofs.lemmas.List.Elements.{All-nil, All-cons, All-head, All-tail, All-filter}
@@ -51,10 +51,6 @@ module _ {K X : Type 0} (eq : K → K → Bool) (key : X → K) where
   same_length : (es : List (K × X)) → length (keys_of es) ≡ length (values_of es)
   same_length [] = refl
   same_length (e ∷ es) = ap suc (same_length es)
-
-  pub keys-values : (es : List (K × X)) → AreKeyed key es → keys_of es ≡ map key (values_of es)
-  keys-values [] h = refl
-  keys-values (e ∷ es) h = λ j. All-head IsKeyed e es h j ∷ keys-values es (All-tail IsKeyed e es h) j
 
   -- a value of the same key is written
   pub AreKeyed-set : (es : List (K × X)) (i : ℕ) (old x : X) → AreKeyed key es → slice_get (values_of es) i ≡ Some old → key x ≡ key old → AreKeyed key (set_value_at es i x)

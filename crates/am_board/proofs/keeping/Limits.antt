@@ -5,7 +5,7 @@ use Rattle.std.proofs.lemmas.List.{length-append}
 use Rattle.am_alerts.specs.AlertData.{AlertData}
 use Rattle.am_mute.specs.Silence.{SilenceData}
 use Rattle.am_board.specs.declared.board.Board.TheInside.{Inside}
-use Rattle.am_model.specs.declared.fault.Fault.TheVariants.{HistoryFull, TooManyOpen}
+use Rattle.am_model.specs.declared.fault.Fault.TheVariants.{HistoryFull, TooManyNames, TooManySilences, TooManyOpen}
 use Rattle.am_model.specs.declared.record.Call.{Call}
 use Rattle.am_model.specs.declared.record.Call.TheVariants.{Insert, Begin, Maintain}
 use Rattle.am_model.specs.declared.record.Inserted.{Inserted}
@@ -19,50 +19,57 @@ use Rattle.am_model.specs.declared.config.Config.{Config}
 use Rattle.am_model.specs.declared.config.Integration.{Integration}
 use Rattle.am_board.specs.Board.{IsSound}
 use Rattle.am_model.specs.Begin.{taken, asked_of, flush_asking, after_asking, after_taking}
-use Rattle.am_model.specs.Causes.{is_name_too_many, insert_cause, silence_cause, begin_cause, maintain_cause, asks_some, opens_by}
+use Rattle.am_model.specs.Causes.{is_name_too_many, is_silence_too_many, insert_cause, silence_cause, begin_cause, maintain_cause, asks_some, opens_by}
 use Rattle.am_board.specs.History.{BoardData, calls_at, state_at, reply_of}
 use Rattle.am_model.specs.Records.{call_of_silence, entry}
 use Rattle.am_board.specs.Kept.{state_of}
+use Rattle.am_model.specs.Insert.{same_alert}
 use Rattle.am_model.specs.Replay.{replay, after_call}
+use Rattle.am_model.specs.Upkeep.{same_silence}
 use Rattle.am_model.specs.State.{GroupState, State, moment}
 use Rattle.am_board.specs.Step.{Accepts}
 use Rattle.am_board.proofs.keeping.Agreeing.{insert_cause-agrees, silence_cause-agrees, maintain_cause-agrees, begin_cause-agrees}
-use Rattle.am_model.proofs.legal.FewGroups.{few_inserted, few_others}
+use Rattle.am_model.proofs.legal.FewGroups.{few_inserted}
+use Rattle.am_model.proofs.legal.FewKnown.{fits-put_in, neither_cause}
 use Rattle.am_board.proofs.keeping.Calls.{IsWithin, room_of, opened_then}
-use Rattle.am_board.proofs.keeping.Sound.{opened_now, counted, consistent_now}
+use Rattle.am_board.proofs.keeping.Sound.{IsFew, few_after, opened_now, counted, consistent_now}
 
 -- a call that opens no flush passes no limit, where the history has room for one record more
 keeps_within : (b : Inside) (sound : IsSound b) (pass : ℕ) (call : Call) (reply : Reply) (new : kept.State) → Accepts b.config b.id (entry pass call reply) b.state new
     → length (after_call b.config (state_of b.state) call).flushes ≤ length (state_of b.state).flushes
     → vec_len b.state.history + length (state_of b.state).flushes + 1 ≤ b.config.limits.history
-    → length (after_call b.config (state_of b.state) call).groups ≤ b.config.limits.groups
+    → IsFew b.config (after_call b.config (state_of b.state) call)
     → IsWithin b.config (after_call b.config (state_of b.state) call) new
-keeps_within b sound pass call reply new accepts few room groups =
+keeps_within b sound pass call reply new accepts few room still =
     let opened = opened_then b.config b.id (entry pass call reply) b.state new accepts in
     let before = opened_now b.state in
-    (groups, omega (arith, opened, before, few, sound.opened), omega (arith, opened, few, room, accepts.records))
+    (still, omega (arith, opened, before, few, sound.opened), omega (arith, opened, few, room, accepts.records))
 
 module _ (b : Inside) (sound : IsSound b) (pass now : ℕ) (new : kept.State) where
   pub insert_within : (alert : AlertData) (x : Inserted) → insert_cause b.config (vec_len b.state.history) (state_of b.state) alert ≡ None
       → Accepts b.config b.id (entry pass (Insert now alert) (replies.Inserted x)) b.state new → IsWithin b.config (after_call b.config (state_of b.state) (Insert now alert)) new
   insert_within alert x none accepts =
-      let parts = room_of b.config (vec_len b.state.history) (state_of b.state) 1 (Some HistoryFull) _ none (λ h. absurd (cc)) in
-      keeps_within b sound pass (Insert now alert) (replies.Inserted x) new accepts (omega arith)
-      parts.0 (few_inserted b.config (state_of b.state) (moment (state_of b.state) now) alert (is_name_too_many b.config (state_of b.state) alert) parts.1)
+      let s : State = state_of b.state in
+      let parts = room_of b.config (vec_len b.state.history) s 1 (Some HistoryFull) _ none (λ h. absurd (cc)) in
+      let names = neither_cause (is_name_too_many b.config s alert) TooManyNames _ parts.1 in
+      keeps_within b sound pass (Insert now alert) (replies.Inserted x) new accepts (omega arith) parts.0
+      (fits-put_in same_alert alert s.known b.config.limits.names sound.names names.0, few_inserted b.config s (moment s now) alert (is_name_too_many b.config s alert) parts.1, sound.silences)
 
   pub silence_within : (silence : SilenceData) (x : Silenced) → silence_cause b.config (vec_len b.state.history) (state_of b.state) silence ≡ None
       → Accepts b.config b.id (entry pass (call_of_silence now silence) (replies.Silenced x)) b.state new → IsWithin b.config (after_call b.config (state_of b.state) (call_of_silence now silence)) new
   silence_within silence x none accepts =
+      let parts = room_of b.config (vec_len b.state.history) (state_of b.state) 1 (Some HistoryFull) _ none (λ h. absurd (cc)) in
+      let few = neither_cause (is_silence_too_many b.config (state_of b.state) silence) TooManySilences None parts.1 in
       keeps_within b sound pass (call_of_silence now silence) (replies.Silenced x) new accepts (omega arith)
-      (room_of b.config (vec_len b.state.history) (state_of b.state) 1 (Some HistoryFull) _ none (λ h. absurd (cc))).0
-      (omega (arith, few_others b.config (state_of b.state) (call_of_silence now silence) refl, sound.groups))
+      parts.0
+      (sound.names, sound.groups, fits-put_in same_silence silence (state_of b.state).silences b.config.limits.silences sound.silences few.0)
 
   pub maintain_within : (x : Maintained) → maintain_cause b.config (vec_len b.state.history) (state_of b.state) ≡ None
       → Accepts b.config b.id (entry pass (Maintain now) (replies.Maintained x)) b.state new → IsWithin b.config (after_call b.config (state_of b.state) (Maintain now)) new
   maintain_within x none accepts =
       keeps_within b sound pass (Maintain now) (replies.Maintained x) new accepts (omega arith)
       (room_of b.config (vec_len b.state.history) (state_of b.state) 1 (Some HistoryFull) None none (λ h. absurd (cc))).0
-      (omega (arith, few_others b.config (state_of b.state) (Maintain now) refl, sound.groups))
+      (few_after b sound (Maintain now) refl refl)
 
 -- ---- a begin opens a flush only where one more may be open
 
@@ -94,7 +101,7 @@ begin_within b sound pass now new x none accepts =
     let few : length s.flushes ≤ b.config.limits.flushes = omega (arith, before, sound.opened) in
     let fits = fits_taking b.config s t (taken s t) few parts.1 in
     let opened = opened_then b.config b.id (entry pass (Begin now) (reply_of x)) b.state new accepts in
-    (omega (arith, few_others b.config s (Begin now) refl, sound.groups), omega (arith, opened, fits.0), omega (arith, opened, fits.1, parts.0, accepts.records))
+    (few_after b sound (Begin now) refl refl, omega (arith, opened, fits.0), omega (arith, opened, fits.1, parts.0, accepts.records))
 
 -- a cause at the state that is kept is one at the state after the history
 module _ (b : Inside) (sound : IsSound b) (now : BoardData) (view_is : record { config = b.config; id = b.id; history = b.state.history.items } ≡ now) where

@@ -144,10 +144,15 @@ one_entry name integration a b e f =
     let of : RowView → LogKey GroupName = λ r. record { group = r.group; integration = r.integration } in
     sym (log_key-laws.congr key (of a) (of b) e) ∙ f
 
--- the entry of an integration is the same in any order of the rows
+-- the row of an integration is the same in any order of the rows
+pub find_row-permutation : (rows others : List RowView) → IsPermutation rows others → IsDistinct same_key rows → (name : GroupName) (integration : ℕ)
+    → find (is_entry_of name integration) rows ≡ find (is_entry_of name integration) others
+find_row-permutation rows others moved apart name integration =
+    find-permutation same_key same_key_equiv (is_entry_of name integration) (one_entry name integration) rows others moved apart
+
+-- and so is its entry
 pub entry_of-permutation : (rows others : List RowView) → IsPermutation rows others → IsDistinct same_key rows → (name : GroupName) (integration : ℕ) → entry_of rows name integration ≡ entry_of others name integration
-entry_of-permutation rows others moved apart name integration =
-    ap (option_map log_row) (find-permutation same_key same_key_equiv (is_entry_of name integration) (one_entry name integration) rows others moved apart)
+entry_of-permutation rows others moved apart name integration = ap (option_map log_row) (find_row-permutation rows others moved apart name integration)
 
 -- ---- under the names' own test
 

@@ -1,8 +1,10 @@
 -- What each accepted or refused call leaves of a board.
-use Rattle.std.proofs.Common.{◌≡◌, ℕ, ◌+◌, ◌*◌, ◌≤◌, Some, None, List, length, vec_len, sym, ap, ◌∙◌, subst, arith}
+use Rattle.std.proofs.Common.{◌≡◌, ℕ, ◌+◌, ◌*◌, ◌≤◌, false, Some, None, List, length, vec_len, sym, ap, ◌∙◌, subst, arith}
 use Rattle.std.specs.Prelude.{sum_by, All}
 use Rattle.std.proofs.lemmas.List.Elements.{All-nil}
+use Rattle.am_alerts.specs.AlertData.{AlertData}
 use Rattle.am_alerts.specs.declared.limits.TheConstants.{MAX_CHILDREN}
+use Rattle.am_mute.specs.Silence.{SilenceData}
 use Rattle.am_model.specs.declared.config.Config.{Config}
 use Rattle.am_board.specs.declared.group.Group.{Group}
 use Rattle.am_model.specs.declared.group.GroupName.{GroupName}
@@ -11,17 +13,20 @@ use Rattle.am_board.specs.Group.{names_of, AreRouted}
 use Rattle.std.proofs.lemmas.List.{length-map}
 use Rattle.am_board.specs.declared.board.Board.TheInside.{Inside}
 use Rattle.am_model.specs.declared.config.TheConstants.{MAX_HISTORY}
+use Rattle.am_model.specs.declared.record.Call.{Call}
 use Rattle.am_model.specs.declared.record.Record.{Record}
 use Rattle.am_board.specs.declared.state.State as kept
 use Rattle.am_board.specs.Board.{IsSound}
 use Rattle.am_board.specs.Kept.{state_of, flush_state, Agrees, IsNew, IsPrepared}
 use Rattle.am_model.specs.Laws.{IsConsistent}
-use Rattle.am_model.specs.Replay.{reply, after, replay, IsLegal}
+use Rattle.am_model.specs.Replay.{reply, after, after_call, replay, IsLegal}
 use Rattle.am_model.specs.State.{State, opening_state}
 use Rattle.am_board.specs.Step.{IsGood, Accepts, Stays}
 use Rattle.am_board.proofs.keeping.Agreeing.{Agrees-refl, Agrees-trans, IsConsistent-agrees, reply-agrees, after_call-agrees}
 use Rattle.am_model.proofs.legal.Bounded.{IsBounded, bounded}
 use Rattle.am_model.proofs.legal.Consistent.{consistent_replay}
+use Rattle.am_model.proofs.legal.FewGroups.{IsInsert, few_others}
+use Rattle.am_model.proofs.legal.FewKnown.{IsSilence, known_others}
 use Rattle.am_model.proofs.configuration.Faultless.{few_integrations, retention_within}
 use Rattle.am_model.proofs.legal.Histories.{replay_appends, legal_appends}
 
@@ -29,7 +34,21 @@ use Rattle.am_model.proofs.legal.Histories.{replay_appends, legal_appends}
 pub opened_now : (s : kept.State) → vec_len s.flushes ≡ length (state_of s).flushes
 opened_now s = s.flushes.ok.0 ∙ sym (length-map s.flushes.items flush_state)
 
+-- no more is known, and there are no more groups and silences, than the limits
+abbrev pub IsFew : Config → State → Type 0
+IsFew config s =
+    (length s.known ≤ config.limits.names) × (length s.groups ≤ config.limits.groups) × (length s.silences ≤ config.limits.silences)
+
 module _ (b : Inside) (sound : IsSound b) where
+  -- a call other than an insert and a silence passes none of these limits
+  pub few_after : (call : Call) → IsInsert call ≡ false → IsSilence call ≡ false → IsFew b.config (after_call b.config (state_of b.state) call)
+  few_after call e f =
+      let known = known_others b.config (state_of b.state) call e f in (
+        omega (arith, ap (λ (xs : List AlertData). length xs) known.0, sound.names),
+        omega (arith, few_others b.config (state_of b.state) call e, sound.groups),
+        omega (arith, ap (λ (xs : List SilenceData). length xs) known.1, sound.silences),
+      )
+
   -- the state after the board's history
   abbrev replayed : State
   replayed = replay b.config b.state.history.items
@@ -85,8 +104,11 @@ module _ (b : Inside) (sound : IsSound b) where
         subst (Agrees (state_of new)) (sym (replay_appends b.config b.state.history.items r) ∙ sym (ap (replay b.config) accepts.history))
         (Agrees-trans (state_of new) (after b.config (state_of b.state) r) accepts.state (after b.config replayed r) step)
 
+    fewer : IsFew b.config (after b.config (state_of b.state) r) → IsFew b.config (state_of new)
+    fewer = subst (IsFew b.config) (sym accepts.state.rest)
+
     -- the board is sound again, where no limit is passed
-    pub sound_then : length (after b.config (state_of b.state) r).groups ≤ b.config.limits.groups → vec_len new.flushes ≤ b.config.limits.flushes → vec_len new.history + vec_len new.flushes ≤ b.config.limits.history
+    pub sound_then : IsFew b.config (after b.config (state_of b.state) r) → vec_len new.flushes ≤ b.config.limits.flushes → vec_len new.history + vec_len new.flushes ≤ b.config.limits.history
         → IsSound (record b { state = new })
     sound_then few opened kept =
         record {
@@ -95,7 +117,9 @@ module _ (b : Inside) (sound : IsSound b) where
           children = sound.children;
           legal = legal_then;
           agrees = agrees_then;
-          groups = subst (λ (s : State). length s.groups ≤ b.config.limits.groups) (sym accepts.state.rest) few;
+          names = (fewer few).0;
+          groups = (fewer few).1;
+          silences = (fewer few).2;
           opened = opened;
           kept = kept;
           room = accepts.room;
@@ -116,7 +140,9 @@ module _ (b : Inside) (sound : IsSound b) where
           children = sound.children;
           legal = subst (IsLegal b.config b.id) (sym stays.history) sound.legal;
           agrees = subst (λ (s : State). Agrees s (replay b.config new.history.items)) (sym stays.state) (subst (λ (h : List Record). Agrees (state_of b.state) (replay b.config h)) (sym stays.history) sound.agrees);
+          names = subst (λ (s : State). length s.known ≤ b.config.limits.names) (sym stays.state) sound.names;
           groups = subst (λ (s : State). length s.groups ≤ b.config.limits.groups) (sym stays.state) sound.groups;
+          silences = subst (λ (s : State). length s.silences ≤ b.config.limits.silences) (sym stays.state) sound.silences;
           opened = omega (arith, same_opened, sound.opened);
           kept = omega (arith, same_opened, stays.records, sound.kept);
           room = stays.room;
@@ -134,7 +160,9 @@ new_sound config id s configured children limits new =
       children = children;
       legal = subst (IsLegal config id) (sym new.history) tt;
       agrees = subst (λ (h : List Record). Agrees (state_of s) (replay config h)) (sym new.history) (subst (λ (x : State). Agrees x opening_state) (sym new.state) (Agrees-refl opening_state));
+      names = subst (λ (x : State). length x.known ≤ config.limits.names) (sym new.state) (omega arith);
       groups = subst (λ (x : State). length x.groups ≤ config.limits.groups) (sym new.state) (omega arith);
+      silences = subst (λ (x : State). length x.silences ≤ config.limits.silences) (sym new.state) (omega arith);
       opened = omega (arith, new.unflushed);
       kept = omega (arith, new.unflushed, new.records);
       room = omega (arith, new.unflushed, new.records);

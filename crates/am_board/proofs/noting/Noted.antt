@@ -25,7 +25,7 @@ use Rattle.am_model.specs.Laws.{IsHeld, same_asked}
 use Rattle.am_model.specs.Lists.{changed_where}
 use Rattle.am_board.specs.Finishing.{row_for, without_told, KnowTheSame, IsReadyAt, IsNotedAt}
 use Rattle.am_model.specs.Note.{is_ready, asked_by, may_be_noted, may_note, as_noted, with_note, after_note, after_note_of, noted}
-use Rattle.am_board.specs.Noting.{IsNoting}
+use Rattle.am_board.specs.Noting.{IsNoteTarget}
 use Rattle.am_model.specs.State.{AskedState, at_moment, moment, flush_numbered}
 use Rattle.am_board.specs.Step.{IsGood, Accepts, IsNoteAnswer}
 use Rattle.am_model.specs.declared.config.Config.{Config}
@@ -34,7 +34,7 @@ use Rattle.am_model.specs.declared.fault.NoteFault.TheVariants as note
 use Rattle.am_board.specs.declared.flush.Asked.{Asked}
 use Rattle.am_board.specs.declared.flush.OpenFlush.{OpenFlush}
 use Rattle.am_model.specs.declared.group.GroupName.{GroupName}
-use Rattle.am_board.specs.declared.note.Noting.{Noting}
+use Rattle.am_board.specs.declared.note.NoteTarget.{NoteTarget}
 use Rattle.am_model.specs.declared.record.Call.TheVariants.{Note}
 use Rattle.am_model.specs.declared.record.Record.{Record}
 use Rattle.am_model.specs.declared.record.Reply.TheVariants as replies
@@ -68,7 +68,7 @@ full-of config s none =
 
 -- ---- what a note finds
 
-module _ (config : Config) (s : kept.State) (ticket : TicketData) (place : ℕ) (n : Noting) (found : IsNoting s.flushes.items ticket place n) (o : OpenFlush) (is : o ≡ get_or s.flushes.items n.flush o) where
+module _ (config : Config) (s : kept.State) (ticket : TicketData) (place : ℕ) (n : NoteTarget) (found : IsNoteTarget s.flushes.items ticket place n) (o : OpenFlush) (is : o ≡ get_or s.flushes.items n.flush o) where
   ready-at : IsReadyAt o n.integration n.outcome n.asked
   ready-at = subst (λ x. IsReadyAt x n.integration n.outcome n.asked) (sym is) (found.ready o)
 
@@ -164,7 +164,7 @@ prepared-noted config log o onew a d within noted ready =
           (All-weaker (IsAsked log o) (IsAsked log onew) (λ x. asked-still log o onew x noted.group noted.told) o.asked.items ready.asked));
     }
 
-module _ (config : Config) (id : ℕ) (old new : kept.State) (ticket : TicketData) (place : ℕ) (n : Noting) (found : IsNoting old.flushes.items ticket place n) (o onew : OpenFlush) (is : o ≡ get_or old.flushes.items n.flush o) (good : IsGood config old) (pass now : ℕ) where
+module _ (config : Config) (id : ℕ) (old new : kept.State) (ticket : TicketData) (place : ℕ) (n : NoteTarget) (found : IsNoteTarget old.flushes.items ticket place n) (o onew : OpenFlush) (is : o ≡ get_or old.flushes.items n.flush o) (good : IsGood config old) (pass now : ℕ) where
   abbrev r : Record
   r = entry pass (Note now ticket.number n.integration n.outcome) replies.Noted
 

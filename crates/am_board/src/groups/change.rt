@@ -1,11 +1,12 @@
 //! Groups are found by their names, made, changed in their places and removed.
-ghost use Rattle.std.specs.Prelude.{◌≡◌, ℕ, ◌+◌, ◌<◌, ◌≤◌, ◌∷◌, [], ◌++◌, None, count_by, length, map, not, position, slice_index_or, true, IfSome, OnOk};
+ghost use Rattle.std.specs.Prelude.{◌≡◌, ℕ, ◌+◌, ◌<◌, ◌≤◌, ◌∷◌, [], ◌++◌, None, count_by, length, map, not, position, slice_index_or};
+ghost use Rattle.std.specs.Prelude.{true, IfSome, OnOk};
 ghost use Rattle.std.specs.List.{IsDistinct};
 ghost use Rattle.am_alerts.specs.RoutingTree.{RoutingTree};
 ghost use Rattle.am_model.specs.Begin.{count_resolved, without_resolved};
 ghost use Rattle.am_model.specs.Finish.{is_leaving};
-ghost use Rattle.am_board.specs.Group.{names_of, AreRouted, HasRoom, Fits, IsReserved};
-ghost use Rattle.am_board.specs.Groups.{Changes, Gets};
+ghost use Rattle.am_board.specs.Group.{names_of, AreRouted, HasRoom, Fits, IsReserved, Changes, Gets};
+ghost use Rattle.am_board.specs.Inserting.{place_in};
 ghost use Rattle.am_board.specs.Kept.{member_state, stamped, group_state};
 ghost use Rattle.am_model.specs.Lists.{without};
 ghost use Rattle.am_model.specs.State.{same_name};
@@ -13,7 +14,7 @@ ghost use Rattle.am_model.specs.Upkeep.{is_deserted};
 
 use super::Groups;
 use crate::finish::take_leaving;
-use crate::flush::Leaving;
+use crate::flush::LeavingAlert;
 use crate::group::{Group, GroupName, Member, mark_begun, reserve_members, take_resolved};
 use std::alloc::AllocError;
 
@@ -22,7 +23,6 @@ impl Groups {
     pub(crate) fn find(&self, name: &GroupName) -> Option<usize>
         ensures place { result ≡ position (λ g. same_name name.now g.name) self.now.items }
         ensures within { IfSome result (λ i. i < length self.now.items) }
-        ensures distinct { IsDistinct same_name (names_of self.now.items) }
     {
         self.groups.get_index_of(name)
     }
@@ -47,15 +47,21 @@ impl Groups {
         reserve_members(&mut self.groups[i], more)
     }
 
-    /// Makes room for so many more alerts in the group of this name, if there is one.
-    pub(crate) fn reserve_named(&mut self, name: &GroupName, more: usize) -> Result<(), AllocError>
+    /// Makes room for so many more alerts in the group at a place, if there is one.
+    pub(crate) fn reserve_found(
+        &mut self,
+        place: Option<usize>,
+        more: usize,
+    ) -> Result<(), AllocError>
+        requires distinct { IsDistinct same_name (names_of self.old.items) }
+        requires within { IfSome place (λ i. i < length self.old.items) }
         ensures names { names_of self.new.items ≡ names_of self.old.items }
         ensures states { map group_state self.new.items ≡ map group_state self.old.items }
         ensures spare { self.new.room ≡ self.old.room }
-        ensures room { OnOk result (HasRoom more name.now self.new.items) }
+        ensures room { OnOk result ((name : GroupName) → place ≡ place_in name self.old.items → HasRoom more name self.new.items) }
         ensures others { (n : ℕ) (other : GroupName) → HasRoom n other self.old.items → HasRoom n other self.new.items }
     {
-        match self.find(name) {
+        match place {
             Some(i) => self.reserve_at(i, more),
             None => Ok(()),
         }
@@ -83,7 +89,8 @@ impl Groups {
     /// alerts that are resolved at `t` leave it. Answers how many.
     pub(crate) fn begin_quiet(&mut self, i: usize, due: u64, t: u64) -> usize
         requires { i < length self.old.items }
-        ensures group { Changes (λ from to. group_state to ≡ without_resolved t (record (group_state from) { due = due; flushed = true })) i self.old self.new }
+        ensures group { Changes
+            (λ from to. group_state to ≡ without_resolved t (record (group_state from) { due = due; flushed = true })) i self.old self.new }
         ensures count { (d : Group) → result ≡ count_resolved t (group_state (slice_index_or self.old.items i d)) }
     {
         let group = &mut self.groups[i];
@@ -93,10 +100,13 @@ impl Groups {
 
     /// Takes the alerts out of the group at a place that stand there as they did when they were found
     /// resolved, and answers how many.
-    pub(crate) fn take_leaving(&mut self, i: usize, leaving: &[Leaving]) -> usize
+    pub(crate) fn take_leaving(&mut self, i: usize, leaving: &[LeavingAlert]) -> usize
         requires { i < length self.old.items }
-        ensures group { Changes (λ from to. group_state to ≡ record (group_state from) { members = without (is_leaving (map stamped leaving.now)) (map member_state from.members.items) }) i self.old self.new }
-        ensures count { (d : Group) → result ≡ count_by (is_leaving (map stamped leaving.now)) (map member_state (slice_index_or self.old.items i d).members.items) }
+        ensures group { Changes (λ from to. group_state to ≡ record (group_state from) {
+          members = without (is_leaving (map stamped leaving.now)) (map member_state from.members.items);
+        }) i self.old self.new }
+        ensures count { (d : Group) → result
+            ≡ count_by (is_leaving (map stamped leaving.now)) (map member_state (slice_index_or self.old.items i d).members.items) }
     {
         take_leaving(&mut self.groups[i], leaving)
     }

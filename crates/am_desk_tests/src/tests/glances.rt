@@ -3,7 +3,7 @@ ghost use Rattle.std.specs.Prelude.{◌≡◌};
 ghost use Rattle.am_desk.specs.Terms.{terms};
 
 use super::{
-    Told, alert, begin, close, config, delivered, finish, insert, look, not_closed, note, open,
+    Replies, alert, begin, close, config, delivered, finish, insert, look, not_closed, note, open,
     put, take,
 };
 use am_board::config::{Config, Limits};
@@ -29,7 +29,7 @@ fn glances_on<N: Name, R: Wait + Abort>(rt: &R, alloc: Global, config: Config, b
     let (desk, mut passes) = open::<N>(rt, alloc, config, blank);
     let mut one = take(rt, &mut passes);
     let mut zero = take(rt, &mut passes);
-    let mut told = Told::new(alloc);
+    let mut told = Replies::new(alloc);
     insert(rt, alloc, &desk, &mut zero, "A", &mut told);
     assert_eq!(rt; look(&desk, &mut zero), (1, 1, 0));
     insert(rt, alloc, &desk, &mut one, "B", &mut told);
@@ -55,7 +55,7 @@ fn own_tickets_on<N: Name, R: Wait + Abort>(rt: &R, alloc: Global, config: Confi
 {
     let (desk, mut passes) = open::<N>(rt, alloc, config, blank);
     let mut one = take(rt, &mut passes);
-    let mut told = Told::new(alloc);
+    let mut told = Replies::new(alloc);
     insert(rt, alloc, &desk, &mut one, "A", &mut told);
     insert(rt, alloc, &desk, &mut one, "B", &mut told);
     let mut owns: Vec<OwnTicket<N>> = Vec::new(alloc);
@@ -83,7 +83,7 @@ fn note_and_finish<N: Name, R: Wait + Abort>(
     desk: &Desk<N>,
     pass: &mut Pass<N>,
     mut own: OwnTicket<N>,
-    told: &mut Told,
+    told: &mut Replies,
 ) {
     let Some(notice) = own.ticket().notices().first() else {
         panic!(rt; "a notice")
@@ -118,7 +118,7 @@ fn two_of_three_meet_on<N: Name, R: Wait + Abort>(
     let mut two = take(rt, &mut passes);
     let mut one = take(rt, &mut passes);
     let mut zero = take(rt, &mut passes);
-    let mut told = Told::new(alloc);
+    let mut told = Replies::new(alloc);
     insert(rt, alloc, &desk, &mut zero, "A", &mut told);
     insert(rt, alloc, &desk, &mut one, "B", &mut told);
     desk.meet(&mut zero, &mut two);
@@ -153,7 +153,7 @@ fn refused_between_glances_on<N: Name, R: Wait + Abort>(
 {
     let (desk, mut passes) = open::<N>(rt, alloc, config, blank);
     let mut pass = take(rt, &mut passes);
-    let mut told = Told::new(alloc);
+    let mut told = Replies::new(alloc);
     insert(rt, alloc, &desk, &mut pass, "A", &mut told);
     assert_eq!(rt; look(&desk, &mut pass), (1, 1, 0));
     let another = alert(rt, alloc, &[("alertname", "B")]);

@@ -2,7 +2,7 @@
 ghost use Rattle.std.specs.Prelude.{◌≡◌};
 ghost use Rattle.am_desk.specs.Terms.{terms};
 
-use super::{Told, close, config, insert, open, put, silence_of, take};
+use super::{Replies, close, config, insert, open, put, silence_of, take};
 use am_board::begin::Begun;
 use am_board::config::{Config, Limits};
 use am_board::record::{Maintained, Reply, Silenced};
@@ -35,7 +35,7 @@ fn silence_and_maintenance_on<N: Name, R: Wait + Abort>(
     let (desk, mut passes) = open::<N>(rt, alloc, config, blank);
     let mut one = take(rt, &mut passes);
     let mut zero = take(rt, &mut passes);
-    let mut told = Told::new(alloc);
+    let mut told = Replies::new(alloc);
     insert(rt, alloc, &desk, &mut one, "A", &mut told);
     silence_and_maintain(rt, alloc, &desk, &mut one, silence, &mut told);
     begin_quietly(rt, alloc, &desk, &mut zero, &mut told);
@@ -53,7 +53,7 @@ fn silence_and_maintain<N: Name, R: Wait + Abort>(
     desk: &Desk<N>,
     pass: &mut Pass<N>,
     silence: Silence,
-    told: &mut Told,
+    told: &mut Replies,
 ) {
     let Ok(silenced) = desk.silence(rt, alloc, pass, 0, silence) else {
         panic!(rt; "there is room")
@@ -77,7 +77,7 @@ fn begin_quietly<N: Name, R: Wait + Abort>(
     alloc: Global,
     desk: &Desk<N>,
     pass: &mut Pass<N>,
-    told: &mut Told,
+    told: &mut Replies,
 ) {
     match desk.begin(rt, alloc, pass, 30_000) {
         Ok(Begun::Quiet { group, removed }) => {

@@ -3,7 +3,7 @@ ghost use Rattle.std.specs.Prelude.{◌≡◌};
 ghost use Rattle.am_desk.specs.Terms.{terms};
 
 use super::{
-    Told, begin, close, config, delivered, finish, insert, not_closed, note, open, put, take,
+    Replies, begin, close, config, delivered, finish, insert, not_closed, note, open, put, take,
 };
 use am_board::config::{Config, Limits};
 use am_board::fault::{FinishFault, NoteFault, ReportFault};
@@ -47,8 +47,8 @@ fn two_desks_on<N: Name, M: Name, R: Wait + Abort>(
     let (eight, mut eights) = open::<M>(rt, alloc, other_config, other_blank);
     let mut seventh = take(rt, &mut sevens);
     let mut eighth = take(rt, &mut eights);
-    let mut told = Told::new(alloc);
-    let mut told_by_eight = Told::new(alloc);
+    let mut told = Replies::new(alloc);
+    let mut told_by_eight = Replies::new(alloc);
     insert(rt, alloc, &seven, &mut seventh, "A", &mut told);
     insert(rt, alloc, &eight, &mut eighth, "A", &mut told_by_eight);
     let ticket = begin(rt, alloc, &seven, &mut seventh, 30_000, &mut told);
@@ -154,7 +154,7 @@ fn one_id_on<N: Name, M: Name, R: Wait + Abort>(
     let (second, mut seconds) = open::<M>(rt, alloc, other_config, other_blank);
     let mut one = take(rt, &mut firsts);
     let mut two = take(rt, &mut seconds);
-    let mut told = Told::new(alloc);
+    let mut told = Replies::new(alloc);
     insert(rt, alloc, &first, &mut one, "A", &mut told);
     let ticket = begin(rt, alloc, &first, &mut one, 30_000, &mut told);
     let noted = note(rt, alloc, &second, &mut two, ticket.ticket(), 30_000);

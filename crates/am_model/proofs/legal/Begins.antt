@@ -1,11 +1,9 @@
 -- Groups are due as their begins say, after each legal history.
-use Rattle.std.proofs.Common.{◌≡◌, ℕ, ◌+◌, Bool, true, false, cond, not, ◌&&◌, ◌||◌, nat_lt, min, Option, Some, None, List, [], ◌∷◌, map, filter, find, fold, unwrap_or, refl, sym, ap, ◌∙◌, subst, if◌then◌else◌}
+use Rattle.std.proofs.Common.{◌≡◌, ℕ, ◌+◌, Bool, true, false, cond, not, ◌&&◌, ◌||◌, nat_lt, min, Option, Some, None, List, [], ◌∷◌, filter, find, fold, unwrap_or, refl, sym, ap, ◌∙◌, subst, if◌then◌else◌}
 use Rattle.std.specs.Prelude.{IfSome, is_some}
 use Rattle.std.specs.Option.{option_map}
 use Rattle.std.proofs.lemmas.Map.Keys.{IsDistinct-head, IsDistinct-tail}
-use Rattle.std.specs.List.{list_any, AllByRecursion, IsDistinct}
-use Rattle.std.specs.Ordering.{is_gt}
-use Rattle.std.specs.declared.cmp.Ordering.{Ordering}
+use Rattle.std.specs.List.{AllByRecursion, IsDistinct}
 use Rattle.std.proofs.lemmas.Bool.{false≢true, or_left, or_right}
 use Rattle.std.proofs.lemmas.List.Elements.{All-from_recursion}
 use Rattle.am_nflog.specs.Members.{is_empty}
@@ -14,8 +12,8 @@ use Rattle.am_model.proofs.lists.Words.{all-put_in, IsDistinct-put_in}
 use Rattle.am_model.specs.Begin.{taken, may_begin, due_cmp, asked_of, begun_group, without_resolved, after_asking, after_taking, reply_asking, reply_taking, begun}
 use Rattle.am_model.specs.Finish.{after_finish_of, finished_group, finished}
 use Rattle.am_model.specs.Insert.{same_group, new_group, group_or_new, group_with, put_into_group, names_for, wait_of, inserted, next_stamp}
-use Rattle.am_model.specs.Laws.{last_begin_after, last_begin_from, last_begin, IsBegunAt, IsThere, KeepsBegins, IsConsistent, LegalKeeps}
-use Rattle.am_model.specs.Lists.{put_in, without, changed_where, least, lesser}
+use Rattle.am_model.specs.Laws.{last_begin_after, last_begin_from, last_begin, IsBegunAt, IsThere, LegalKeepsBegins}
+use Rattle.am_model.specs.Lists.{put_in, without, changed_where}
 use Rattle.am_model.specs.Note.{may_note, after_note_of, after_note, noted}
 use Rattle.am_model.specs.Replay.{reply, after, after_call, replay_from, replay, IsLegalFrom, IsLegal}
 use Rattle.am_model.specs.State.{MemberState, GroupState, FlushState, State, opening_state, at_moment, moment, same_name, is_named, has_group, members_in, flush_numbered}
@@ -29,41 +27,10 @@ use Rattle.am_model.specs.declared.record.Call.TheVariants.{Insert, Silence, Beg
 use Rattle.am_model.specs.declared.record.Record.{Record}
 use Rattle.am_model.specs.declared.record.Reply.{Reply}
 use Rattle.am_model.specs.declared.record.Reply.TheVariants as reply_is
-use Rattle.am_model.proofs.lists.Distinct.{IsDistinct-nil, IsDistinct-told, IsDistinct-filter, all-weaker, all-filter, all-both}
+use Rattle.am_model.proofs.lists.Distinct.{IsDistinct-nil, IsDistinct-told, IsDistinct-filter, all-weaker, all-kept, all-filter, all-found, all-lesser, all-both, all-map}
+use Rattle.am_model.proofs.lists.Sets.{any-find}
 use Rattle.am_model.proofs.states.Alike.{same_group_equiv, same_name_equiv}
 use Rattle.am_model.proofs.legal.EachCall.{inside}
-
--- ---- words on lists
-
-module _ {X : Type 0} where
-  all-map : (P Q : X → Type 0) (f : X → X) → ((x : X) → P x → Q (f x)) → (xs : List X) → AllByRecursion P xs → AllByRecursion Q (map f xs)
-  all-map P Q f h [] all = tt
-  all-map P Q f h (x ∷ xs) all = (h x all.0, all-map P Q f h xs all.1)
-
-  all-kept : (P Q : X → Type 0) (test : X → Bool) → ((x : X) → P x → test x ≡ true → Q x) → (xs : List X) → AllByRecursion P xs → AllByRecursion Q (filter test xs)
-  all-kept P Q test h [] all = tt
-  all-kept P Q test h (x ∷ xs) all =
-      elim (test x) as (λ b. test x ≡ b → AllByRecursion Q (cond b (x ∷ filter test xs) (filter test xs))) [
-        | true ↦ λ e. (h x all.0 e, all-kept P Q test h xs all.1)
-        | false ↦ λ _. all-kept P Q test h xs all.1
-      ] refl
-
-  all-find : (P : X → Type 0) (test : X → Bool) (xs : List X) → AllByRecursion P xs → IfSome (find test xs) P
-  all-find P test [] all = tt
-  all-find P test (x ∷ xs) all =
-      elim (test x) as (λ b. IfSome (cond b (Some x) (find test xs)) P) [ true ↦ all.0 | false ↦ all-find P test xs all.1 ]
-
-  all-least : (P : X → Type 0) (cmp : X → X → Ordering) (xs : List X) → AllByRecursion P xs → IfSome (least cmp xs) P
-  all-least P cmp [] all = tt
-  all-least P cmp (x ∷ xs) all = by (least cmp xs) (all-least P cmp xs all.1)
-    where
-      by : (o : Option X) → IfSome o P → P (lesser cmp x o)
-      by None h = all.0
-      by (Some y) h = elim (is_gt (cmp x y)) as (λ b. P (cond b y x)) [ true ↦ h | false ↦ all.0 ]
-
-  any-find : (test : X → Bool) (xs : List X) → list_any test xs ≡ is_some (find test xs)
-  any-find test [] = refl
-  any-find test (x ∷ xs) = elim (test x) as (λ b. (b || list_any test xs) ≡ is_some (cond b (Some x) (find test xs))) [ true ↦ refl | false ↦ any-find test xs ]
 
 -- ---- which groups there are
 
@@ -156,7 +123,7 @@ module _ (config : Config) (last : GroupName → Option ℕ) where
       elim (find (is_named name) groups) as (λ o. has_group groups name ≡ is_some o → IfSome o (λ g. IsBegunAt config g (last g.name)) → IsBegunAt config (unwrap_or o (new_group config t name)) (last (unwrap_or o (new_group config t name)).name)) [
         | None ↦ λ e _. never_begun config groups name (new_group config t name) e refl (last name) (k.there name)
         | Some g ↦ λ _ h. h
-      ] (any-find (is_named name) groups) (all-find (λ g. IsBegunAt config g (last g.name)) (is_named name) groups k.due) in
+      ] (any-find (is_named name) groups) (all-found (λ g. IsBegunAt config g (last g.name)) (is_named name) groups k.due) in
       let g : GroupState = group_or_new config t groups name in
       let new : GroupState = group_with config t m g in
       record {
@@ -174,11 +141,12 @@ module _ (config : Config) (last : GroupName → Option ℕ) where
       → Keeps config groups last → Keeps config (changed_where test change groups) last
   keeps-members test change groups named kept k =
       record {
-        due = all-map (λ g. IsBegunAt config g (last g.name)) (λ g. IsBegunAt config g (last g.name)) (λ g. if test g then change g else g) (λ g h.
+        due = all-map (λ g. if test g then change g else g) (λ g. IsBegunAt config g (last g.name)) groups
+            (all-weaker (λ g. IsBegunAt config g (last g.name)) (λ g. let to = if test g then change g else g in IsBegunAt config to (last to.name)) (λ g h.
             elim (test g) as (λ b. IsBegunAt config (if b then change g else g) (last (if b then change g else g).name)) [
               | true ↦ subst (λ n. IsBegunAt config (change g) (last n)) (sym (named g)) (kept g (last g.name) h)
               | false ↦ h
-            ]) groups k.due;
+            ]) groups k.due);
         there = λ n. still_in n groups (changed_where test change groups) (λ h. there-changed test change named n groups ∙ h) (last n) (k.there n);
         apart = apart-changed test change named groups k.apart;
       }
@@ -189,7 +157,8 @@ module _ (config : Config) (last : GroupName → Option ℕ) where
   keeps-begin t name change groups here named begun k =
       let now : GroupName → Option ℕ = λ n. if same_name n name then Some t else last n in
       record {
-        due = all-map (λ g. IsBegunAt config g (last g.name)) (λ g. IsBegunAt config g (now g.name)) (λ g. if same_name name g.name then change g else g) (λ g h.
+        due = all-map (λ g. if same_name name g.name then change g else g) (λ g. IsBegunAt config g (now g.name)) groups
+            (all-weaker (λ g. IsBegunAt config g (last g.name)) (λ g. let to = if same_name name g.name then change g else g in IsBegunAt config to (now to.name)) (λ g h.
             elim (same_name name g.name) as (λ b. same_name name g.name ≡ b → IsBegunAt config (if b then change g else g) (now (if b then change g else g).name)) [
               | true ↦ λ e.
                   let same : same_name g.name name ≡ true = same_name_equiv.symm g.name name ∙ e in
@@ -197,7 +166,7 @@ module _ (config : Config) (last : GroupName → Option ℕ) where
               | false ↦ λ e.
                   let other : same_name g.name name ≡ false = same_name_equiv.symm g.name name ∙ e in
                   subst (λ b. IsBegunAt config g (if b then Some t else last g.name)) (sym other) h
-            ] refl) groups k.due;
+            ] refl) groups k.due);
         there = λ n.
             let still = λ (h : has_group groups n ≡ true). there-changed (is_named name) change named n groups ∙ h in
             elim (same_name n name) as (λ b. same_name n name ≡ b → IsIn (changed_where (is_named name) change groups) n (if b then Some t else last n)) [
@@ -260,7 +229,7 @@ module _ (config : Config) (last : GroupName → Option ℕ) where
 -- ---- each legal call
 
 taken_there : (s : State) (t : ℕ) → IfSome (taken s t) (λ g. has_group s.groups g.name ≡ true)
-taken_there s t = all-least (λ g. has_group s.groups g.name ≡ true) due_cmp (filter (may_begin s t) s.groups) (all-filter (λ g. has_group s.groups g.name ≡ true) (may_begin s t) s.groups (each_there s.groups))
+taken_there s t = all-lesser (λ g. has_group s.groups g.name ≡ true) due_cmp (filter (may_begin s t) s.groups) (all-filter (λ g. has_group s.groups g.name ≡ true) (may_begin s t) s.groups (each_there s.groups))
 
 due-finished : (config : Config) (outcomes : List (ℕ × Outcome)) (f : FlushState) (g : GroupState) (o : Option ℕ) → IsBegunAt config g o → IsBegunAt config (finished_group outcomes f g) o
 due-finished config outcomes f g None h = h
@@ -323,7 +292,7 @@ is_there s name None h = tt
 is_there s name (Some t) h = h
 
 -- the groups of a legal history are due as their begins say, and no group that was begun goes but by a maintenance
-pub begins_keep : (config : Config) (id : ℕ) (history : List Record) → IsLegal config id history → KeepsBegins config history
+pub begins_keep : LegalKeepsBegins
 begins_keep config id history legal =
     let k = keeps_from config id history opening_state (λ n. None) legal (opening_keeps config) in
     record {
@@ -334,7 +303,3 @@ begins_keep config id history legal =
 -- no two groups of a legal history have one name
 pub groups_apart : (config : Config) (id : ℕ) (history : List Record) → IsLegal config id history → IsDistinct same_group (replay config history).groups
 groups_apart config id history legal = (keeps_from config id history opening_state (λ n. None) legal (opening_keeps config)).apart
-
--- both halves of what legal histories keep, from the first
-pub legal_keeps : ((config : Config) (id : ℕ) (history : List Record) → IsLegal config id history → IsConsistent (replay config history)) → LegalKeeps
-legal_keeps consistent config id history legal = (consistent config id history legal, begins_keep config id history legal)

@@ -1,8 +1,9 @@
 -- How many alerts the groups have, and which routes they are of.
-use Rattle.std.proofs.Common.{◌≡◌, ℕ, ◌+◌, ◌≤◌, Bool, true, false, cond, Some, None, List, [], ◌∷◌, length, refl, sym, ap, ◌∙◌, subst, arith}
+use Rattle.std.proofs.Common.{◌≡◌, ℕ, suc, ◌+◌, ◌≤◌, Bool, true, false, cond, ◌||◌, Some, None, List, [], ◌∷◌, length, refl, sym, ap, ◌∙◌, subst, arith}
 use Rattle.std.specs.Prelude.{find, filter, fold, sum_by, unwrap_or}
-use Rattle.std.specs.List.{AllByRecursion}
+use Rattle.std.specs.List.{AllByRecursion, list_any}
 use Rattle.std.specs.Option.{option_map}
+use Rattle.std.proofs.lemmas.Bool.{false≢true}
 use Rattle.std.proofs.lemmas.List.{length-map}
 use Rattle.std.proofs.lemmas.List.Sums.{sum_by-cons}
 use Rattle.am_alerts.specs.Matcher.{match_all}
@@ -70,6 +71,15 @@ length-put_in like x (y ∷ ys) =
       | true ↦ omega arith
       | false ↦ omega (arith, rest)
     ]
+
+-- and none where it takes the place of another
+pub length-put_known : {X : Type 0} (like : X → X → Bool) (x : X) (xs : List X) → list_any (like x) xs ≡ true → length (put_in like x xs) ≡ length xs
+length-put_known like x [] e = absurd (false≢true e)
+length-put_known like x (y ∷ ys) e =
+    elim (like x y) as (λ b. (b || list_any (like x) ys) ≡ true → length (cond b (x ∷ ys) (y ∷ put_in like x ys)) ≡ length (y ∷ ys)) [
+      | true ↦ λ _. refl
+      | false ↦ λ rest. ap suc (length-put_known like x ys rest)
+    ] e
 
 -- a group takes the place of the one of its name, with one alert more
 count-put_in : (name : GroupName) (g : GroupState) (gs : List GroupState) → ((k : GroupState) → same_group g k ≡ is_named name k) → length g.members ≤ length (members_of gs name) + 1 → count_alerts (put_in same_group g gs) ≤ count_alerts gs + 1

@@ -1,4 +1,4 @@
--- The state after each legal history is consistent.
+-- The state after any list of records is consistent.
 use Rattle.std.proofs.Common.{ℕ, ◌≤◌, List, [], ◌∷◌, arith}
 use Rattle.am_alerts.specs.declared.limits.TheConstants.{MAX_MOMENT}
 use Rattle.am_mute.specs.Silence.{silence_of}
@@ -8,8 +8,8 @@ use Rattle.am_model.specs.declared.record.Call.TheVariants.{Insert, Silence, Beg
 use Rattle.am_model.specs.declared.record.Record.{Record}
 use Rattle.am_model.specs.Insert.{same_alert, same_group}
 use Rattle.am_model.specs.Finish.{same_key}
-use Rattle.am_model.specs.Laws.{same_flushed, same_number, IsConsistent}
-use Rattle.am_model.specs.Replay.{after, after_call, replay, replay_from, IsLegal}
+use Rattle.am_model.specs.Laws.{same_flushed, same_number, IsConsistent, ReplaysAreConsistent}
+use Rattle.am_model.specs.Replay.{after, after_call, replay, replay_from}
 use Rattle.am_model.specs.State.{State, opening_state, moment, flush_numbered}
 use Rattle.am_model.specs.Upkeep.{same_silence}
 use Rattle.am_model.proofs.legal.ConsistentBegin.{steady_begin}
@@ -19,7 +19,7 @@ use Rattle.am_model.proofs.lists.Distinct.{IsDistinct-nil}
 use Rattle.am_model.proofs.legal.ConsistentState.{IsSteady, consistent_from, consistent_to}
 
 -- no moment is after the greatest
-moment-within : (s : State) (now : ℕ) → s.clock ≤ MAX_MOMENT → moment s now ≤ MAX_MOMENT
+pub moment-within : (s : State) (now : ℕ) → s.clock ≤ MAX_MOMENT → moment s now ≤ MAX_MOMENT
 moment-within s now h = omega (arith, h)
 
 steady_call : (config : Config) (s : State) (c : Call) → IsSteady s → IsSteady (after_call config s c)
@@ -54,8 +54,5 @@ steady_from config s (r ∷ history) h = steady_from config (after config s r) h
 pub consistent_after : (config : Config) (s : State) (r : Record) → IsConsistent s → IsConsistent (after config s r)
 consistent_after config s r h = consistent_from (after config s r) (steady_call config s r.call (consistent_to s h))
 
-pub consistent_replay : (config : Config) (history : List Record) → IsConsistent (replay config history)
+pub consistent_replay : ReplaysAreConsistent
 consistent_replay config history = consistent_from (replay config history) (steady_from config opening_state history steady_opening)
-
-pub consistent : (config : Config) (id : ℕ) (history : List Record) → IsLegal config id history → IsConsistent (replay config history)
-consistent config id history legal = consistent_replay config history

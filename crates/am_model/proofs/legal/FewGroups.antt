@@ -24,17 +24,8 @@ use Rattle.am_model.specs.Replay.{after_call}
 use Rattle.am_model.specs.State.{MemberState, GroupState, FlushState, State, at_moment, is_named, has_group, moment, flush_numbered}
 use Rattle.am_model.specs.Upkeep.{is_deserted}
 use Rattle.am_model.proofs.legal.Begins.{there-put_in}
-use Rattle.am_model.proofs.legal.BoundedAlerts.{length-put_in, length-filter, named-or_new}
+use Rattle.am_model.proofs.legal.BoundedAlerts.{length-put_in, length-put_known, length-filter, named-or_new}
 use Rattle.am_model.proofs.states.Alike.{same_name_equiv}
-
--- a group that takes the place of another adds none
-length-known : (g : GroupState) (gs : List GroupState) → list_any (same_group g) gs ≡ true → length (put_in same_group g gs) ≡ length gs
-length-known g [] e = absurd (false≢true e)
-length-known g (h ∷ gs) e =
-    elim (same_group g h) as (λ b. (b || list_any (same_group g) gs) ≡ true → length (cond b (g ∷ gs) (h ∷ put_in same_group g gs)) ≡ length (h ∷ gs)) [
-      | true ↦ λ _. refl
-      | false ↦ λ rest. ap suc (length-known g gs rest)
-    ] e
 
 any_named : (name : GroupName) (g : GroupState) (gs : List GroupState) → ((k : GroupState) → same_group g k ≡ is_named name k) → list_any (same_group g) gs ≡ has_group gs name
 any_named name g [] same = refl
@@ -65,7 +56,7 @@ module _ (config : Config) (t : ℕ) (m : MemberState) where
       let any : list_any (same_group g) gs ≡ has_group gs name = any_named name g gs (λ k. sym (same_name_equiv.congr name g.name k.name (named-or_new config t m gs name))) in
       let more : length (put_in same_group g gs) ≤ length gs + 1 = length-put_in same_group g gs in
       elim (has_group gs name) as (λ b. has_group gs name ≡ b → length (put_in same_group g gs) ≤ length gs + cond b 0 1) [
-        | true ↦ λ e. omega (arith, length-known g gs (any ∙ e))
+        | true ↦ λ e. omega (arith, length-put_known same_group g gs (any ∙ e))
         | false ↦ λ e. more
       ] refl
 

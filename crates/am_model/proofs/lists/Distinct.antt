@@ -1,9 +1,10 @@
 -- What holds of each element, and elements that differ, through filters, changes and look-ups.
-use Rattle.std.proofs.Common.{◌≡◌, Bool, true, false, cond, ◌||◌, Some, None, List, [], ◌∷◌, ◌++◌, map, refl, ◌∙◌, subst, arith}
-use Rattle.std.specs.Prelude.{All, find, filter}
+use Rattle.std.proofs.Common.{◌≡◌, Bool, true, false, cond, ◌||◌, Option, Some, None, List, [], ◌∷◌, ◌++◌, map, refl, ◌∙◌, subst, arith}
+use Rattle.std.specs.Prelude.{All, IfSome, find, filter}
 use Rattle.std.specs.List.{list_any, AllByRecursion, IsDistinct}
 use Rattle.std.specs.Ordering.{is_gt}
 use Rattle.std.specs.declared.cmp.Ordering.{Ordering}
+use Rattle.std.proofs.lemmas.List.{length-map, get_or-map}
 use Rattle.std.proofs.lemmas.List.Elements.{All-cons, All-nil, All-tail}
 use Rattle.std.proofs.lemmas.Map.Keys.{IsDistinct-head, IsDistinct-tail, IsDistinct-cons}
 use Rattle.am_model.specs.Lists.{least, lesser}
@@ -33,33 +34,44 @@ module _ {X : Type 0} (P : X → Type 0) where
   all-push [] x all h = (h, tt)
   all-push (y ∷ xs) x all h = (all.0, all-push xs x all.1 h)
 
-  -- what holds of each element holds of the one that is found
+  pub all-last : (xs : List X) (x : X) → AllByRecursion P (xs ++ x ∷ []) → AllByRecursion P xs × P x
+  all-last [] x all = (tt, all.0)
+  all-last (y ∷ xs) x all = let rest = all-last xs x all.1 in ((all.0, rest.0), rest.1)
+
+  -- what holds of each element holds of the one that is found, if one is
+  pub all-found : (test : X → Bool) (xs : List X) → AllByRecursion P xs → IfSome (find test xs) P
+  all-found test [] all = tt
+  all-found test (x ∷ xs) all =
+      elim (test x) as (λ b. IfSome (cond b (Some x) (find test xs)) P) [ true ↦ all.0 | false ↦ all-found test xs all.1 ]
+
   pub all-find : (test : X → Bool) (x : X) (xs : List X) → AllByRecursion P xs → find test xs ≡ Some x → P x
-  all-find test x [] all e = absurd (cc)
-  all-find test x (y ∷ xs) all found =
-      elim (test y) as (λ b. cond b (Some y) (find test xs) ≡ Some x → P x) [
-        | true ↦ λ e. let same : y ≡ x = cc in subst P same all.0
-        | false ↦ λ e. all-find test x xs all.1 e
-      ] found
+  all-find test x xs all found = subst (λ o. IfSome o P) found (all-found test xs all)
 
   -- and of the least one
-  all-lesser : (cmp : X → X → Ordering) (x y : X) → P x → P y → P (cond (is_gt (cmp x y)) y x)
-  all-lesser cmp x y h k = elim (is_gt (cmp x y)) as (λ b. P (cond b y x)) [ true ↦ k | false ↦ h ]
+  pub all-lesser : (cmp : X → X → Ordering) (xs : List X) → AllByRecursion P xs → IfSome (least cmp xs) P
+  all-lesser cmp [] all = tt
+  all-lesser cmp (x ∷ xs) all = by (least cmp xs) (all-lesser cmp xs all.1)
+    where
+      by : (o : Option X) → IfSome o P → P (lesser cmp x o)
+      by None h = all.0
+      by (Some y) h = elim (is_gt (cmp x y)) as (λ b. P (cond b y x)) [ true ↦ h | false ↦ all.0 ]
 
   pub all-least : (cmp : X → X → Ordering) (x : X) (xs : List X) → AllByRecursion P xs → least cmp xs ≡ Some x → P x
-  all-least cmp x [] all e = absurd (cc)
-  all-least cmp x (y ∷ xs) all found =
-      elim (least cmp xs) as (λ o. least cmp xs ≡ o → Some (lesser cmp y o) ≡ Some x → P x) [
-        | None ↦ λ is e. let same : y ≡ x = cc in subst P same all.0
-        | Some z ↦ λ is e.
-            let same : cond (is_gt (cmp y z)) z y ≡ x = cc in
-            subst P same (all-lesser cmp y z all.0 (all-least cmp z xs all.1 is))
-      ] refl found
+  all-least cmp x xs all least_is = subst (λ o. IfSome o P) least_is (all-lesser cmp xs all)
 
 module _ {X : Type 0} (P Q : X → Type 0) where
   pub all-weaker : ((x : X) → P x → Q x) → (xs : List X) → AllByRecursion P xs → AllByRecursion Q xs
   all-weaker imp [] all = tt
   all-weaker imp (x ∷ xs) all = (imp x all.0, all-weaker imp xs all.1)
+
+  -- and of what a filter keeps, where it follows of an element that passes
+  pub all-kept : (test : X → Bool) → ((x : X) → P x → test x ≡ true → Q x) → (xs : List X) → AllByRecursion P xs → AllByRecursion Q (filter test xs)
+  all-kept test imp [] all = tt
+  all-kept test imp (x ∷ xs) all =
+      elim (test x) as (λ b. test x ≡ b → AllByRecursion Q (cond b (x ∷ filter test xs) (filter test xs))) [
+        | true ↦ λ e. (imp x all.0 e, all-kept test imp xs all.1)
+        | false ↦ λ _. all-kept test imp xs all.1
+      ] refl
 
   pub all-both : (R : X → Type 0) → ((x : X) → P x → Q x → R x) → (xs : List X) → AllByRecursion P xs → AllByRecursion Q xs → AllByRecursion R xs
   all-both R imp [] all also = tt
@@ -93,9 +105,25 @@ all-none test (x ∷ xs) none =
     ] refl none
 
 module _ {X Y : Type 0} (f : X → Y) where
+  -- what holds of what is told of each element
+  pub all-told : (P : Y → Type 0) (xs : List X) → All P (map f xs) → All (λ x. P (f x)) xs
+  all-told P xs all i d within = subst P (get_or-map f xs i d (f d) within) (all i (f d) (omega (arith, length-map xs f, within)))
+
   pub all-map : (P : Y → Type 0) (xs : List X) → AllByRecursion (λ x. P (f x)) xs → AllByRecursion P (map f xs)
   all-map P [] all = tt
   all-map P (x ∷ xs) all = (all.0, all-map P xs all.1)
+
+  all-unmap : (P : Y → Type 0) (xs : List X) → AllByRecursion P (map f xs) → AllByRecursion (λ x. P (f x)) xs
+  all-unmap P [] all = tt
+  all-unmap P (x ∷ xs) all = (all.0, all-unmap P xs all.1)
+
+  -- elements that are told apart by what is told of each
+  pub IsDistinct-unmap : (like : Y → Y → Bool) (xs : List X) → IsDistinct like (map f xs) → IsDistinct (λ x y. like (f x) (f y)) xs
+  IsDistinct-unmap like [] h = IsDistinct-nil (λ x y. like (f x) (f y))
+  IsDistinct-unmap like (x ∷ xs) h =
+      IsDistinct-cons (λ x y. like (f x) (f y)) x xs
+      (all-unmap (λ y. like (f x) y ≡ false) xs (IsDistinct-head like (f x) (map f xs) h))
+      (IsDistinct-unmap like xs (IsDistinct-tail like (f x) (map f xs) h))
 
   pub IsDistinct-map : (like : Y → Y → Bool) (xs : List X) → IsDistinct (λ x y. like (f x) (f y)) xs → IsDistinct like (map f xs)
   IsDistinct-map like [] h = IsDistinct-nil like
@@ -114,6 +142,14 @@ module _ {X : Type 0} (like : X → X → Bool) where
         | true ↦ IsDistinct-cons like x (filter test xs) (all-filter (λ y. like x y ≡ false) test xs head) tail
         | false ↦ tail
       ]
+
+  -- the last one, and those before it
+  pub IsDistinct-last : (xs : List X) (x : X) → IsDistinct like (xs ++ x ∷ []) → IsDistinct like xs × AllByRecursion (λ y. like y x ≡ false) xs
+  IsDistinct-last [] x h = (IsDistinct-nil like, tt)
+  IsDistinct-last (y ∷ xs) x h =
+      let head = all-last (λ z. like y z ≡ false) xs x (IsDistinct-head like y (xs ++ x ∷ []) h) in
+      let rest = IsDistinct-last xs x (IsDistinct-tail like y (xs ++ x ∷ []) h) in
+      (IsDistinct-cons like y xs head.0 rest.0, (head.1, rest.1))
 
   -- elements that another test tells apart
   pub IsDistinct-alike : (other : X → X → Bool) → ((x y : X) → other x y ≡ like x y) → (xs : List X) → IsDistinct like xs → IsDistinct other xs

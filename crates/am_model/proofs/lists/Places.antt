@@ -1,7 +1,7 @@
 -- Where the first element that passes a test stands, and what putting an element in does there.
 use Rattle.std.proofs.Common.{◌≡◌, ℕ, suc, ◌+◌, Bool, true, false, cond, not, ◌||◌, ltb, Some, None, List, [], ◌∷◌, ◌++◌, map, length, is_some, refl, sym, ap, ◌∙◌, arith}
 use Rattle.std.specs.Prelude.{is_none}
-use Rattle.std.specs.List.{count_by, list_any, position, position_or_len}
+use Rattle.std.specs.List.{AllByRecursion, count_by, list_any, position, position_or_len}
 use Rattle.std.proofs.Math.ListN.{set}
 use Rattle.std.proofs.lemmas.Bool.Decides.{nat_tests}
 use Rattle.std.proofs.lemmas.List.{length-map, map-set, map-append}
@@ -60,6 +60,29 @@ module _ {X : Type 0} (p : X → Bool) where
   pub place-some : (xs : List X) (i : ℕ) → position p xs ≡ Some i → position_or_len p xs ≡ i
   place-some xs i e = (some_is (ltb (position_or_len p xs) (length xs)) (position_or_len p xs) i e).1
 
+-- one that fails, added last, moves no place
+module _ {X : Type 0} (p : X → Bool) (x : X) (fails : p x ≡ false) where
+  any-last : (xs : List X) → list_any p (xs ++ x ∷ []) ≡ list_any p xs
+  any-last [] = ap (λ b. b || false) fails
+  any-last (y ∷ ys) = ap (λ b. p y || b) (any-last ys)
+
+  place-last : (xs : List X) → list_any p xs ≡ true → position_or_len p (xs ++ x ∷ []) ≡ position_or_len p xs
+  place-last [] e = absurd (cc)
+  place-last (y ∷ ys) e =
+      elim (p y) as (λ b. (b || list_any p ys) ≡ true → cond (not b) (1 + position_or_len p (ys ++ x ∷ [])) 0 ≡ cond (not b) (1 + position_or_len p ys) 0) [
+        | true ↦ λ _. refl
+        | false ↦ λ rest. ap (λ n. 1 + n) (place-last ys rest)
+      ] e
+
+  pub position-last : (xs : List X) → position p (xs ++ x ∷ []) ≡ position p xs
+  position-last xs =
+      ap (λ b. cond b (Some (position_or_len p (xs ++ x ∷ []))) None) (sym (any_at p (xs ++ x ∷ [])) ∙ any-last xs)
+      ∙ (elim (list_any p xs) as (λ b. list_any p xs ≡ b → cond b (Some (position_or_len p (xs ++ x ∷ []))) None ≡ cond b (Some (position_or_len p xs)) None) [
+        | true ↦ λ e. ap (λ n. Some n) (place-last xs e)
+        | false ↦ λ _. refl
+      ] refl
+      ∙ ap (λ b. cond b (Some (position_or_len p xs)) None) (any_at p xs))
+
 module _ {X : Type 0} (like : X → X → Bool) (x : X) where
   pub put_at : (xs : List X) (i : ℕ) → position (like x) xs ≡ Some i → put_in like x xs ≡ set xs i x
   put_at xs i e = put_in-some like x xs (any-some (like x) xs i e) ∙ ap (λ k. set xs k x) (place-some (like x) xs i e)
@@ -86,6 +109,14 @@ module _ {X Y : Type 0} (f : X → Y) (q : X → Bool) (p : Y → Bool) (same : 
       sum_by-cons (λ y. cond (q y) 1 0) x xs
       ∙ (ap (λ b. cond b 1 0 + count_by q xs) (same x)
       ∙ (ap (λ n. cond (p (f x)) 1 0 + n) (count_told xs) ∙ sym (sum_by-cons (λ y. cond (p y) 1 0) (f x) (map f xs))))
+
+-- a count by two tests that agree on each element
+pub count_alike : {X : Type 0} (p q : X → Bool) (xs : List X) → AllByRecursion (λ x. p x ≡ q x) xs → count_by p xs ≡ count_by q xs
+count_alike p q [] all = refl
+count_alike p q (x ∷ xs) all =
+    sum_by-cons (λ y. cond (p y) 1 0) x xs
+    ∙ (ap (λ b. cond b 1 0 + count_by p xs) all.0
+    ∙ (ap (λ n. cond (q x) 1 0 + n) (count_alike p q xs all.1) ∙ sym (sum_by-cons (λ y. cond (q y) 1 0) x xs)))
 
 -- what is told of each element, where one is put in
 module _ {X Y : Type 0} (f : X → Y) (like : Y → Y → Bool) (x : X) where

@@ -1,6 +1,6 @@
 -- What passes a test among the elements of lists, and what is found where no two are alike.
 use Rattle.std.proofs.Common.{◌≡◌, Bool, true, false, cond, not, ◌&&◌, ◌||◌, Option, Some, None, List, [], ◌∷◌, map, refl, sym, ap, ◌∙◌}
-use Rattle.std.specs.Prelude.{find, filter}
+use Rattle.std.specs.Prelude.{find, filter, is_some}
 use Rattle.std.specs.Cmp.{IsEquivalence}
 use Rattle.std.specs.List.{AllByRecursion, IsDistinct, list_any, filter_map, cons_option}
 use Rattle.std.proofs.lemmas.Bool.{false≢true, not-true}
@@ -12,6 +12,17 @@ use Rattle.am_model.proofs.lists.Distinct.{IsDistinct-filter, all-weaker, all-pa
 -- ---- what passes a test
 
 module _ {X : Type 0} where
+  -- no element, where each fails
+  pub any-failing : (test : X → Bool) (xs : List X) → AllByRecursion (λ x. test x ≡ false) xs → list_any test xs ≡ false
+  any-failing test [] all = refl
+  any-failing test (x ∷ xs) all = ap (λ b. b || list_any test xs) all.0 ∙ any-failing test xs all.1
+
+  -- some element, exactly where one is found
+  pub any-find : (test : X → Bool) (xs : List X) → list_any test xs ≡ is_some (find test xs)
+  any-find test [] = refl
+  any-find test (x ∷ xs) =
+      elim (test x) as (λ b. (b || list_any test xs) ≡ is_some (cond b (Some x) (find test xs))) [ true ↦ refl | false ↦ any-find test xs ]
+
   -- among those that pass another
   pub any-filter : (test keep : X → Bool) (xs : List X) → list_any test (filter keep xs) ≡ list_any (λ x. keep x && test x) xs
   any-filter test keep [] = refl

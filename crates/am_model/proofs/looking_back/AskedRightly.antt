@@ -22,7 +22,9 @@ use Rattle.am_model.specs.look_back.Entry.{resolved_alerts_in, firing_in, resolv
 use Rattle.am_model.specs.Records.{entry}
 use Rattle.am_model.specs.Insert.{same_member}
 use Rattle.am_model.specs.look_back.Laws.{member_with, EveryLegalHistory, asked_after, IsAskedRightly, BeginsAskRightly, wants_resolved, IsNoticeFound, IsToldRightly, BeginsTellWhatIsThere}
+use Rattle.am_model.specs.look_back.Outlook.{reason_of}
 use Rattle.am_model.specs.look_back.Past.{past_of, moment_at, takes}
+use Rattle.am_model.specs.look_back.Reasons.{reason_told, reason_in}
 use Rattle.am_model.specs.look_back.Presence.{presence}
 use Rattle.am_model.specs.State.{GroupState, State, moment, same_name}
 use Rattle.am_model.proofs.legal.ConsistentBegin.{IsTaken, taken-is, distinct_places}
@@ -70,6 +72,13 @@ module _ (config : Config) (id : ℕ) (s : State) (past : List Record) (pass : �
         by : (b : Bool) (is : List (ℕ × Integration)) → map (λ i. i.0) (if b then [] else is) ≡ (if b then [] else map (λ i. i.0) is)
         by true is = refl
         by false is = refl
+
+    -- the reasons by the state are those that looking back finds
+    pub reasons-found : (is : List (ℕ × Integration)) → map (reason_of config s t g) is ≡ map (reason_in config g.name t past) is
+    reasons-found is =
+        let firing = firing-found config s past l.known l.silences t g apart there in
+        let resolved = resolved-found config s past l.known l.silences t g apart there in
+        λ j. map (λ (i : ℕ × Integration). reason_told (l.rows g.name i.0 j) (firing j) (resolved j) i.1.send_resolved (route_of config g.name).repeat_interval t) is
 
     -- and their notices list what is found
     notice-found : (i : ℕ × Integration) → wants_resolved config g.name i.0 ≡ i.1.send_resolved → IsNoticeFound config s.next_number g.name (deadline_of config t g) t past (notice_for config id s t g i)

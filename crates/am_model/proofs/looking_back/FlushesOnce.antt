@@ -1,7 +1,7 @@
 -- Each flush has one begin and at most one finish, notes each integration at most once between them, and its group isn't taken before.
 use Rattle.std.proofs.Common.{◌≡◌, ℕ, ◌+◌, ◌≤◌, Bool, true, false, cond, not, ◌&&◌, ◌||◌, Option, Some, None, List, [], ◌∷◌, map, refl, sym, ap, ◌∙◌, subst, arith, if◌then◌else◌}
-use Rattle.std.specs.Prelude.{find, filter, ◌==◌, nat_le}
-use Rattle.std.specs.List.{AllByRecursion, list_any}
+use Rattle.std.specs.Prelude.{find, filter, is_some, ◌==◌, nat_le}
+use Rattle.std.specs.List.{list_any}
 use Rattle.std.specs.Option.{option_map}
 use Rattle.std.proofs.Math.Bool.{or-false}
 use Rattle.std.proofs.lemmas.Bool.{false≢true, eqb-true, ne_eqb, leb-true, and_parts}
@@ -50,7 +50,7 @@ use Rattle.am_model.proofs.looking_back.FoundSteps.{clock-step}
 use Rattle.am_model.proofs.looking_back.Opened.{notices_at, asked_as, IsOpened, Finds}
 use Rattle.am_model.proofs.looking_back.Pasts.{state_after, IsLegalPast, at_each, legal_past}
 use Rattle.am_model.proofs.looking_back.PastWords.{has_labels}
-use Rattle.am_model.proofs.lists.Sets.{any-filter, any-alike, any-and, any-map, passes}
+use Rattle.am_model.proofs.lists.Sets.{any-failing, any-find, any-filter, any-alike, any-and, any-map, passes}
 use Rattle.am_model.proofs.looking_back.ToldSets.{present-passes}
 use Rattle.am_model.proofs.states.Alike.{same_name-is}
 
@@ -87,15 +87,6 @@ IsIntervalOver config r past =
     (name : GroupName) → takes name r.reply ≡ true → IsLater (route_of config name).group_interval (moment_at (r ∷ past)) (begun_at config name past)
 
 -- ---- words
-
-any_none : {X : Type 0} (test : X → Bool) (xs : List X) → AllByRecursion (λ x. test x ≡ false) xs → list_any test xs ≡ false
-any_none test [] all = refl
-any_none test (x ∷ xs) all = ap (λ b. b || list_any test xs) all.0 ∙ any_none test xs all.1
-
-any_some : {X : Type 0} (test : X → Bool) (x : X) (xs : List X) → find test xs ≡ Some x → list_any test xs ≡ true
-any_some test x [] e = absurd (cc)
-any_some test x (y ∷ ys) found =
-    elim (test y) as (λ b. cond b (Some y) (find test ys) ≡ Some x → (b || list_any test ys) ≡ true) [ true ↦ λ e. refl | false ↦ λ e. any_some test x ys e ] found
 
 two : (a b : Bool) → (a && not b) ≡ true → (a ≡ true) × (b ≡ false)
 two true true h = absurd (false≢true h)
@@ -278,7 +269,7 @@ module _ (config : Config) (id : ℕ) (s : State) (past : List Record) (pass : �
         note_once = λ number i h. absurd (false≢true h);
         none_open = λ name h.
             let own : name ≡ g.name = same_name-is name g.name (sym (is name) ∙ h) in
-            open-group config s past n name ∙ ap (is_flushing s.flushes) own ∙ any_none (λ f. same_name g.name f.group) s.flushes (taken-is s (moment s now) g steady.groups e).free;
+            open-group config s past n name ∙ ap (is_flushing s.flushes) own ∙ any-failing (λ f. same_name g.name f.group) s.flushes (taken-is s (moment s now) g steady.groups e).free;
       }
 
   -- the last begin of a group, after a begin
@@ -342,7 +333,7 @@ module _ (config : Config) (id : ℕ) (s : State) (past : List Record) (pass : �
       let c = call_is.Finish now m outcomes in
       let same : f.number ≡ m = eqb-true f.number m (find-passes (λ (h : FlushState). h.number == m) f s.flushes is) in
       let held = all-find (IsOpen s.next_number s.groups) (λ h. h.number == m) f s.flushes steady.opened is in
-      let is_open : (has_begun m past && not (has_finished m past)) ≡ true = open-number config s past n m ∙ any_some (λ (h : FlushState). h.number == m) f s.flushes is in
+      let is_open : (has_begun m past && not (has_finished m past)) ≡ true = open-number config s past n m ∙ any-find (λ (h : FlushState). h.number == m) s.flushes ∙ ap (λ o. is_some o) is in
       let told : option_map (λ h. reply_is.Finished (finished s outcomes h)) (flush_numbered s.flushes m) ≡ Some p = ap (option_map (λ h. reply_is.Finished (finished s outcomes h))) is in (
         record {
           first_begin = λ number h. absurd (false≢true h);
@@ -372,7 +363,7 @@ module _ (config : Config) (id : ℕ) (s : State) (past : List Record) (pass : �
       let c = call_is.Note now m i outcome in
       let told : noted i outcome (flush_numbered s.flushes m) ≡ Some reply_is.Noted = ap (noted i outcome) is ∙ ap (λ b. if b then Some reply_is.Noted else None) may in
       let same : f.number ≡ m = eqb-true f.number m (find-passes (λ (h : FlushState). h.number == m) f s.flushes is) in
-      let is_open : (has_begun m past && not (has_finished m past)) ≡ true = open-number config s past n m ∙ any_some (λ (h : FlushState). h.number == m) f s.flushes is in
+      let is_open : (has_begun m past && not (has_finished m past)) ≡ true = open-number config s past n m ∙ any-find (λ (h : FlushState). h.number == m) s.flushes ∙ ap (λ o. is_some o) is in
       let o = all-find (IsOpened config s.inserts past) (λ h. h.number == m) f s.flushes k.opened is in
       let unnoted : was_noted m i past ≡ false = ap (λ x. was_noted x i past) (sym same) ∙ unnoted_past config s.inserts i outcome past f o may in (
         record {

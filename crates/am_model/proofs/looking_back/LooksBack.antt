@@ -3,7 +3,7 @@ use Rattle.am_model.specs.look_back.Laws.{EveryLegalHistory, LooksBack}
 use Rattle.am_model.proofs.looking_back.AlertsShown.{shown_alerts_are_found}
 use Rattle.am_model.proofs.looking_back.AskedRightly.{begins_ask_rightly, begins_tell_what_is_there}
 use Rattle.am_model.proofs.looking_back.BeginIntervals.{begins_keep_the_interval}
-use Rattle.am_model.proofs.legal.Consistent.{consistent}
+use Rattle.am_model.proofs.legal.Consistent.{consistent_replay}
 use Rattle.am_model.proofs.looking_back.FlushesOnce.{flushes_end_once}
 use Rattle.am_model.proofs.looking_back.FoundAlerts.{alerts_are_found}
 use Rattle.am_model.proofs.looking_back.FoundRows.{rows_are_found}
@@ -14,7 +14,7 @@ use Rattle.am_model.proofs.looking_back.RowsDelivered.{shown_rows_are_found, onl
 pub histories_look_back : EveryLegalHistory LooksBack
 histories_look_back config id history legal =
     record {
-      consistent = consistent config id history legal;
+      consistent = consistent_replay config history;
       alerts = alerts_are_found config id history legal;
       shown_alerts = shown_alerts_are_found config id history legal;
       rows = rows_are_found config id history legal;

@@ -64,13 +64,15 @@ present_in config name past = filter_map (λ a. presence config name a.labels pa
 -- the alerts that are present in a group and not muted at t
 abbrev pub unmuted_in : Config → GroupName → ℕ → Past → List AlertData
 unmuted_in config name t past =
-    without (λ a. is_muted a.labels t (silences_in past) (rules_of config) (known_in past)) (map (λ m. m.alert) (present_in config name past))
+    without (λ a. is_muted a.labels t (silences_in past) (rules_of config) (known_in past))
+    (map (λ m. m.alert) (present_in config name past))
 
 -- an alert without its end, as a notice lists one that fires
 abbrev pub without_end : AlertData → AlertData
 without_end a = alert_of a.labels a.starts None
 
--- the alerts that a begin of a group at t lists as firing, in the order of their label sets: those that are present, neither muted nor resolved, without their ends
+-- the alerts that a begin of a group at t lists as firing, in the order of their label sets: those that are present, neither muted nor
+-- resolved, without their ends
 abbrev pub firing_alerts_in : Config → GroupName → ℕ → Past → List AlertData
 firing_alerts_in config name t past =
     in_order alert_cmp (map without_end (without (λ a. is_resolved a t) (unmuted_in config name t past)))
@@ -122,7 +124,8 @@ asked_and_succeeded number outcomes finish_past integration [] = false
 asked_and_succeeded number outcomes finish_past integration (r ∷ past) =
     list_any (λ n. (n.integration == integration) && succeeded number outcomes finish_past n) (notices_in r.reply)
 
--- whether a finish or a note with this past logs an integration's success for a group: a finish of a flush of the group in which it was asked and succeeded, unless it was noted, or its note
+-- whether a finish or a note with this past logs an integration's success for a group: a finish of a flush of the group in which it was
+-- asked and succeeded, unless it was noted, or its note
 abbrev pub logs : GroupName → ℕ → Past → Call → Bool
 logs name integration past (Insert now alert) = false
 logs name integration past (Silence now id matchers start end) = false
@@ -163,7 +166,8 @@ unless_collected t (Finish now number outcomes) row = row
 unless_collected t (Maintain now) row = unless_expired t row
 unless_collected t (Note now number integration outcome) row = row
 
--- entry: the row of the last record that logged a success of an integration for a group, unless a maintenance since then came at or past its expiry
+-- entry: the row of the last record that logged a success of an integration for a group, unless a maintenance since then came at or
+-- past its expiry
 abbrev pub entry_in : Config → GroupName → ℕ → Past → Option RowView
 entry_in config name integration [] = None
 entry_in config name integration (r ∷ past) =

@@ -1,5 +1,6 @@
 -- Look-back: what was done and why, told from a history alone, with any number of flushes open.
-use Rattle.std.specs.Prelude.{◌≡◌, ℕ, ◌+◌, Bool, true, false, IsTrue, not, ◌&&◌, ◌||◌, ◌==◌, ◌⊎◌, max, All, List, [], ◌∷◌, map, filter, find, count_by, Option, Some, None, if◌then◌else◌}
+use Rattle.std.specs.Prelude.{◌≡◌, ℕ, ◌+◌, Bool, true, false, IsTrue, not, ◌&&◌, ◌||◌, ◌==◌, ◌⊎◌, max, All, List, [], ◌∷◌, map, filter}
+use Rattle.std.specs.Prelude.{find, count_by, Option, Some, None, if◌then◌else◌}
 use Rattle.std.specs.List.{list_any}
 use Rattle.std.specs.Option.{option_map}
 use Rattle.am_alerts.specs.AlertData.{AlertData, is_resolved}
@@ -21,12 +22,14 @@ use Rattle.am_model.specs.declared.views.RowView.{RowView}
 use Rattle.am_model.specs.Begin.{alert_cmp, is_entry_of, log_row}
 use Rattle.am_model.specs.Configured.{route_of, integrations_of}
 use Rattle.am_model.specs.Notice.{NoticeData, is_nothing}
-use Rattle.am_model.specs.look_back.Entry.{begins_group, logs, present_in, firing_alerts_in, resolved_alerts_in, firing_in, resolved_in, entry_in}
+use Rattle.am_model.specs.look_back.Entry.{begins_group, logs, present_in, firing_alerts_in, resolved_alerts_in, firing_in, resolved_in}
+use Rattle.am_model.specs.look_back.Entry.{entry_in}
 use Rattle.am_model.specs.Finish.{is_delivered}
 use Rattle.am_model.specs.look_back.Interval.{found_empty, BeginsKeepTheInterval}
 use Rattle.am_model.specs.Laws.{IsConsistent}
 use Rattle.am_model.specs.Lists.{in_order}
-use Rattle.am_model.specs.look_back.Past.{Past, AtEach, past_of, replay_past, moment_at, is_flush, is_flush_of, is_finish, is_note, takes, notices_in, begin_of, has_begun, has_finished, was_noted}
+use Rattle.am_model.specs.look_back.Past.{Past, AtEach, past_of, replay_past, moment_at, is_flush, is_flush_of, is_finish, is_note, takes}
+use Rattle.am_model.specs.look_back.Past.{notices_in, begin_of, has_begun, has_finished, was_noted}
 use Rattle.am_model.specs.look_back.Presence.{goes_to, inserts, inserted_by, stamp_told, presence}
 use Rattle.am_model.specs.look_back.Reasons.{BeginsHaveReasons}
 use Rattle.am_model.specs.Replay.{replay, IsLegal}
@@ -82,7 +85,8 @@ abbrev pub is_delivered_in : GroupName → ℕ → Option Outcome → Past → B
 is_delivered_in name integration outcome [] = false
 is_delivered_in name integration outcome (r ∷ past) = is_flush_of name r.reply && is_delivered_to integration outcome (notices_in r.reply)
 
--- whether a finish or a note with this past reports that its flush's notice for an integration of a group was delivered, or had nothing to send
+-- whether a finish or a note with this past reports that its flush's notice for an integration of a group was delivered, or had nothing
+-- to send
 abbrev pub reports_delivery : GroupName → ℕ → Past → Call → Bool
 reports_delivery name integration past (Insert now alert) = false
 reports_delivery name integration past (Silence now id matchers start end) = false
@@ -90,14 +94,16 @@ reports_delivery name integration past (Begin now) = false
 reports_delivery name integration past (Finish now number outcomes) =
     is_delivered_in name integration (outcome_of outcomes integration) (begin_of number past)
 reports_delivery name integration past (Maintain now) = false
-reports_delivery name integration past (Note now number i outcome) = (i == integration) && is_delivered_in name integration outcome (begin_of number past)
+reports_delivery name integration past (Note now number i outcome) =
+    (i == integration) && is_delivered_in name integration outcome (begin_of number past)
 
 -- what a record logs was delivered: where it logs an integration's success for a group, it reports so of that flush's notice
 abbrev pub LogsDelivered : Record → Past → Type 0
 LogsDelivered r past =
     (name : GroupName) (integration : ℕ) → logs name integration past r.call ≡ true → reports_delivery name integration past r.call ≡ true
 
--- whether the last record that logged a row's integration for its group did so at the row's moment, and reported that its notice was delivered, or had nothing to send
+-- whether the last record that logged a row's integration for its group did so at the row's moment, and reported that its notice was
+-- delivered, or had nothing to send
 abbrev pub was_delivered : RowView → Past → Bool
 was_delivered row [] = false
 was_delivered row (r ∷ past) =
@@ -109,7 +115,8 @@ was_delivered row (r ∷ past) =
 abbrev pub OnlyDeliveredIsLogged : Config → List Record → Type 0
 OnlyDeliveredIsLogged config history = AtEach LogsDelivered (past_of history)
 
--- a row that comes into the log by a record was delivered: any that stands there after it stood there before, or is of its moment, and it reports so of that flush's notice
+-- a row that comes into the log by a record was delivered: any that stands there after it stood there before, or is of its moment, and
+-- it reports so of that flush's notice
 abbrev pub NewRowsAreDelivered : Config → Record → Past → Type 0
 NewRowsAreDelivered config r past =
     (name : GroupName) (integration : ℕ) (row : RowView)
@@ -135,7 +142,8 @@ insert_during number labels (r ∷ past) =
     else if inserts labels r.call then inserted_by (stamp_told r.reply) r.call
     else insert_during number labels past
 
--- after a record that finishes a flush, each alert that was inserted into the group since the begin is in the group, as it was inserted last
+-- after a record that finishes a flush, each alert that was inserted into the group since the begin is in the group, as it was inserted
+-- last
 abbrev pub KeepsRefiring : Config → Record → Past → Type 0
 KeepsRefiring config r past =
     (number : ℕ) → is_finish number r.call ≡ true
@@ -173,16 +181,19 @@ begun_at config name (r ∷ past) =
     else if found_empty config name r past then None
     else begun_at config name past
 
--- a record begins only a flush that hasn't begun, finishes only one that has begun and isn't finished, notes only for such a one an integration that it hasn't noted, and takes only a group that has no open flush
+-- a record begins only a flush that hasn't begun, finishes only one that has begun and isn't finished, notes only for such a one an
+-- integration that it hasn't noted, and takes only a group that has no open flush
 pub record IsOneFlushAtATime (r : Record) (past : Past) : Type 0 where
   pub first_begin : (number : ℕ) → is_flush number r.reply ≡ true → has_begun number past ≡ false
   pub begun_before : (number : ℕ) → is_finish number r.call ≡ true → has_begun number past ≡ true
   pub first_finish : (number : ℕ) → is_finish number r.call ≡ true → has_finished number past ≡ false
-  pub note_open : (number integration : ℕ) → is_note number integration r.call ≡ true → (has_begun number past ≡ true) × (has_finished number past ≡ false)
+  pub note_open : (number integration : ℕ) → is_note number integration r.call ≡ true
+      → (has_begun number past ≡ true) × (has_finished number past ≡ false)
   pub note_once : (number integration : ℕ) → is_note number integration r.call ≡ true → was_noted number integration past ≡ false
   pub none_open : (name : GroupName) → takes name r.reply ≡ true → has_open name past ≡ false
 
--- each number has one begin and at most one finish, and between them at most one note of each integration; a group is taken only while none of its flushes is open
+-- each number has one begin and at most one finish, and between them at most one note of each integration; a group is taken only while
+-- none of its flushes is open
 abbrev pub FlushesEndOnce : Config → List Record → Type 0
 FlushesEndOnce config history = AtEach IsOneFlushAtATime (past_of history)
 
@@ -221,7 +232,8 @@ BeginsAskRightly config history = AtEach (IsAskedRightly config) (past_of histor
 abbrev pub wants_resolved : Config → GroupName → ℕ → Bool
 wants_resolved config name integration = list_any (λ i. (integration == i.0) && i.1.send_resolved) (integrations_of config name)
 
--- a notice of a group's flush at t lists the alerts that looking back finds: those that fire, and the resolved ones where its integration is sent them
+-- a notice of a group's flush at t lists the alerts that looking back finds: those that fire, and the resolved ones where its
+-- integration is sent them
 pub record IsNoticeFound (config : Config) (number : ℕ) (name : GroupName) (until t : ℕ) (past : Past) (n : NoticeData) : Type 0 where
   pub ticket : n.ticket ≡ number
   pub group : n.group ≡ name
@@ -229,8 +241,10 @@ pub record IsNoticeFound (config : Config) (number : ℕ) (name : GroupName) (un
   pub firing : n.firing ≡ firing_alerts_in config name t past
   pub resolved : n.resolved ≡ (if wants_resolved config name n.integration then resolved_alerts_in config name t past else [])
 
--- a group's flush at t asks somebody, has its deadline a group interval later, but ten seconds at least, and its notices list what looking back finds
-pub record IsFlushFound (config : Config) (number : ℕ) (name : GroupName) (until t : ℕ) (past : Past) (notices : List NoticeData) : Type 0 where
+-- a group's flush at t asks somebody, has its deadline a group interval later, but ten seconds at least, and its notices list what
+-- looking back finds
+pub record IsFlushFound (config : Config) (number : ℕ) (name : GroupName) (until t : ℕ) (past : Past)
+    (notices : List NoticeData) : Type 0 where
   pub asks : is_empty notices ≡ false
   pub deadline : until ≡ t + max (route_of config name).group_interval LEAST_TIME
   pub listed : All (IsNoticeFound config number name until t past) notices
@@ -252,7 +266,9 @@ BeginsTellWhatIsThere config history = AtEach (λ r past. IsToldRightly config (
 
 -- ---- all of it, of one history
 
--- what looking back says of a history: its alerts and its rows are found, and no two are alike; only what was delivered is logged; and at each record a refiring alert stays, flushes end once, and a begin is at least an interval after any other of its group, unless a maintenance between them found it without alerts, asks those that it has a reason to ask, and tells what is there
+-- what looking back says of a history: its alerts and its rows are found, and no two are alike; only what was delivered is logged; and
+-- at each record a refiring alert stays, flushes end once, and a begin is at least an interval after any other of its group, unless a
+-- maintenance between them found it without alerts, asks those that it has a reason to ask, and tells what is there
 pub record LooksBack (config : Config) (history : List Record) : Type 0 where
   pub consistent : IsConsistent (replay config history)
   pub alerts : AlertsAreFound config history

@@ -1,4 +1,5 @@
--- A past: a history with its latest record first, so that behind each record stands what came before it. What is looked for from the end is found by recursion.
+-- A past: a history with its latest record first, so that behind each record stands what came before it. What is looked for from the
+-- end is found by recursion.
 use Rattle.std.specs.Prelude.{ℕ, Bool, true, false, ◌&&◌, ◌||◌, ◌==◌, min, max, List, [], ◌∷◌, reverse, if◌then◌else◌}
 use Rattle.std.specs.List.{list_any}
 use Rattle.am_alerts.specs.declared.limits.TheConstants.{MAX_MOMENT}
@@ -131,7 +132,8 @@ has_finished number past = list_any (λ r. is_finish number r.call) past
 abbrev pub was_noted : ℕ → ℕ → Past → Bool
 was_noted number integration past = list_any (λ r. is_note number integration r.call) past
 
--- whether the integration of a notice succeeded in the flush of this number, whose finish has these outcomes and this past: it was noted, or had nothing to send, or is reported delivered
+-- whether the integration of a notice succeeded in the flush of this number, whose finish has these outcomes and this past: it was
+-- noted, or had nothing to send, or is reported delivered
 abbrev pub succeeded : ℕ → List (ℕ × Outcome) → Past → NoticeData → Bool
 succeeded number outcomes past n =
     was_noted number n.integration past || is_nothing n || is_delivered (outcome_of outcomes n.integration)

@@ -72,7 +72,8 @@ abbrev pub all_succeeded_at : ℕ → List (ℕ × Outcome) → Past → Past �
 all_succeeded_at number outcomes finish_past [] = false
 all_succeeded_at number outcomes finish_past (r ∷ past) = list_all (succeeded number outcomes finish_past) (notices_in r.reply)
 
--- whether a finish with this past takes an alert out of a group: its flush is of the group, began after the alert's last insert and had it resolved, and all that it asked succeeded
+-- whether a finish with this past takes an alert out of a group: its flush is of the group, began after the alert's last insert and had
+-- it resolved, and all that it asked succeeded
 abbrev pub finish_removes : GroupName → AlertData → Past → Call → Bool
 finish_removes name a past (Insert now alert) = false
 finish_removes name a past (Silence now id matchers start end) = false
@@ -97,7 +98,8 @@ abbrev pub unless_left : GroupName → Past → Option MemberState → Option Me
 unless_left name past None = None
 unless_left name past (Some m) = if has_left name m.alert past then None else Some m
 
--- presence: the alert of a label set in a group, with its stamp, if it is there: that of the last insert, if one of the label set's routes leads to the group, and nothing took it out since
+-- presence: the alert of a label set in a group, with its stamp, if it is there: that of the last insert, if one of the label set's
+-- routes leads to the group, and nothing took it out since
 abbrev pub presence : Config → GroupName → List Label → Past → Option MemberState
 presence config name labels past =
     if goes_to config name labels then unless_left name past (last_insert labels past) else None

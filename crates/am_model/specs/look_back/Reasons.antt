@@ -1,5 +1,6 @@
 -- Reasons: why a begin asks an integration of its group's receiver, or why not, told from the history before it. No state is used.
-use Rattle.std.specs.Prelude.{◌≡◌, ◌≢◌, ◌↔◌, ℕ, ◌+◌, ◌<◌, ◌≤◌, Bool, true, false, not, ◌&&◌, ◌==◌, nat_lt, All, List, [], ◌∷◌, map, filter, Option, Some, None, if◌then◌else◌}
+use Rattle.std.specs.Prelude.{◌≡◌, ◌≢◌, ◌↔◌, ℕ, ◌+◌, ◌<◌, ◌≤◌, Bool, true, false, not, ◌&&◌, ◌==◌, nat_lt, All, List, [], ◌∷◌, map}
+use Rattle.std.specs.Prelude.{filter, Option, Some, None, if◌then◌else◌}
 use Rattle.std.specs.List.{list_any}
 use Rattle.am_alerts.specs.Labels.{same_label_set}
 use Rattle.am_alerts.specs.declared.labels.Label.{Label}
@@ -8,7 +9,8 @@ use Rattle.am_model.specs.declared.config.Config.{Config}
 use Rattle.am_model.specs.declared.config.Integration.{Integration}
 use Rattle.am_model.specs.declared.group.GroupName.{GroupName}
 use Rattle.am_model.specs.declared.reason.Reason.{Reason}
-use Rattle.am_model.specs.declared.reason.Reason.TheVariants.{FirstNotice, NewAlert, AllResolved, NewlyResolved, Repeat, NothingLeft, NothingFiring, NotYet}
+use Rattle.am_model.specs.declared.reason.Reason.TheVariants.{FirstNotice, NewAlert, AllResolved, NewlyResolved, Repeat, NothingLeft}
+use Rattle.am_model.specs.declared.reason.Reason.TheVariants.{NothingFiring, NotYet}
 use Rattle.am_model.specs.declared.record.Record.{Record}
 use Rattle.am_model.specs.declared.record.Reply.{Reply}
 use Rattle.am_model.specs.declared.views.RowView.{RowView}
@@ -37,11 +39,15 @@ reason_by (Some row) firing resolved send_resolved repeat t =
     else if nat_lt (row.moment + repeat) t then Repeat
     else NotYet (row.moment + repeat + 1)
 
+-- the same, but where nothing fires and nothing is resolved nothing is left to tell
+abbrev pub reason_told : Option RowView → List (List Label) → List (List Label) → Bool → ℕ → ℕ → Reason
+reason_told entry firing resolved send_resolved repeat t =
+    if is_empty firing && is_empty resolved then NothingLeft else reason_by entry firing resolved send_resolved repeat t
+
 -- the reason of an integration of a group about these label sets, by the entry that looking back finds
 abbrev pub reason_about : Config → GroupName → ℕ → Past → List (List Label) → List (List Label) → ℕ × Integration → Reason
 reason_about config name t past firing resolved i =
-    if is_empty firing && is_empty resolved then NothingLeft
-    else reason_by (entry_in config name i.0 past) firing resolved i.1.send_resolved (route_of config name).repeat_interval t
+    reason_told (entry_in config name i.0 past) firing resolved i.1.send_resolved (route_of config name).repeat_interval t
 
 -- why a begin of a group at t is to ask an integration of its receiver, or why not
 abbrev pub reason_in : Config → GroupName → ℕ → Past → ℕ × Integration → Reason

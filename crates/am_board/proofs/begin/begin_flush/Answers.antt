@@ -8,22 +8,22 @@ use Rattle.am_board.proofs.begin.begin_flush.Goals as goal
 
 pub invariant_of-result : goal.invariant_of-result
 invariant_of-result c =
-    let few = count_unreported-le-length c.args.opening.outcomes.items c.args.opening.notices.items in
-    omega (arith, few, c.args.opening.notices.ok.0)
+    let few = count_unreported-le-length c.args.planned.outcomes.items c.args.planned.notices.items in
+    (omega (arith, few, c.args.planned.notices.ok.0), c.requires.few)
 
 pub returns : goal.returns
-returns c config g good takes some opening =
+returns c config g good takes some planned =
     let old = c.args.state.now in
-    let o = c.args.opening in
+    let o = c.args.planned in
     let group = c.begin.ensures in
-    let begun = begun_kept config c.args.id old c.args.taking g good takes group.to group.from group.was group.changed in
+    let begun = begun_kept config c.args.id old c.args.chosen g good takes group.to group.from group.was group.changed in
     let next : c.saturating_add-state.result ≡ old.next_number + 1 = omega (arith, c.saturating_add-state.ensures, good.numbers, c.in_ok-reserve.ensures.ok, c.in_ok-reserve.ensures.len, c.reserve.new.self.small) in (
-      accepts_flush config c.args.id old c.args.taking g good takes group.to o _ some opening begun group.items
-          (ap (λ n. record old { clock = c.args.taking.t; groups = c.begin.new.self; log = c.reserve_rows.new.log; flushes = c.push_reserved.new.self; next_number = n; history = c.push_reserved-2.new.self }) next)
+      accepts_flush config c.args.id old c.args.chosen g good takes group.to o _ some planned begun group.items
+          (ap (λ n. record old { clock = c.args.chosen.t; groups = c.begin.new.self; log = c.reserve_rows.new.log; flushes = c.push_reserved.new.self; next_number = n; history = c.push_reserved-2.new.self }) next)
           c.reserve_rows.ensures.rows c.reserve_rows.ensures.known c.in_ok-reserve_rows.ensures.asked
           (c.push_reserved.ensures.items ∙ ap (λ fs. fs ++ o.flush ∷ []) c.in_ok-reserve-2.ensures.items)
-          (c.push_reserved-2.ensures.items ∙ ap (λ rs. rs ++ entry c.args.taking.pass (Begin c.args.taking.now) (Flush o.number o.recorded_group o.deadline o.recorded_notices) ∷ []) c.in_ok-reserve.ensures.items)
+          (c.push_reserved-2.ensures.items ∙ ap (λ rs. rs ++ entry c.args.chosen.pass (Begin c.args.chosen.now) (Flush o.number o.recorded_group o.deadline o.recorded_notices) ∷ []) c.in_ok-reserve.ensures.items)
           (omega (arith, c.push_reserved-2.ensures.len, c.in_ok-reserve.ensures.len))
           (omega (arith, c.push_reserved-2.ensures.len, c.push_reserved-2.ensures.capacity, c.push_reserved.ensures.len, c.in_ok-reserve.ensures.len, c.in_ok-reserve.ensures.ok, c.in_ok-reserve-2.ensures.len, c.len.ensures)),
-      (refl, opening.outcomes),
+      (refl, planned.outcomes),
     )

@@ -1,10 +1,14 @@
-use Rattle.std.proofs.Common.{◌<◌, List, length, Ok, Some, vec_len, ap, arith}
+use Rattle.std.proofs.Common.{◌<◌, List, length, Ok, Some, vec_len, ap, ◌∙◌, arith}
+use Rattle.std.proofs.lemmas.List.{length-map}
 use Rattle.std.proofs.lemmas.Result.{err_from_is_err_and}
-use Rattle.am_board.specs.declared.begin.Taking.{Taking}
+use Rattle.am_board.specs.declared.begin.ChosenGroup.{ChosenGroup}
 use Rattle.am_board.specs.declared.group.Group.{Group}
+use Rattle.am_model.specs.Begin.{asked_of, notice_for}
 use Rattle.am_model.specs.Causes.{begin_cause, opens_by}
+use Rattle.am_model.specs.Notice.{NoticeData}
+use Rattle.am_model.proofs.configuration.FewAsked.{few_asked}
 use Rattle.am_board.specs.Kept.{state_of, group_state}
-use Rattle.am_board.specs.Beginning.{IsPlan, IsTaking}
+use Rattle.am_board.specs.Beginning.{IsPlan, IsChosen}
 use Rattle.am_model.specs.State.{moment}
 use Rattle.am_board.proofs.beginning.Causes.{told, taken-none, cause-closed, cause-few, cause-quiet, planned_none, planned_some, planned_err, taking_found}
 use Rattle.am_board.proofs.keeping.GroupNames.{routed_at}
@@ -20,12 +24,12 @@ due_again-due-requires-clause-route c =
     routed_at c.args.config.now.routes c.args.state.now.groups.items c.in-Some.place c.at.result.now c.requires.good.routed (within c) c.at.ensures
 
 -- the group that the begin takes
-abbrev taking : (c : After-due_again-due) → Taking
-taking c = record { pass = c.args.pass; now = c.args.now; t = c.moment-t.result; place = c.in-Some.place; due = c.due_again-due.result }
+abbrev chosen : (c : After-due_again-due) → ChosenGroup
+chosen c = record { pass = c.args.pass; now = c.args.now; t = c.moment-t.result; place = c.in-Some.place; due = c.due_again-due.result }
 
-takes : (c : After-due_again-due) → IsTaking c.args.config.now c.args.state.now (taking c) c.at.result.now
+takes : (c : After-due_again-due) → IsChosen c.args.config.now c.args.state.now (chosen c) c.at.result.now
 takes c =
-    taking_found c.args.config.now c.args.state.now (taking c) c.at.result.now c.as_slice.result.now c.as_slice-2.result.now c.as_slice.ensures.value c.as_slice-2.ensures.value
+    taking_found c.args.config.now c.args.state.now (chosen c) c.at.result.now c.as_slice.result.now c.as_slice-2.result.now c.as_slice.ensures.value c.as_slice-2.ensures.value
     c.moment-t.ensures c.in-Some.ensures.within (c.in-Some.ensures.first c.at.result.now) c.at.ensures c.due_again-due.ensures
 
 pub returns-in_default : goal.returns-in_default
@@ -42,12 +46,12 @@ returns-in_err-plan c =
     let at = (goal.at.returns-in_err-plan c).After-due_again-due in
     let p = err_from_is_err_and c.from_residual.result c.from_residual.ensures.1 in
     rw (p.1, p.2)
-    (planned_err c.args.config.now c.args.id c.args.state.now (taking at) c.at.result.now (takes at) (c.has_room.ensures.0 c.if-not-has_room.false) c.in_err-plan.field-0.0 c.in_err-plan.ensures, stays_itself c.args.config.now c.args.state.now c.requires.good)
+    (planned_err c.args.config.now c.args.id c.args.state.now (chosen at) c.at.result.now (takes at) (c.has_room.ensures.0 c.if-not-has_room.false) c.in_err-plan.field-0.0 c.in_err-plan.ensures, stays_itself c.args.config.now c.args.state.now c.requires.good)
 
 -- the flush that is opened, where the begin takes the group
-opened : (c : In-Some-2) → IsTaking c.args.config.now c.args.state.now (record { pass = c.args.pass; now = c.args.now; t = c.moment-t.result; place = c.in-Some.place; due = c.due_again-due.result }) c.at.result.now
-    → IsPlan c.args.config.now c.args.id (vec_len c.args.state.now.flushes) (state_of c.args.state.now) c.moment-t.result (group_state c.at.result.now) (Ok (Some c.in-Some-2.opening))
-opened c takes = planned_some c.args.config.now c.args.id c.args.state.now _ c.at.result.now takes c.in_ok-plan.field-0 c.in-Some-2.opening c.in_ok-plan.ensures c.in-Some-2.is
+opened : (c : In-Some-2) → IsChosen c.args.config.now c.args.state.now (record { pass = c.args.pass; now = c.args.now; t = c.moment-t.result; place = c.in-Some.place; due = c.due_again-due.result }) c.at.result.now
+    → IsPlan c.args.config.now c.args.id (vec_len c.args.state.now.flushes) (state_of c.args.state.now) c.moment-t.result (group_state c.at.result.now) (Ok (Some c.in-Some-2.planned))
+opened c takes = planned_some c.args.config.now c.args.id c.args.state.now _ c.at.result.now takes c.in_ok-plan.field-0 c.in-Some-2.planned c.in_ok-plan.ensures c.in-Some-2.is
 
 pub begin_flush-requires-clause-none : goal.begin_flush-requires-clause-none
 begin_flush-requires-clause-none c =
@@ -59,13 +63,23 @@ begin_flush-requires-clause-room c =
     let at = goal.at.begin_flush-requires-clause-room c in
     (opened at.In-Some-2 (takes at.After-due_again-due)).2.room
 
+pub begin_flush-requires-clause-few : goal.begin_flush-requires-clause-few
+begin_flush-requires-clause-few c =
+    let at = goal.at.begin_flush-requires-clause-few c in
+    let s = state_of c.args.state.now in
+    let group = group_state c.at.result.now in
+    let planned = (opened at.In-Some-2 (takes at.After-due_again-due)).2 in
+    let asked = asked_of c.args.config.now s c.moment-t.result group in
+    let count = ap (λ (ns : List NoticeData). length ns) planned.notices ∙ length-map asked (notice_for c.args.config.now c.args.id s c.moment-t.result group) in
+    omega (arith, c.in-Some-2.planned.notices.ok.0, count, few_asked c.args.config.now s c.moment-t.result group c.requires.good.few)
+
 pub returns-in-None : goal.returns-in-None
 returns-in-None c =
     let config = c.args.config.now in
     let s = c.args.state.now in
     let at = (goal.at.returns-in-None c).After-due_again-due in
-    let none = planned_none config c.args.id s (taking at) c.at.result.now (takes at) c.in_ok-plan.field-0 c.in_ok-plan.ensures c.in-None.is in
-    let cause = cause-quiet config c.args.id s (taking at) c.at.result.now (takes at) (c.has_room.ensures.0 c.if-not-has_room.false) none in
+    let none = planned_none config c.args.id s (chosen at) c.at.result.now (takes at) c.in_ok-plan.field-0 c.in_ok-plan.ensures c.in-None.is in
+    let cause = cause-quiet config c.args.id s (chosen at) c.at.result.now (takes at) (c.has_room.ensures.0 c.if-not-has_room.false) none in
     told config c.args.id c.args.pass c.args.now s c.begin_quiet.new.state (begin_cause config (vec_len s.history) (state_of s) (moment (state_of s) c.args.now)) c.begin_quiet.result cause
     (c.begin_quiet.ensures config c.args.id c.at.result.now c.requires.good (takes at) none)
 

@@ -1,13 +1,19 @@
 use Rattle.std.proofs.Common.{◌≡◌, length}
-use Rattle.std.specs.Prelude.{IsPermutation}
+use Rattle.std.specs.Prelude.{All, IsPermutation}
+use Rattle.std.specs.List.{list_all}
+use Rattle.am_model.specs.Finish.{has_succeeded}
+use Rattle.am_board.specs.Kept.{IsAsked, asked_state_of}
 use Rattle.am_board.specs.LogRows.{log_rows}
 use Rattle.am_board.specs.Finishing.{logged_of, rows_with, KnowTheSame}
+use Rattle.am_board.specs.declared.flush.OpenFlush.{OpenFlush}
 use Rattle.am_board.proofs.finish.log_rest.Given as goal
 
--- the rows of those so far that succeeded are in the log
+-- whether those so far succeeded; the rows of those that did are in the log
 abbrev pub invariant-loop-one : goal.invariant-loop-one
 invariant-loop-one l = record {
   known : KnowTheSame l.log l.fn.log;
   count : l.logged ≡ length (logged_of l.outcomes l.yielded);
-  rows : IsPermutation (log_rows l.log) (rows_with l.fn.flush l.t l.outcomes l.yielded (log_rows l.fn.log));
+  all : l.all ≡ list_all (λ a. has_succeeded l.outcomes (asked_state_of a)) l.yielded;
+  rows : (f : OpenFlush) → f.kept_for ≡ l.kept_for → All (IsAsked l.fn.log f) l.fn.asked.items
+      → IsPermutation (log_rows l.log) (rows_with f l.t l.outcomes l.yielded (log_rows l.fn.log));
 }

@@ -1,7 +1,7 @@
 use Rattle.std.proofs.Common.{◌≡◌, ◌∙◌, not, filter, ap, rules, tests}
 use Rattle.std.proofs.lemmas.Fn.{filter_same}
 use Rattle.am_board.specs.Kept.{group_state}
-use Rattle.am_board.proofs.finishing.Leaving.{member_leaves, members-staying, count-leaving}
+use Rattle.am_board.proofs.finishing.LeavingAlerts.{member_leaves, members-staying, count-leaving}
 use Rattle.am_board.proofs.finish.take_leaving.Goals as goal
 
 pub returns-clause-group : goal.returns-clause-group

@@ -1,20 +1,33 @@
-use Rattle.std.proofs.Common.{◌≡◌, ◌∙◌, ◌+◌, false, ◌++◌, ◌∷◌, [], List, Some, None, map, get_or, inl, inr, refl, sym, ap, subst, arith, suc}
+use Rattle.std.proofs.Common.{◌≡◌, ◌∙◌, ◌<◌, length, ◌+◌, false, ◌++◌, ◌∷◌, [], List, Some, None, map, get_or, inl, inr, refl, sym, ap, subst, arith, suc}
 use Rattle.am_model.specs.declared.group.GroupName.{GroupName}
 use Rattle.am_model.specs.Insert.{wait_of, new_group, group_with}
 use Rattle.am_board.specs.Kept.{group_state}
 use Rattle.am_board.specs.declared.group.Group.{Group}
 use Rattle.am_board.specs.Group.{names_of, HasRoom}
+use Rattle.am_board.specs.Inserting.{place_in}
 use Rattle.am_board.proofs.keeping.GroupNames.{names_set, names-push, room_set, room_push}
+use Rattle.std.specs.Prelude.{IfSome}
+use Rattle.am_board.proofs.inserting.Found.{found_within}
 use Rattle.am_board.proofs.inserting.GroupRoom.{named_at}
-use Rattle.am_board.proofs.inserting.Placing.{place_in, put_group_at, put_group_new, new_group_is}
+use Rattle.am_board.proofs.inserting.Placing.{put_group_at, put_group_new, new_group_is}
 use Rattle.am_board.proofs.insert.place.Goals as goal
 use Rattle.am_board.proofs.insert.place.Goals.{In-Some}
 
+-- the group stands at the place that was found
+there : (c : In-Some) → place_in c.args.placement.name c.args.groups.now.items ≡ Some c.in-Some.i
+there c = sym c.requires.found ∙ c.in-Some.is
+
+inside : (c : In-Some) → c.in-Some.i < length c.args.groups.now.items
+inside c = subst (λ o. IfSome o (λ i. i < length c.args.groups.now.items)) c.in-Some.is (found_within c.args.placement.place c.args.placement.name c.args.groups.now.items c.requires.found)
+
 named : (c : In-Some) → (d : Group) → (get_or c.args.groups.now.items c.in-Some.i d).name ≡ c.args.placement.name
-named c d = named_at c.args.placement.name c.args.groups.now.items c.in-Some.i d (sym c.in-Some.ensures.place)
+named c d = named_at c.args.placement.name c.args.groups.now.items c.in-Some.i d (there c)
+
+pub insert-requires-clause-place : goal.insert-requires-clause-place
+insert-requires-clause-place c = inside ((goal.at.insert-requires-clause-place c).In-Some)
 
 pub insert-requires-clause-room : goal.insert-requires-clause-room
-insert-requires-clause-room c d = c.requires.room c.in-Some.i d c.in-Some.ensures.within (named ((goal.at.insert-requires-clause-room c).In-Some) d)
+insert-requires-clause-room c d = let at = (goal.at.insert-requires-clause-room c).In-Some in c.requires.room c.in-Some.i d (inside at) (named at d)
 
 pub returns-in-Some-clause-spare : goal.returns-in-Some-clause-spare
 returns-in-Some-clause-spare c = omega (arith, c.insert.ensures.room)
@@ -28,24 +41,25 @@ pub returns-in-Some-clause-others : goal.returns-in-Some-clause-others
 returns-in-Some-clause-others c n name ready room =
     let group = c.insert.ensures in
     subst (HasRoom n name) (sym group.items)
-    (room_set (suc n) n name c.args.groups.now.items c.in-Some.i group.to group.from (omega arith) c.in-Some.ensures.within group.was group.name (λ fits. omega (arith, fits, group.changed.len, group.changed.capacity)) room)
+    (room_set (suc n) n name c.args.groups.now.items c.in-Some.i group.to group.from (omega arith) (inside ((goal.at.returns-in-Some-clause-others c).In-Some)) group.was group.name (λ fits. omega (arith, fits, group.changed.len, group.changed.capacity)) room)
 
 pub returns-in-Some-clause-state : goal.returns-in-Some-clause-state
 returns-in-Some-clause-state c config m early is =
     let gs : List Group = c.args.groups.now.items in
     let name : GroupName = c.args.placement.name in
     let group = c.insert.ensures in
-    let at : place_in name gs ≡ Some c.in-Some.i = sym c.in-Some.ensures.place in
-    let of_name : group.from.name ≡ name = ap (λ (g : Group). g.name) group.was ∙ named ((goal.at.returns-in-Some-clause-state c).In-Some) group.from in
+    let spot = (goal.at.returns-in-Some-clause-state c).In-Some in
+    let at : place_in name gs ≡ Some c.in-Some.i = there spot in
+    let of_name : group.from.name ≡ name = ap (λ (g : Group). g.name) group.was ∙ named spot group.from in
     ap (map group_state) group.items
-    ∙ put_group_at config c.args.t m gs c.in-Some.i group.from group.to name at c.in-Some.ensures.within group.was of_name
+    ∙ put_group_at config c.args.t m gs c.in-Some.i group.from group.to name at (inside spot) group.was of_name
     (group.changed.state config (is.wait ∙ ap (wait_of config) (sym of_name)) ∙ ap (λ n. group_with config c.args.t n (group_state group.from)) is.member)
 
 pub add-requires-clause-name : goal.add-requires-clause-name
 add-requires-clause-name c = c.requires.ready.2 ∙ sym c.insert-in-None.ensures.name
 
 pub add-requires-clause-missing : goal.add-requires-clause-missing
-add-requires-clause-missing c = ap (λ n. place_in n c.args.groups.now.items) c.requires.ready.2 ∙ sym c.in-None.ensures.place
+add-requires-clause-missing c = ap (λ n. place_in n c.args.groups.now.items) c.requires.ready.2 ∙ (sym c.requires.found ∙ c.in-None.is)
 
 pub returns-in-None-clause-names : goal.returns-in-None-clause-names
 returns-in-None-clause-names c =
@@ -61,7 +75,7 @@ returns-in-None-clause-state c config m early is =
     let gs : List Group = c.args.groups.now.items in
     let name : GroupName = c.args.placement.name in
     let fresh : Group = record { name = name; due = c.saturating_add.result; flushed = false; members = c.args.placement.members } in
-    let at : place_in name gs ≡ None = sym c.in-None.ensures.place in
+    let at : place_in name gs ≡ None = sym c.requires.found ∙ c.in-None.is in
     let due : c.saturating_add.result ≡ c.args.t + c.args.placement.wait = omega (arith, c.saturating_add.ensures, early, is.bounded) in
     let made : group_state fresh ≡ new_group config c.args.t name = new_group_is config c.args.t fresh name refl (due ∙ ap (λ n. c.args.t + n) is.wait) refl (omega (arith, c.requires.ready.0, c.args.placement.members.ok.0)) in
     ap (map group_state) c.add.ensures.items

@@ -1,13 +1,17 @@
 use Rattle.std.proofs.Common.{◌≡◌, ◌∙◌, ◌≤◌, ◌++◌, ◌∷◌, [], ℕ, suc, List, Some, map, vec_len, length, arith, sym, ap, subst}
-use Rattle.std.specs.Prelude.{All, fold, reverse}
+use Rattle.std.specs.Prelude.{All, fold, reverse, ◌==◌}
 use Rattle.std.proofs.lemmas.List.{reverse-append, reverse-reverse}
 use Rattle.std.proofs.lemmas.List.Elements.{All-pop, All-weaker}
 use Rattle.std.proofs.lemmas.List.Sorted.{All-permutation}
+use Rattle.std.proofs.lemmas.Cmp.{nat_eq_equiv}
+use Rattle.std.proofs.lemmas.Map.Keys.{IsDistinct-IsPermutation}
+use Rattle.am_board.proofs.inserting.Found.{found_rest}
+use Rattle.am_model.proofs.lists.Distinct.{IsDistinct-last}
 use Rattle.am_board.specs.declared.insert.Placement.{Placement}
 use Rattle.am_board.specs.Group.{names_of, HasRoom}
 use Rattle.am_model.specs.Insert.{put_into_group}
 use Rattle.am_board.specs.Kept.{group_state}
-use Rattle.am_board.specs.Inserting.{IsEmptyWithRoom, HaveRoom, IsPlacementOf}
+use Rattle.am_board.specs.Inserting.{IsEmptyWithRoom, HaveRoom, IsFound, AreApart, target_of, IsPlacementOf}
 use Rattle.am_board.proofs.keeping.GroupNames.{routed_added}
 use Rattle.am_board.proofs.insert.place_all.Goals as goal
 
@@ -24,6 +28,8 @@ loop-placement-init c =
       spare = omega (arith, c.requires.spare, count);
       room = moved (λ p. HasRoom n p.name c.args.groups.now.items) given turned c.reverse.ensures.permutation room;
       ready = moved (IsEmptyWithRoom n) given turned c.reverse.ensures.permutation ready;
+      found = moved (λ p. IsFound c.args.groups.now.items (target_of p)) given turned c.reverse.ensures.permutation c.requires.found;
+      apart = IsDistinct-IsPermutation (λ p q. p.name.route == q.name.route) (λ p q. nat_eq_equiv.symm p.name.route q.name.route) given turned c.reverse.ensures.permutation c.requires.apart;
       routed = λ tree groups placements. (groups, moved (λ p. p.name.route ≤ length tree.children) given turned c.reverse.ensures.permutation placements);
       state = λ config m early are. (
         moved (IsPlacementOf config.routes m) given turned c.reverse.ensures.permutation are,
@@ -35,6 +41,10 @@ pub place-requires-clause-ready : goal.place-requires-clause-ready
 place-requires-clause-ready c =
     let last = All-pop (IsEmptyWithRoom (vec_len c.loop-placement.placements)) c.loop-placement.placements.items c.pop.new.self.items (Some c.in-Some.placement) c.in-Some.ensures.items c.loop-placement.invariant.ready in
     (last.1.0, omega (arith, last.1.1, c.in-Some.ensures.len), last.1.2)
+
+pub place-requires-clause-found : goal.place-requires-clause-found
+place-requires-clause-found c =
+    (All-pop (λ (p : Placement). IsFound c.loop-placement.groups.items (target_of p)) c.loop-placement.placements.items c.pop.new.self.items (Some c.in-Some.placement) c.in-Some.ensures.items c.loop-placement.invariant.found).1
 
 pub loop-placement-preserved : goal.loop-placement-preserved
 loop-placement-preserved c =
@@ -49,7 +59,11 @@ loop-placement-preserved c =
     subst (λ m. All (IsEmptyWithRoom m) c.loop-placement.placements.items) counted c.loop-placement.invariant.ready in
     let rooms = All-pop (λ (p : Placement). HasRoom (suc n) p.name c.loop-placement.groups.items) c.loop-placement.placements.items rest (Some x) popped room in
     let readies = All-pop (IsEmptyWithRoom (suc n)) c.loop-placement.placements.items rest (Some x) popped ready in
+    let founds = All-pop (λ (p : Placement). IsFound c.loop-placement.groups.items (target_of p)) c.loop-placement.placements.items rest (Some x) popped c.loop-placement.invariant.found in
+    let last = IsDistinct-last (λ (p q : Placement). p.name.route == q.name.route) rest x (subst AreApart popped c.loop-placement.invariant.apart) in
     record {
+      found = found_rest x.name c.loop-placement.groups.items c.place.new.groups.items c.place.ensures.names rest last.1 founds.0;
+      apart = last.0;
       spare = omega (arith, c.place.ensures.spare, c.loop-placement.invariant.spare, counted);
       room = All-weaker (λ (p : Placement). HasRoom (suc n) p.name c.loop-placement.groups.items) (λ (p : Placement). HasRoom n p.name c.place.new.groups.items) (λ p had. c.place.ensures.others n p.name readies.1 had) rest rooms.0;
       ready = All-weaker (IsEmptyWithRoom (suc n)) (IsEmptyWithRoom n) (λ p had. (had.0, omega (arith, had.1), had.2)) rest readies.0;

@@ -5,7 +5,7 @@ use Rattle.am_alerts.specs.declared.limits.TheConstants.{MAX_MOMENT}
 use Rattle.am_board.specs.Group.{names_of, AreRouted}
 use Rattle.am_model.specs.Insert.{put_into_group}
 use Rattle.am_board.specs.Kept.{group_state}
-use Rattle.am_board.specs.Inserting.{IsEmptyWithRoom, HaveRoom, AreRoutedPlacements, IsPlacementOf}
+use Rattle.am_board.specs.Inserting.{IsEmptyWithRoom, HaveRoom, AreFound, AreApart, AreRoutedPlacements, IsPlacementOf}
 use Rattle.am_model.specs.State.{MemberState}
 use Rattle.am_model.specs.declared.config.Config.{Config}
 use Rattle.am_board.proofs.insert.place_all.Given as goal
@@ -16,6 +16,8 @@ invariant-loop-placement l = record {
   spare : vec_len l.placements ≤ l.groups.room;
   room : HaveRoom (vec_len l.placements) l.groups.items l.placements.items;
   ready : All (IsEmptyWithRoom (vec_len l.placements)) l.placements.items;
+  found : AreFound l.groups.items l.placements.items;
+  apart : AreApart l.placements.items;
   routed : (tree : RoutingTree) → AreRouted tree (names_of l.fn.groups.items) → AreRoutedPlacements tree l.fn.placements.items → AreRouted tree (names_of l.groups.items) × AreRoutedPlacements tree l.placements.items;
   state : (config : Config) (m : MemberState) → l.t ≤ MAX_MOMENT → All (IsPlacementOf config.routes m) l.fn.placements.items → All (IsPlacementOf config.routes m) l.placements.items × (fold (put_into_group config l.t m) (map group_state l.groups.items) (map (λ p. p.name) (reverse l.placements.items)) ≡ fold (put_into_group config l.t m) (map group_state l.fn.groups.items) (map (λ p. p.name) l.fn.placements.items));
 }

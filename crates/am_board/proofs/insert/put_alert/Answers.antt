@@ -1,7 +1,12 @@
-use Rattle.std.proofs.Common.{◌≡◌, ◌∙◌, ◌+◌, ◌++◌, ◌∷◌, [], List, Some, length, refl, sym, ap, subst, arith, Vec, Global, vec_len, vec_capacity}
+use Rattle.std.proofs.Common.{◌≡◌, ◌∙◌, ◌+◌, ◌≤◌, ◌++◌, ◌∷◌, [], List, Some, map, length, sym, ap, subst, arith, Vec, Global, vec_len, vec_capacity}
 use Rattle.std.specs.Prelude.{All}
 use Rattle.am_alerts.specs.AlertData.{AlertData}
 use Rattle.am_board.specs.declared.insert.Placement.{Placement}
+use Rattle.am_board.specs.declared.insert.Target.{Target}
+use Rattle.am_board.specs.declared.group.Group.{Group}
+use Rattle.am_board.specs.Inserting.{IsFound, AreFound, target_of}
+use Rattle.am_board.proofs.inserting.Found.{still_found, are_apart, names_apart}
+use Rattle.am_model.proofs.lists.Distinct.{all-told}
 use Rattle.am_model.specs.Insert.{names_for, inserted}
 use Rattle.am_board.specs.Kept.{state_of, IsPrepared}
 use Rattle.am_model.specs.declared.config.Config.{Config}
@@ -12,7 +17,7 @@ use Rattle.am_model.specs.declared.record.Call.TheVariants as call
 use Rattle.am_model.specs.declared.record.Reply.TheVariants as reply
 use Rattle.am_model.specs.Records.{entry}
 use Rattle.am_board.specs.declared.state.State as kept
-use Rattle.am_board.proofs.inserting.Inserting.{answer_groups, no_cause, makes_many, makes_few, made_told, count_is, told_is, insert_leaves, stays_reserved}
+use Rattle.am_board.proofs.inserting.Inserting.{answer_groups, no_cause, makes_many, makes_few, made_told, names_placed, count_is, told_is, insert_leaves, stays_reserved}
 use Rattle.am_board.proofs.insert.put_alert.Goals as goal
 use Rattle.am_board.proofs.keeping.Staying.{stays_itself, agrees_same}
 
@@ -20,9 +25,34 @@ pub returns-then-len-made : goal.returns-then-len-made
 returns-then-len-made c =
     let config : Config = c.args.config.now in
     let s : kept.State = c.args.state.now in
+    let at = c.in_ok-targets.ensures in
+    let names = at.names ∙ ap (names_for config) c.labels.ensures.labels in
     let made : c.count_missing-made.result ≡ (inserted config (state_of s) c.args.alert).made =
-    made_told config c.args.alert.labels s.groups.items s.groups.items c.in_ok-placements.placements.items c.as_slice.result.now c.count_missing-made.result refl c.as_slice.ensures.value c.count_missing-made.ensures c.in_ok-placements.ensures.names in
+    made_told config c.args.alert.labels s.groups.items c.in_ok-targets.targets.items c.as_slice.result.now c.count_missing-made.result c.as_slice.ensures.value c.count_missing-made.ensures names at.found in
     (answer_groups config (vec_len s.history) (state_of s) c.args.alert c.in_ok-known.ensures.room c.in_ok-known.ensures.names (makes_many config s c.args.alert c.count_missing-made.result made (omega (arith, c.if-len-made.true, c.len.ensures.len))), stays_itself config s c.requires.good)
+
+pub reserve_insert-requires-clause-distinct : goal.reserve_insert-requires-clause-distinct
+reserve_insert-requires-clause-distinct c = names_apart c.args.state.now.groups.items c.requires.good.consistent.groups
+
+-- the places that were found for the groups are those of the placements
+placed : (gs : List Group) (ts : List Target) (ps : List Placement) → map target_of ps ≡ ts → All (IsFound gs) ts → AreFound gs ps
+placed gs ts ps same found = all-told target_of (IsFound gs) ps (subst (All (IsFound gs)) (sym same) found)
+
+pub reserve_insert-requires-clause-found : goal.reserve_insert-requires-clause-found
+reserve_insert-requires-clause-found c =
+    let gs : List Group = c.args.state.now.groups.items in
+    subst (AreFound gs) (sym c.as_slice-2.ensures.value) (placed gs c.in_ok-targets.targets.items c.in_ok-placements.placements.items c.in_ok-placements.ensures.targets c.in_ok-targets.ensures.found)
+
+pub put_prepared-requires-clause-found : goal.put_prepared-requires-clause-found
+put_prepared-requires-clause-found c =
+    still_found c.in_ok-placements.placements.items c.args.state.now.groups.items c.reserve_insert.new.state.groups.items c.in_ok-reserve_insert.ensures.kept.names
+    (placed c.args.state.now.groups.items c.in_ok-targets.targets.items c.in_ok-placements.placements.items c.in_ok-placements.ensures.targets c.in_ok-targets.ensures.found)
+
+pub put_prepared-requires-clause-apart : goal.put_prepared-requires-clause-apart
+put_prepared-requires-clause-apart c =
+    let names = names_placed c.in_ok-placements.placements.items c.in_ok-targets.targets.items (names_for c.args.config.now c.args.alert.labels) c.in_ok-placements.ensures.targets
+    (c.in_ok-targets.ensures.names ∙ ap (names_for c.args.config.now) c.labels.ensures.labels) in
+    are_apart c.args.config.now c.args.alert.labels c.in_ok-placements.placements.items names
 
 pub returns : goal.returns
 returns c =
@@ -31,12 +61,17 @@ returns c =
     let reserved : kept.State = c.reserve_insert.new.state in
     let new : kept.State = c.put_prepared.new.state in
     let placements : List Placement = c.in_ok-placements.placements.items in
+    let targets : List Target = c.in_ok-targets.targets.items in
     let alert : AlertData = c.args.alert in
-    let names = c.in_ok-placements.ensures.names in
+    let at = c.in_ok-targets.ensures in
+    let named = at.names ∙ ap (names_for config) c.labels.ensures.labels in
+    let names = names_placed placements targets (names_for config alert.labels) c.in_ok-placements.ensures.targets named in
+    let routes = all-told target_of (λ (t : Target). t.name.route ≤ length config.routes.children) placements
+    (subst (All (λ (t : Target). t.name.route ≤ length config.routes.children)) (sym c.in_ok-placements.ensures.targets) at.routed) in
     let kept = c.in_ok-reserve_insert.ensures.kept in
     let ready = c.in_ok-reserve_insert.ensures.ready in
     let made : c.count_missing-made.result ≡ (inserted config (state_of s) alert).made =
-    made_told config alert.labels s.groups.items s.groups.items placements c.as_slice.result.now c.count_missing-made.result refl c.as_slice.ensures.value c.count_missing-made.ensures names in
+    made_told config alert.labels s.groups.items targets c.as_slice.result.now c.count_missing-made.result c.as_slice.ensures.value c.count_missing-made.ensures named at.found in
     let groups : c.len-2.result ≡ length (names_for config alert.labels) = omega (arith, c.len-2.ensures, c.in_ok-placements.placements.ok.0, count_is config alert.labels placements names) in
     let still = stays_reserved config s reserved c.requires.good kept in
     let logged : All (IsPrepared config new.log) reserved.flushes.items = subst (λ log. All (IsPrepared config log) reserved.flushes.items) (sym c.put_prepared.ensures.log) still.prepared in
@@ -48,7 +83,7 @@ returns c =
       λ id. record {
         told = ap (λ (told : Inserted). Some (reply.Inserted told)) (told_is config (state_of s) alert c.len-2.result c.count_missing-made.result groups made);
         state = agrees_same _ _ (insert_leaves config s reserved new c.moment-t.result c.args.now alert c.in_ok-copy.copy placements (c.put_prepared.ensures.state config) kept c.in_ok-copy.ensures c.moment-t.ensures c.requires.good.consistent.clock c.in_ok-placements.ensures.placed names);
-        routed = c.put_prepared.ensures.routed config.routes still.routed c.in_ok-placements.ensures.routed;
+        routed = c.put_prepared.ensures.routed config.routes still.routed routes;
         prepared = subst (λ (fs : Vec OpenFlush Global). All (IsPrepared config new.log) fs.items) (sym c.put_prepared.ensures.flushes) logged;
         history = c.push_reserved.ensures.items ∙ ap (λ (rs : List Record). rs ++ added ∷ []) (ap (λ (rs : Vec Record Global). rs.items) c.put_prepared.ensures.history ∙ kept.history);
         records = omega (arith, c.push_reserved.ensures.len, records, kept.records);

@@ -4,7 +4,7 @@ use Rattle.std.specs.Vec.{with_item}
 use Rattle.am_model.specs.Causes.{is_full, flush_cause}
 use Rattle.am_model.specs.Records.{entry}
 use Rattle.am_board.specs.Kept.{flush_state, state_of}
-use Rattle.am_board.specs.Noting.{IsNoting}
+use Rattle.am_board.specs.Noting.{IsNoteTarget}
 use Rattle.am_model.specs.State.{flush_numbered}
 use Rattle.am_board.specs.Step.{Stays, IsNoteAnswer}
 use Rattle.am_model.specs.Ticket.{outcome_of}
@@ -19,8 +19,8 @@ use Rattle.am_board.proofs.note.note_success.Goals.{In_ok-found}
 use Rattle.am_board.proofs.keeping.Staying.{stays_itself, has_room}
 
 -- what was found is among the flushes of the state
-found-in : (c : In_ok-found) → IsNoting c.args.state.now.flushes.items c.args.ticket.now c.args.place c.in_ok-found.found
-found-in c = subst (λ fs. IsNoting fs c.args.ticket.now c.args.place c.in_ok-found.found) c.as_slice.ensures.value c.in_ok-found.ensures.found
+found-in : (c : In_ok-found) → IsNoteTarget c.args.state.now.flushes.items c.args.ticket.now c.args.place c.in_ok-found.found
+found-in c = subst (λ fs. IsNoteTarget fs c.args.ticket.now c.args.place c.in_ok-found.found) c.as_slice.ensures.value c.in_ok-found.ensures.found
 
 -- the cause that is left
 left : (c : In_ok-found) → flush_cause c.args.config.now (vec_len c.args.state.now.history) (state_of c.args.state.now) c.args.ticket.now c.args.place (flush_numbered (map flush_state c.args.state.now.flushes.items) c.args.ticket.now.number)

@@ -1,6 +1,9 @@
-use Rattle.am_model.proofs.legal.Begins.{legal_keeps}
-use Rattle.am_model.proofs.legal.Consistent.{consistent}
+use Rattle.am_model.proofs.legal.Begins.{begins_keep}
+use Rattle.am_model.proofs.legal.Consistent.{consistent_replay}
 use Rattle.am_model.proofs.law.legal_histories_are_consistent.Goals as goal
 
-pub returns : goal.returns
-returns c = legal_keeps consistent
+pub returns-clause-consistent : goal.returns-clause-consistent
+returns-clause-consistent c = consistent_replay
+
+pub returns-clause-begins : goal.returns-clause-begins
+returns-clause-begins c = begins_keep

@@ -1,8 +1,7 @@
-use Rattle.std.proofs.Common.{◌≡◌, None, subst}
+use Rattle.std.proofs.Common.{subst}
 use Rattle.std.specs.Prelude.{IfOk}
 use Rattle.am_model.specs.declared.record.Call.TheVariants.{Begin}
 use Rattle.am_board.specs.History.{BoardData, reply_of, IsFresh}
-use Rattle.am_board.specs.Step.{IsAnswer}
 use Rattle.am_board.proofs.keeping.Calls.{recorded, told_now, refused, sound_again, caused_too, fresh_too}
 use Rattle.am_board.proofs.keeping.Limits.{begin_within, begin_caused}
 use Rattle.am_board.proofs.keeping.Sound.{good}
@@ -28,7 +27,7 @@ returns-clause-told c =
 
 pub returns-clause-cause : goal.returns-clause-cause
 returns-clause-cause c =
-    caused_too _ _ (λ cause. cause ≡ None) IsAnswer (begin_caused c.self.inside c.self.invariant c.args.self.now c.self.view_is c.args.now) _ _ _ c.take_group.result c.take_group.ensures
+    caused_too _ _ (begin_caused c.self.inside c.self.invariant c.args.self.now c.self.view_is c.args.now) _ _ _ c.take_group.result c.take_group.ensures
 
 pub returns-clause-refused : goal.returns-clause-refused
 returns-clause-refused c =

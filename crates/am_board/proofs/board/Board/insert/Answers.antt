@@ -1,7 +1,5 @@
-use Rattle.std.proofs.Common.{◌≡◌, None}
 use Rattle.am_model.specs.declared.record.Call.TheVariants.{Insert}
 use Rattle.am_model.specs.declared.record.Reply.TheVariants as replies
-use Rattle.am_board.specs.Step.{IsAnswer}
 use Rattle.am_board.proofs.keeping.Calls.{recorded, told_now, refused, sound_again, caused}
 use Rattle.am_board.proofs.keeping.Limits.{insert_within, insert_caused}
 use Rattle.am_board.proofs.keeping.Sound.{good}
@@ -27,7 +25,7 @@ returns-clause-told c =
 
 pub returns-clause-cause : goal.returns-clause-cause
 returns-clause-cause c =
-    caused _ _ (λ cause. cause ≡ None) IsAnswer (insert_caused c.self.inside c.self.invariant c.args.self.now c.self.view_is c.args.alert) _ _ c.put_alert.result c.put_alert.ensures
+    caused _ _ (insert_caused c.self.inside c.self.invariant c.args.self.now c.self.view_is c.args.alert) _ _ c.put_alert.result c.put_alert.ensures
 
 pub returns-clause-refused : goal.returns-clause-refused
 returns-clause-refused c =

@@ -1,7 +1,5 @@
-use Rattle.std.proofs.Common.{◌≡◌, None}
 use Rattle.am_model.specs.declared.record.Call.TheVariants.{Maintain}
 use Rattle.am_model.specs.declared.record.Reply.TheVariants as replies
-use Rattle.am_board.specs.Step.{IsAnswer}
 use Rattle.am_board.proofs.keeping.Calls.{recorded, told_now, refused, sound_again, caused}
 use Rattle.am_board.proofs.keeping.Limits.{maintain_within, maintain_caused}
 use Rattle.am_board.proofs.keeping.Sound.{good}
@@ -27,7 +25,7 @@ returns-clause-told c =
 
 pub returns-clause-cause : goal.returns-clause-cause
 returns-clause-cause c =
-    caused _ _ (λ cause. cause ≡ None) IsAnswer (maintain_caused c.self.inside c.self.invariant c.args.self.now c.self.view_is) _ _ c.sweep.result c.sweep.ensures
+    caused _ _ (maintain_caused c.self.inside c.self.invariant c.args.self.now c.self.view_is) _ _ c.sweep.result c.sweep.ensures
 
 pub returns-clause-refused : goal.returns-clause-refused
 returns-clause-refused c =

@@ -1,7 +1,5 @@
-use Rattle.std.proofs.Common.{◌≡◌, None}
 use Rattle.am_model.specs.Records.{call_of_silence}
 use Rattle.am_model.specs.declared.record.Reply.TheVariants as replies
-use Rattle.am_board.specs.Step.{IsAnswer}
 use Rattle.am_board.proofs.keeping.Calls.{recorded, told_now, refused, sound_again, caused}
 use Rattle.am_board.proofs.keeping.Limits.{silence_within, silence_caused}
 use Rattle.am_board.proofs.keeping.Sound.{good}
@@ -27,7 +25,7 @@ returns-clause-told c =
 
 pub returns-clause-cause : goal.returns-clause-cause
 returns-clause-cause c =
-    caused _ _ (λ cause. cause ≡ None) IsAnswer (silence_caused c.self.inside c.self.invariant c.args.self.now c.self.view_is c.args.silence) _ _ c.put_silence.result c.put_silence.ensures
+    caused _ _ (silence_caused c.self.inside c.self.invariant c.args.self.now c.self.view_is c.args.silence) _ _ c.put_silence.result c.put_silence.ensures
 
 pub returns-clause-refused : goal.returns-clause-refused
 returns-clause-refused c =

@@ -15,8 +15,10 @@ pub returns-clause-within : goal.returns-clause-within
 returns-clause-within c =
     let sound = c.self.invariant in
     let is = c.summary_of.ensures in
-    let groups = ap (λ (s : SummaryData). s.groups) is in
-    let flushes = ap (λ (s : SummaryData). s.flushes) is in
-    let most = ap (λ (b : BoardData). b.config.limits.groups) c.self.view_is in
-    let most_open = ap (λ (b : BoardData). b.config.limits.flushes) c.self.view_is in
-    (omega (arith, groups, sound.groups, most), omega (arith, flushes, opened_now c.self.inside.state, sound.opened, most_open))
+    let most = ap (λ (b : BoardData). b.config.limits.history) c.self.view_is in
+    let most_groups = ap (λ (b : BoardData). b.config.limits.groups) c.self.view_is in
+    let most_open = ap (λ (b : BoardData). b.config.limits.flushes) c.self.view_is in (
+      omega (arith, ap (λ (s : SummaryData). s.calls) is, sound.kept, most),
+      omega (arith, ap (λ (s : SummaryData). s.groups) is, sound.groups, most_groups),
+      omega (arith, ap (λ (s : SummaryData). s.flushes) is, opened_now c.self.inside.state, sound.opened, most_open),
+    )

@@ -3,7 +3,7 @@ use Rattle.am_board.specs.GroupList.{name_of}
 use Rattle.am_model.specs.State.{same_name}
 use Rattle.am_board.proofs.inserting.GroupRoom.{changes_at}
 use Rattle.am_board.proofs.keeping.Keyed.{AreKeyed-set}
-use Rattle.am_board.specs.Groups.{Gets}
+use Rattle.am_board.specs.Group.{Gets}
 use Rattle.am_board.specs.Kept.{member_state}
 use Rattle.am_board.proofs.groups.Groups.insert.Goals as goal
 

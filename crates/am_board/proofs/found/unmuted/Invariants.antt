@@ -1,8 +1,0 @@
-use Rattle.std.proofs.Common.{take}
-use Rattle.am_board.specs.Beginning.{AreFound}
-use Rattle.am_board.specs.Kept.{state_of}
-use Rattle.am_board.proofs.found.unmuted.Given as goal
-
--- what the members so far give
-abbrev pub invariant-loop-member : goal.invariant-loop-member
-invariant-loop-member l = AreFound l.rules (state_of l.state) l.t (take l.member-index l.members) l.firing.items l.resolved.items

@@ -1,0 +1,29 @@
+use Rattle.std.proofs.Common.{map, ap, sym, ◌∙◌}
+use Rattle.std.proofs.lemmas.Result.{on_ok_weaker}
+use Rattle.am_board.specs.Group.{names_of}
+use Rattle.am_board.specs.Kept.{group_state}
+use Rattle.am_board.specs.declared.group.Group.{Group}
+use Rattle.am_board.proofs.keeping.GroupNames.{names_set, states_set}
+use Rattle.am_board.proofs.inserting.GroupRoom.{room_missing, room_reserved}
+use Rattle.am_board.proofs.groups.Groups.reserve_found.Goals as goal
+
+pub returns-in-Some-clause-names : goal.returns-in-Some-clause-names
+returns-in-Some-clause-names c =
+    let group = c.reserve_at.ensures.kept in
+    ap names_of group.items ∙ names_set c.args.self.now.items c.in-Some.i group.to group.from (group.name ∙ ap (λ (g : Group). g.name) group.was)
+
+pub returns-in-Some-clause-states : goal.returns-in-Some-clause-states
+returns-in-Some-clause-states c =
+    let group = c.reserve_at.ensures.kept in
+    ap (map group_state) group.items ∙ states_set c.args.self.now.items c.in-Some.i group.to group.from (group.changed.state ∙ ap group_state group.was)
+
+pub returns-in-Some-clause-room : goal.returns-in-Some-clause-room
+returns-in-Some-clause-room c =
+    let group = c.reserve_at.ensures.kept in
+    let names = ap names_of group.items ∙ names_set c.args.self.now.items c.in-Some.i group.to group.from (group.name ∙ ap (λ (g : Group). g.name) group.was) in
+    on_ok_weaker c.reserve_at.result
+    (λ fits name at. room_reserved name c.args.more c.args.self.now.items c.reserve_at.new.self.items c.in-Some.i names c.requires.distinct (sym at ∙ c.in-Some.is) fits)
+    c.reserve_at.ensures.room
+
+pub returns-in-None-clause-room : goal.returns-in-None-clause-room
+returns-in-None-clause-room c name at = room_missing name c.args.more c.args.self.now.items (sym at ∙ c.in-None.is)

@@ -1,0 +1,240 @@
+//! What a begin is to do with the group that it takes, and why.
+ghost use Rattle.std.specs.Prelude.{◌≡◌, ◌+◌, ◌<◌, ◌≤◌, ◌^◌, All, IfOk, IfSome, length, map, option_copied};
+ghost use Rattle.std.specs.List.{enumerate_from, filter_map, IsDistinct};
+ghost use Rattle.am_model.specs.Configured.{HaveFewIntegrations, integrations_of};
+ghost use Rattle.am_model.specs.Insert.{same_member};
+ghost use Rattle.am_model.specs.State.{moment};
+ghost use Rattle.am_model.specs.declared.config.TheConstants.{MAX_INTEGRATIONS};
+ghost use Rattle.am_model.specs.look_back.Outlook.{muted_alert, outlook, outlook_at, outlook_on, reason_of};
+ghost use Rattle.am_board.specs.Kept.{group_state, member_state, state_of};
+ghost use Rattle.am_board.specs.LogRows.{log_rows};
+ghost use Rattle.am_board.specs.Outlook.{reason_among, reason_by_row, reason_ended, reason_told_by};
+ghost use Rattle.am_board.specs.Step.{IsGood};
+
+use crate::begin::first_due;
+use crate::board::Board;
+use crate::config::{Config, Integration};
+use crate::flush::ToldSets;
+use crate::group::{Group, GroupName, Member};
+use crate::reason::Reason;
+use crate::state::State;
+use crate::unmuted::Unmuted;
+use am_alerts::labels::Labels;
+use am_alerts::limits::MAX_MOMENT;
+use am_alerts::sequence::Sequence;
+pub use am_model::outlook::{MutedAlert, Outlook};
+use am_mute::mute::mute_cause;
+use am_nflog::{LogKey, LogRow, NfLog, is_subset};
+use std::alloc::{AllocError, Global};
+
+impl Board {
+    /// What a begin at `now` (milliseconds) is to do with the group that it takes: which of its alerts
+    /// are muted, and why, and why each integration of its receiver is asked or not. None where no
+    /// group without an open flush is due. Nothing changes.
+    ///
+    /// The reasons are those that looking back over the history finds (`law::outlooks_look_back`), so
+    /// that a begin at once asks just those for whom there is a reason to ask (`law::reasons_decide`).
+    pub fn outlook(&self, alloc: Global, now: u64) -> Result<Option<Outlook>, AllocError>
+        ensures { IfOk result (λ told. told ≡ outlook self.now.config self.now.history now) }
+    {
+        outlook_of(alloc, &self.config, &self.state, now)
+    }
+}
+
+/// What a begin at `now` is to do; none where no group without an open flush is due.
+pub(crate) fn outlook_of(
+    alloc: Global,
+    config: &Config,
+    state: &State,
+    now: u64,
+) -> Result<Option<Outlook>, AllocError>
+    requires good { IsGood config.now state.now }
+    requires moments { All (λ row. row.moment ≤ MAX_MOMENT) (log_rows state.now.log) }
+    ensures { IfOk result (λ outlook. outlook ≡ outlook_at config.now (state_of state.now) (moment (state_of state.now) now)) }
+{
+    let t = state.moment(now);
+    let Some(place) = first_due(state.groups.as_slice(), state.flushes.as_slice(), t) else {
+        return Ok(None);
+    };
+    let group = state.groups.at(place);
+    let outlook = outlook_on(alloc, config, state, group, t)?;
+    Ok(Some(outlook))
+}
+
+/// What a begin at `t` is to do with a group that it takes.
+fn outlook_on(
+    alloc: Global,
+    config: &Config,
+    state: &State,
+    group: &Group,
+    t: u64,
+) -> Result<Outlook, AllocError>
+    requires route { group.now.name.route ≤ length config.now.routes.children }
+    requires few { HaveFewIntegrations config.now }
+    requires apart { IsDistinct same_member (group_state group.now).members }
+    requires moments { All (λ row. row.moment ≤ MAX_MOMENT) (log_rows state.now.log) }
+    ensures { IfOk result (λ outlook. outlook
+        ≡ outlook_on config.now (state_of state.now) t (reason_of config.now (state_of state.now) t) (group_state group.now)) }
+{
+    Ok(Outlook {
+        moment: t,
+        group: group.name.copy(alloc)?,
+        muted: muted_in(alloc, config, state, group.members.as_slice(), t)?,
+        reasons: reasons_on(alloc, config, state, group, t)?,
+    })
+}
+
+/// The alerts of a group that are muted at `t`, and why.
+fn muted_in(
+    alloc: Global,
+    config: &Config,
+    state: &State,
+    members: &[Member],
+    t: u64,
+) -> Result<Sequence<MutedAlert>, AllocError>
+    ensures { IfOk result (λ muted. muted ≡ filter_map (muted_alert config.now (state_of state.now) t) (map member_state members.now)) }
+{
+    let mut muted = Vec::new(alloc);
+    for member in members {
+        let labels = member.alert.labels();
+        let silences = state.silences.as_slice();
+        let rules = config.rules.as_slice();
+        if let Some(cause) = mute_cause(
+            alloc,
+            labels,
+            t,
+            silences,
+            rules,
+            state.known.as_slice(),
+        )? {
+            muted.push(MutedAlert {
+                labels: labels.copy(alloc)?,
+                cause,
+            })?;
+        }
+    }
+    Ok(Sequence::from(muted))
+}
+
+/// Why each integration of a group's receiver is asked at `t`, or why not.
+fn reasons_on(
+    alloc: Global,
+    config: &Config,
+    state: &State,
+    group: &Group,
+    t: u64,
+) -> Result<Sequence<Reason>, AllocError>
+    requires route { group.now.name.route ≤ length config.now.routes.children }
+    requires few { HaveFewIntegrations config.now }
+    requires apart { IsDistinct same_member (group_state group.now).members }
+    requires moments { All (λ row. row.moment ≤ MAX_MOMENT) (log_rows state.now.log) }
+    ensures { IfOk result (λ reasons. reasons
+        ≡ map (reason_of config.now (state_of state.now) t (group_state group.now)) (integrations_of config.now group.now.name)) }
+{
+    let unmuted = Unmuted::at(alloc, config, state, group, t)?;
+    let told = unmuted.told(alloc)?;
+    let route = config.routes.route(group.name.route);
+    let Some(receiver) = config.receiver(route.receiver.as_str()) else {
+        return Ok(Sequence::empty(alloc));
+    };
+    let integrations = receiver.integrations.as_slice();
+    reasons_of(
+        alloc,
+        integrations,
+        &state.log,
+        &group.name,
+        &told,
+        route.repeat_interval,
+        t,
+    )
+}
+
+/// Why each of a receiver's integrations is asked about a group, or why not.
+fn reasons_of(
+    alloc: Global,
+    integrations: &[Integration],
+    log: &NfLog<GroupName, Labels>,
+    group: &GroupName,
+    told: &ToldSets,
+    repeat_interval: u64,
+    t: u64,
+) -> Result<Sequence<Reason>, AllocError>
+    requires few { length integrations.now ≤ MAX_INTEGRATIONS }
+    requires fits { All (λ row. row.moment + repeat_interval + 1 < 2 ^ 64) (log_rows log.now) }
+    ensures { IfOk result (λ reasons. reasons
+        ≡ map (reason_among (log_rows log.now) group.now told.now repeat_interval t) (enumerate_from 0 integrations.now)) }
+{
+    let mut reasons = Vec::with_capacity(alloc, integrations.len())?;
+    let mut key = LogKey {
+        group: group.copy(alloc)?,
+        integration: 0,
+    };
+    for integration in integrations {
+        let row = log.get(&key);
+        let send_resolved = integration.send_resolved;
+        reasons.push(reason(row, told, send_resolved, repeat_interval, t))?;
+        key.integration += 1;
+    }
+    Ok(Sequence::from(reasons))
+}
+
+/// Why an integration with this row in the log is asked, or why not.
+fn reason(
+    logged: Option<&LogRow<Labels>>,
+    told: &ToldSets,
+    send_resolved: bool,
+    repeat_interval: u64,
+    t: u64,
+) -> Reason
+    requires { IfSome (option_copied logged) (λ row. row.moment + repeat_interval + 1 < 2 ^ 64) }
+    ensures { result ≡ reason_told_by (option_copied logged.entry) told.now send_resolved repeat_interval t }
+{
+    let is_quiet = told.firing.as_slice().is_empty();
+    if is_quiet && told.resolved.as_slice().is_empty() {
+        return Reason::NothingLeft;
+    }
+    match logged {
+        None if is_quiet => Reason::NothingFiring,
+        None => Reason::FirstNotice,
+        Some(row) => reason_by(row, told, send_resolved, repeat_interval, t),
+    }
+}
+
+/// Why an integration with this row is asked, or why not, where something is left to tell.
+fn reason_by(
+    row: &LogRow<Labels>,
+    told: &ToldSets,
+    send_resolved: bool,
+    repeat_interval: u64,
+    t: u64,
+) -> Reason
+    requires { row.now.moment + repeat_interval + 1 < 2 ^ 64 }
+    ensures { result ≡ reason_by_row row.now told.now send_resolved repeat_interval t }
+{
+    let firing = told.firing.as_slice();
+    if !is_subset(firing, row.firing.as_slice()) {
+        return Reason::NewAlert;
+    }
+    if firing.is_empty() {
+        return ended(row);
+    }
+    if send_resolved && !is_subset(told.resolved.as_slice(), row.resolved.as_slice()) {
+        return Reason::NewlyResolved;
+    }
+    let over = row.moment + repeat_interval;
+    if over < t {
+        return Reason::Repeat;
+    }
+    Reason::NotYet { from: over + 1 }
+}
+
+/// Why an integration is asked where no alert fires, or why not.
+fn ended(row: &LogRow<Labels>) -> Reason
+    ensures { result ≡ reason_ended row.now }
+{
+    if row.firing.as_slice().is_empty() {
+        Reason::NothingFiring
+    } else {
+        Reason::AllResolved
+    }
+}

@@ -1,0 +1,216 @@
+//! The flush to open: what its begin puts into the board and its ticket.
+ghost use Rattle.std.specs.Prelude.{◌≡◌, ◌<◌, ◌≤◌, IfOk, length, map, slice_index_or, vec_len};
+ghost use Rattle.std.specs.List.{IsDistinct};
+ghost use Rattle.am_model.specs.Begin.{asked_of};
+ghost use Rattle.am_model.specs.Configured.{HaveFewIntegrations};
+ghost use Rattle.am_board.specs.Beginning.{IsFlushAsking, IsUnmuted, asked_for_update, told_of};
+ghost use Rattle.am_board.specs.Beginning.{update_of, notice_of_update, IsPlannedFlush, IsPlan};
+ghost use Rattle.am_model.specs.Insert.{same_member};
+ghost use Rattle.am_board.specs.Kept.{state_of, group_state};
+ghost use Rattle.am_board.specs.Step.{IsGood};
+
+use crate::begin::{ChosenGroup, LEAST_TIME};
+use crate::config::Config;
+use crate::dedup::{Update, asked};
+use crate::fault::Fault;
+use crate::flush::{Asked, OpenFlush, ToldSets};
+use crate::group::{Group, GroupName};
+use crate::notice::{MAX_DEADLINE, Notice};
+use crate::state::State;
+use crate::unmuted::{Unmuted, leaving_at};
+use am_alerts::limits::MAX_MOMENT;
+use am_alerts::sequence::{Sequence, copy_all};
+use am_nflog::LogKey;
+use am_retry::Outcome;
+use std::alloc::{AllocError, Global};
+
+/// All that the begin of a flush puts into the board and its ticket.
+#[derive(Drop)]
+pub(crate) struct PlannedFlush {
+    pub(crate) flush: OpenFlush,
+    pub(crate) number: u64,
+    pub(crate) deadline: u64,
+    /// For the ticket.
+    pub(crate) group: GroupName,
+    pub(crate) notices: Vec<Notice>,
+    pub(crate) outcomes: Vec<(u32, Outcome)>,
+    /// For the record.
+    pub(crate) recorded_group: GroupName,
+    pub(crate) recorded_notices: Sequence<Notice>,
+}
+
+/// The flush that a begin opens; none where nobody is asked.
+pub(crate) fn plan(
+    alloc: Global,
+    config: &Config,
+    id: u64,
+    state: &State,
+    chosen: ChosenGroup,
+) -> Result<Option<PlannedFlush>, Fault>
+    requires good { IsGood config.now state.now }
+    requires place { chosen.place < length state.now.groups.items }
+    requires moment { chosen.t ≤ MAX_MOMENT }
+    ensures { (d : Group) → IsPlan config.now id (vec_len state.now.flushes) (state_of state.now) chosen.t
+        (group_state (slice_index_or state.now.groups.items chosen.place d)) result }
+{
+    let group = state.groups.at(chosen.place);
+    plan_of(alloc, config, id, state, group, chosen.t)
+}
+
+/// The flush of a group that a begin at `t` opens; none where nobody is asked.
+fn plan_of(
+    alloc: Global,
+    config: &Config,
+    id: u64,
+    state: &State,
+    group: &Group,
+    t: u64,
+) -> Result<Option<PlannedFlush>, Fault>
+    requires route { group.now.name.route ≤ length config.now.routes.children }
+    requires few { HaveFewIntegrations config.now }
+    requires apart { IsDistinct same_member (group_state group.now).members }
+    requires moment { t ≤ MAX_MOMENT }
+    ensures { IsPlan config.now id (vec_len state.now.flushes) (state_of state.now) t (group_state group.now) result }
+{
+    let unmuted = Unmuted::at(alloc, config, state, group, t)?;
+    if unmuted.is_empty() {
+        return Ok(None);
+    }
+    let told = unmuted.told(alloc)?;
+    let asked = asked(alloc, config, state, &group.name, &told, t)?;
+    if asked.is_empty() {
+        return Ok(None);
+    }
+    if state.flushes.len() >= config.limits.flushes {
+        return Err(Fault::TooManyOpen);
+    }
+    let planned = open(
+        alloc,
+        config,
+        id,
+        state,
+        group,
+        &unmuted,
+        told,
+        asked.as_slice(),
+        t,
+    )?;
+    Ok(Some(planned))
+}
+
+/// The flush to open of a group at `t`, with what is unmuted in it and the label sets of that, which
+/// asks these integrations.
+fn open(
+    alloc: Global,
+    config: &Config,
+    id: u64,
+    state: &State,
+    group: &Group,
+    unmuted: &Unmuted,
+    told: ToldSets,
+    asked: &[Update],
+    t: u64,
+) -> Result<PlannedFlush, AllocError>
+    requires route { group.now.name.route ≤ length config.now.routes.children }
+    requires moment { t ≤ MAX_MOMENT }
+    requires told { told ≡ told_of unmuted.now }
+    requires unmuted { IsUnmuted config.now (state_of state.now) t (group_state group.now) unmuted.now }
+    requires asked { asked.now ≡ map update_of (asked_of config.now (state_of state.now) t (group_state group.now)) }
+    ensures { IfOk result (IsPlannedFlush config.now id (state_of state.now) t (group_state group.now)) }
+{
+    let number = state.next_number;
+    let route = config.routes.route(group.name.route);
+    let deadline = t.saturating_add(route.group_interval.max(LEAST_TIME));
+    let kept_for = config
+        .retention
+        .min(route.repeat_interval.saturating_mul(2));
+    let notices = notices(alloc, id, number, deadline, &group.name, unmuted, asked)?;
+    Ok(PlannedFlush {
+        flush: flush_of(alloc, number, kept_for, group, unmuted, told, asked, t)?,
+        number,
+        deadline,
+        group: group.name.copy(alloc)?,
+        recorded_group: group.name.copy(alloc)?,
+        recorded_notices: copy_all(alloc, notices.as_slice())?,
+        outcomes: Vec::with_capacity(alloc, notices.len())?,
+        notices,
+    })
+}
+
+/// The flush of a group at `t`, with what is unmuted in it and the label sets of that, which asks
+/// these integrations.
+fn flush_of(
+    alloc: Global,
+    number: u64,
+    kept_for: u64,
+    group: &Group,
+    unmuted: &Unmuted,
+    told: ToldSets,
+    asked: &[Update],
+    t: u64,
+) -> Result<OpenFlush, AllocError>
+    requires told { told ≡ told_of unmuted.now }
+    ensures { IfOk result (IsFlushAsking number kept_for group.now unmuted.now asked.now t) }
+{
+    Ok(OpenFlush {
+        number,
+        group: group.name.copy(alloc)?,
+        kept_for,
+        asked: asked_by(alloc, &group.name, unmuted, &told, asked)?,
+        told,
+        leaving: leaving_at(alloc, group.members.as_slice(), t)?,
+    })
+}
+
+/// A notice for each integration that is asked.
+fn notices(
+    alloc: Global,
+    desk: u64,
+    ticket: u64,
+    deadline: u64,
+    group: &GroupName,
+    unmuted: &Unmuted,
+    asked: &[Update],
+) -> Result<Vec<Notice>, AllocError>
+    requires { deadline ≤ MAX_DEADLINE }
+    ensures items { IfOk result (λ notices. notices.items ≡ map (notice_of_update desk ticket deadline group.now unmuted.now) asked.now) }
+{
+    let mut notices = Vec::with_capacity(alloc, asked.len())?;
+    for update in asked {
+        notices.push(Notice {
+            desk,
+            ticket,
+            deadline,
+            group: group.copy(alloc)?,
+            integration: update.integration,
+            firing: unmuted.firing.copy(alloc)?,
+            resolved: unmuted.sent(alloc, update.send_resolved)?,
+        })?;
+    }
+    Ok(notices)
+}
+
+/// The integrations that a flush of a group asks, with what their log rows are to hold.
+fn asked_by(
+    alloc: Global,
+    group: &GroupName,
+    unmuted: &Unmuted,
+    told: &ToldSets,
+    asked: &[Update],
+) -> Result<Vec<Asked>, AllocError>
+    requires told { told.now ≡ told_of unmuted.now }
+    ensures { IfOk result (λ all. all.items ≡ map (asked_for_update group.now unmuted.now) asked.now) }
+{
+    let mut all = Vec::with_capacity(alloc, asked.len())?;
+    for update in asked {
+        all.push(Asked {
+            key: LogKey {
+                group: group.copy(alloc)?,
+                integration: update.integration,
+            },
+            nothing: unmuted.is_nothing(update.send_resolved),
+            told: Some(told.share()?),
+        })?;
+    }
+    Ok(all)
+}

@@ -1,0 +1,163 @@
+//! What is unmuted in a group: its alerts that are neither silenced nor inhibited.
+ghost use Rattle.std.specs.Prelude.{◌≡◌, ◌&&◌, IfOk, filter, map};
+ghost use Rattle.std.specs.List.{IsDistinct};
+ghost use Rattle.am_alerts.specs.AlertData.{is_resolved};
+ghost use Rattle.am_nflog.specs.Members.{is_empty};
+ghost use Rattle.am_model.specs.Begin.{alert_cmp, label_sets};
+ghost use Rattle.am_board.specs.Beginning.{AreUnmuted, AreRising, IsUnmuted, leaving_member, sent_where, told_of};
+ghost use Rattle.am_model.specs.Insert.{same_alert, same_member};
+ghost use Rattle.am_board.specs.Kept.{group_state, state_of};
+ghost use Rattle.am_model.specs.Lists.{in_order};
+
+use crate::config::Config;
+use crate::flush::{LeavingAlert, ToldSets};
+use crate::group::{Group, Member};
+use crate::state::State;
+use am_alerts::alert::Alert;
+use am_alerts::labels::Labels;
+use am_alerts::sequence::Sequence;
+use am_mute::inhibit::InhibitRule;
+use am_mute::mute::muted;
+use am_nflog::Members;
+use std::alloc::{AllocError, Global};
+
+/// The alerts of a group that aren't muted, by labels: those that fire, without an end, and those
+/// that are resolved.
+#[derive(Debug, Drop)]
+pub(crate) struct Unmuted {
+    pub(crate) firing: Sequence<Alert>,
+    pub(crate) resolved: Sequence<Alert>,
+}
+
+impl Unmuted {
+    /// What a begin at `t` finds in a group.
+    pub(crate) fn at(
+        alloc: Global,
+        config: &Config,
+        state: &State,
+        group: &Group,
+        t: u64,
+    ) -> Result<Unmuted, AllocError>
+        requires { IsDistinct same_member (group_state group.now).members }
+        ensures { IfOk result (IsUnmuted config.now (state_of state.now) t (group_state group.now)) }
+    {
+        let members = group.members.as_slice();
+        let (firing, resolved) = firing_and_resolved(
+            alloc,
+            config.rules.as_slice(),
+            state,
+            members,
+            t,
+        )?;
+        Ok(Unmuted {
+            firing: by_labels(firing),
+            resolved: by_labels(resolved),
+        })
+    }
+
+    pub(crate) fn is_empty(&self) -> bool
+        ensures { result ≡ (is_empty self.now.firing && is_empty self.now.resolved) }
+    {
+        self.firing.is_empty() && self.resolved.is_empty()
+    }
+
+    /// Whether a notice of this has nothing to send.
+    pub(crate) fn is_nothing(&self, send_resolved: bool) -> bool
+        ensures { result ≡ (is_empty self.now.firing && is_empty (sent_where send_resolved self.now)) }
+    {
+        self.firing.is_empty() && (!send_resolved || self.resolved.is_empty())
+    }
+
+    /// The resolved alerts that are sent.
+    pub(crate) fn sent(
+        &self,
+        alloc: Global,
+        send_resolved: bool,
+    ) -> Result<Sequence<Alert>, AllocError>
+        ensures { IfOk result (λ sent. sent ≡ sent_where send_resolved self.now) }
+    {
+        if send_resolved {
+            self.resolved.copy(alloc)
+        } else {
+            Ok(Sequence::empty(alloc))
+        }
+    }
+
+    /// The label sets of this.
+    pub(crate) fn told(&self, alloc: Global) -> Result<ToldSets, AllocError>
+        requires { AreRising self.now }
+        ensures { IfOk result (λ told. told ≡ told_of self.now) }
+    {
+        Ok(ToldSets {
+            firing: Members::new(alloc, labels_of(alloc, self.firing.as_slice())?)?,
+            resolved: Members::new(alloc, labels_of(alloc, self.resolved.as_slice())?)?,
+        })
+    }
+}
+
+/// The alerts that fire and those that are resolved, of those that aren't muted; in their order.
+fn firing_and_resolved(
+    alloc: Global,
+    rules: &[InhibitRule],
+    state: &State,
+    members: &[Member],
+    t: u64,
+) -> Result<(Vec<Alert>, Vec<Alert>), AllocError>
+    ensures { IfOk result (λ unmuted. AreUnmuted rules.now (state_of state.now) t members.now unmuted.0.items unmuted.1.items) }
+{
+    let mut firing = Vec::new(alloc);
+    let mut resolved = Vec::new(alloc);
+    for member in members {
+        let alert = &member.alert;
+        let silences = state.silences.as_slice();
+        let known = state.known.as_slice();
+        if muted(alloc, alert.labels(), t, silences, rules, known)? {
+            continue;
+        }
+        if alert.resolved_at(t) {
+            resolved.push(alert.copy(alloc)?)?;
+        } else {
+            firing.push(alert.copy_without_end(alloc)?)?;
+        }
+    }
+    Ok((firing, resolved))
+}
+
+/// The members that are resolved at `t`, muted ones too.
+pub(crate) fn leaving_at(
+    alloc: Global,
+    members: &[Member],
+    t: u64,
+) -> Result<Vec<LeavingAlert>, AllocError>
+    ensures { IfOk result (λ leaving. leaving.items ≡ map leaving_member (filter (λ m. is_resolved m.alert t) members.now)) }
+{
+    let mut leaving = Vec::new(alloc);
+    for member in members {
+        if member.alert.resolved_at(t) {
+            leaving.push(LeavingAlert {
+                labels: member.alert.labels().copy(alloc)?,
+                stamp: member.stamp,
+            })?;
+        }
+    }
+    Ok(leaving)
+}
+
+/// Alerts in the order of their labels.
+pub(crate) fn by_labels(mut alerts: Vec<Alert>) -> Sequence<Alert>
+    ensures { IsDistinct same_alert alerts.items → result ≡ in_order alert_cmp alerts.items }
+{
+    alerts.sort_unstable_by(|a, b| a.labels().cmp(b.labels()));
+    Sequence::from(alerts)
+}
+
+/// The label sets of alerts.
+fn labels_of(alloc: Global, alerts: &[Alert]) -> Result<Vec<Labels>, AllocError>
+    ensures { IfOk result (λ all. all.items ≡ label_sets alerts.now) }
+{
+    let mut all = Vec::with_capacity(alloc, alerts.len())?;
+    for alert in alerts {
+        all.push(alert.labels().copy(alloc)?)?;
+    }
+    Ok(all)
+}

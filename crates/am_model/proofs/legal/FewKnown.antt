@@ -1,0 +1,77 @@
+-- No accepted insert passes the limit of known alerts, no accepted silence that of silences, and no other call changes either.
+use Rattle.std.proofs.Common.{◌≡◌, ℕ, suc, ◌+◌, ◌≤◌, Bool, true, false, cond, not, ◌&&◌, ◌||◌, nat_le, Option, Some, None, List, [], ◌∷◌, length, refl, ap, arith, if◌then◌else◌}
+use Rattle.std.specs.List.{list_any}
+use Rattle.std.proofs.lemmas.Bool.Decides.{nat_tests}
+use Rattle.am_retry.specs.declared.outcome.Outcome.{Outcome}
+use Rattle.am_model.specs.declared.config.Config.{Config}
+use Rattle.am_model.specs.declared.config.Integration.{Integration}
+use Rattle.am_model.specs.declared.record.Call.{Call}
+use Rattle.am_model.specs.declared.record.Call.TheVariants.{Insert, Silence, Begin, Finish, Maintain, Note}
+use Rattle.am_model.specs.Begin.{taken, asked_of, after_asking, after_taking}
+use Rattle.am_model.specs.Finish.{after_finish_of}
+use Rattle.am_model.specs.Lists.{put_in}
+use Rattle.am_model.specs.Note.{after_note, after_note_of, may_note}
+use Rattle.am_model.specs.Replay.{after_call}
+use Rattle.am_model.specs.State.{GroupState, FlushState, State, at_moment, moment, flush_numbered}
+use Rattle.am_model.proofs.legal.BoundedAlerts.{length-put_in, length-put_known}
+use Rattle.am_model.proofs.legal.FewGroups.{IsInsert}
+
+-- what is put in passes no limit, where there may be one more or one is like it
+pub fits-put_in : {X : Type 0} (like : X → X → Bool) (x : X) (xs : List X) (most : ℕ) → length xs ≤ most
+    → (nat_le most (length xs) && not (list_any (like x) xs)) ≡ false → length (put_in like x xs) ≤ most
+fits-put_in like x xs most few fits =
+    let more : length (put_in like x xs) ≤ length xs + 1 = length-put_in like x xs in
+    elim (list_any (like x) xs) as (λ b. list_any (like x) xs ≡ b → (nat_le most (length xs) && not b) ≡ false → length (put_in like x xs) ≤ most) [
+      | true ↦ λ e _. omega (arith, length-put_known like x xs e, few)
+      | false ↦ λ _ h.
+          elim (nat_le most (length xs)) as (λ b. nat_le most (length xs) ≡ b → (b && true) ≡ false → length (put_in like x xs) ≤ most) [
+            | true ↦ λ _ g. absurd (cc)
+            | false ↦ λ e _. let less : length xs + 1 ≤ most = grind (arith, nat_tests, e) in omega (arith, more, less)
+          ] refl h
+    ] refl fits
+
+-- where none of two causes holds
+pub neither_cause : {X : Type 0} (b : Bool) (x : X) (other : Option X) → (if b then Some x else other) ≡ None → (b ≡ false) × (other ≡ None)
+neither_cause true x other e = absurd (cc)
+neither_cause false x other e = (refl, e)
+
+abbrev pub IsSilence : Call → Bool
+IsSilence (Insert now alert) = false
+IsSilence (Silence now number matchers start end) = true
+IsSilence (Begin now) = false
+IsSilence (Finish now number outcomes) = false
+IsSilence (Maintain now) = false
+IsSilence (Note now number integration outcome) = false
+
+module _ (config : Config) (s : State) where
+  -- what is known, and the silences, are those of s
+  abbrev pub KeepsKnown : State → Type 0
+  KeepsKnown new = (new.known ≡ s.known) × (new.silences ≡ s.silences)
+
+  known_asking : (t : ℕ) (g : GroupState) (asked : List (ℕ × Integration)) → KeepsKnown (after_asking config s t g asked)
+  known_asking t g [] = (refl, refl)
+  known_asking t g (i ∷ is) = (refl, refl)
+
+  known_taking : (t : ℕ) (o : Option GroupState) → KeepsKnown (after_taking config s t o)
+  known_taking t None = (refl, refl)
+  known_taking t (Some g) = known_asking t g (asked_of config s t g)
+
+  known_finished : (t : ℕ) (outcomes : List (ℕ × Outcome)) (o : Option FlushState) → KeepsKnown (after_finish_of config s t outcomes o)
+  known_finished t outcomes None = (refl, refl)
+  known_finished t outcomes (Some f) = (refl, refl)
+
+  known_noted : (t integration : ℕ) (outcome : Option Outcome) (o : Option FlushState) → KeepsKnown (after_note_of config s t integration outcome o)
+  known_noted t integration outcome None = (refl, refl)
+  known_noted t integration outcome (Some f) =
+      let noted : State = after_note config s t integration f in
+      let moved : State = at_moment s t in
+      elim (may_note integration outcome f) as (λ b. KeepsKnown (cond b noted moved)) [ true ↦ (refl, refl) | false ↦ (refl, refl) ]
+
+  -- an insert alone changes what is known, and a silence alone the silences
+  pub known_others : (call : Call) → IsInsert call ≡ false → IsSilence call ≡ false → KeepsKnown (after_call config s call)
+  known_others (Insert now alert) e f = absurd (cc)
+  known_others (Silence now number matchers start end) e f = absurd (cc)
+  known_others (Begin now) e f = known_taking (moment s now) (taken s (moment s now))
+  known_others (Finish now number outcomes) e f = known_finished (moment s now) outcomes (flush_numbered s.flushes number)
+  known_others (Maintain now) e f = (refl, refl)
+  known_others (Note now number integration outcome) e f = known_noted (moment s now) integration outcome (flush_numbered s.flushes number)

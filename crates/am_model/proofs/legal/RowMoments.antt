@@ -1,0 +1,80 @@
+-- No row of the log is of a moment after the greatest there is.
+use Rattle.std.proofs.Common.{◌≡◌, ℕ, ◌≤◌, Bool, true, false, Option, Some, None, List, [], ◌∷◌, not, arith, fold, if◌then◌else◌}
+use Rattle.std.specs.List.{AllByRecursion}
+use Rattle.am_alerts.specs.declared.limits.TheConstants.{MAX_MOMENT}
+use Rattle.am_retry.specs.declared.outcome.Outcome.{Outcome}
+use Rattle.am_model.specs.declared.config.Config.{Config}
+use Rattle.am_model.specs.declared.config.Integration.{Integration}
+use Rattle.am_model.specs.declared.record.Call.{Call}
+use Rattle.am_model.specs.declared.record.Call.TheVariants.{Insert, Silence, Begin, Finish, Maintain, Note}
+use Rattle.am_model.specs.declared.record.Record.{Record}
+use Rattle.am_model.specs.declared.views.RowView.{RowView}
+use Rattle.am_model.specs.Begin.{asked_of, taken, after_asking, after_taking}
+use Rattle.am_model.specs.Finish.{same_key, log_with, row_at, logged_by, after_finish_of}
+use Rattle.am_model.specs.Note.{may_note, after_note, after_note_of}
+use Rattle.am_model.specs.Replay.{after, after_call, replay, replay_from}
+use Rattle.am_model.specs.State.{AskedState, FlushState, GroupState, State, at_moment, moment, opening_state, flush_numbered}
+use Rattle.am_model.specs.Upkeep.{has_expired}
+use Rattle.am_model.proofs.legal.Consistent.{moment-within}
+use Rattle.am_model.proofs.lists.Distinct.{all-filter}
+use Rattle.am_model.proofs.lists.Words.{all-put_in}
+
+-- of rows and of a state
+abbrev AreTimely : List RowView → Type 0
+AreTimely rows = AllByRecursion (λ row. row.moment ≤ MAX_MOMENT) rows
+
+record IsTimely (s : State) : Type 0 where
+  clock : s.clock ≤ MAX_MOMENT
+  rows : AreTimely s.rows
+
+logged : (config : Config) (t : ℕ) (f : FlushState) (asked : List AskedState) (rows : List RowView) → t ≤ MAX_MOMENT → AreTimely rows
+    → AreTimely (fold (λ log a. log_with (row_at config t f a.integration) log) rows asked)
+logged config t f [] rows within timely = timely
+logged config t f (a ∷ asked) rows within timely =
+    logged config t f asked (log_with (row_at config t f a.integration) rows) within
+    (all-put_in same_key (row_at config t f a.integration) (λ (row : RowView). row.moment ≤ MAX_MOMENT) rows within timely)
+
+finishing : (config : Config) (s : State) (t : ℕ) (outcomes : List (ℕ × Outcome)) (o : Option FlushState) → t ≤ MAX_MOMENT → IsTimely s → IsTimely (after_finish_of config s t outcomes o)
+finishing config s t outcomes None within timely = record { clock = within; rows = timely.rows }
+finishing config s t outcomes (Some f) within timely = record { clock = within; rows = logged config t f (logged_by outcomes f) s.rows within timely.rows }
+
+noting : (config : Config) (s : State) (t integration : ℕ) (outcome : Option Outcome) (o : Option FlushState) → t ≤ MAX_MOMENT → IsTimely s → IsTimely (after_note_of config s t integration outcome o)
+noting config s t integration outcome None within timely = record { clock = within; rows = timely.rows }
+noting config s t integration outcome (Some f) within timely =
+    elim (may_note integration outcome f) as (λ b. IsTimely (if b then after_note config s t integration f else at_moment s t)) [
+      | true ↦ record {
+        clock = within;
+        rows = all-put_in same_key (row_at config t f integration) (λ (row : RowView). row.moment ≤ MAX_MOMENT) s.rows within timely.rows;
+      }
+      | false ↦ record { clock = within; rows = timely.rows }
+    ]
+
+asking : (config : Config) (s : State) (t : ℕ) (g : GroupState) (asked : List (ℕ × Integration)) → t ≤ MAX_MOMENT → IsTimely s → IsTimely (after_asking config s t g asked)
+asking config s t g [] within timely = record { clock = within; rows = timely.rows }
+asking config s t g (i ∷ is) within timely = record { clock = within; rows = timely.rows }
+
+taking : (config : Config) (s : State) (t : ℕ) (o : Option GroupState) → t ≤ MAX_MOMENT → IsTimely s → IsTimely (after_taking config s t o)
+taking config s t None within timely = record { clock = within; rows = timely.rows }
+taking config s t (Some g) within timely = asking config s t g (asked_of config s t g) within timely
+
+call : (config : Config) (s : State) (c : Call) → IsTimely s → IsTimely (after_call config s c)
+call config s (Insert now alert) timely = record { clock = moment-within s now timely.clock; rows = timely.rows }
+call config s (Silence now number matchers start end) timely = record { clock = moment-within s now timely.clock; rows = timely.rows }
+call config s (Begin now) timely = taking config s (moment s now) (taken s (moment s now)) (moment-within s now timely.clock) timely
+call config s (Finish now number outcomes) timely =
+    finishing config s (moment s now) outcomes (flush_numbered s.flushes number) (moment-within s now timely.clock) timely
+call config s (Maintain now) timely =
+    record {
+      clock = moment-within s now timely.clock;
+      rows = all-filter (λ (row : RowView). row.moment ≤ MAX_MOMENT) (λ row. not (has_expired (moment s now) row)) s.rows timely.rows;
+    }
+call config s (Note now number integration outcome) timely =
+    noting config s (moment s now) integration outcome (flush_numbered s.flushes number) (moment-within s now timely.clock) timely
+
+each : (config : Config) (s : State) (history : List Record) → IsTimely s → IsTimely (replay_from config s history)
+each config s [] timely = timely
+each config s (r ∷ history) timely = each config (after config s r) history (call config s r.call timely)
+
+-- after any list of records
+pub rows-timely : (config : Config) (history : List Record) → AllByRecursion (λ row. row.moment ≤ MAX_MOMENT) (replay config history).rows
+rows-timely config history = (each config opening_state history (record { clock = omega arith; rows = tt })).rows

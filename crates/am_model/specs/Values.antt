@@ -1,0 +1,65 @@
+-- The limits, the default and the faults' numbers, by their values.
+use Rattle.std.specs.Prelude.{◌≡◌, [], ◌∷◌}
+use Rattle.am_model.specs.declared.config.ConfigFault.{ConfigFault}
+use Rattle.am_model.specs.declared.config.ConfigFault.TheVariants as config
+use Rattle.am_model.specs.declared.config.TheConstants.{MAX_RECEIVERS, MAX_INTEGRATIONS, MAX_RULES}
+use Rattle.am_model.specs.declared.config.TheConstants.{MAX_NAMES, MAX_GROUPS, MAX_SILENCES, MAX_FLUSHES, MAX_HISTORY}
+use Rattle.am_model.specs.declared.fault.BoardFault.TheVariants as board
+use Rattle.am_model.specs.declared.fault.Fault.TheVariants as call
+use Rattle.am_model.specs.declared.fault.NoteFault.TheVariants as note
+use Rattle.am_model.specs.declared.fault.ReportFault.TheVariants as report
+use Rattle.am_model.specs.declared.law.TheConstants.{CALL_FAULTS, NOTE_FAULTS, CONFIG_FAULTS, REPORT_FAULTS}
+use Rattle.am_model.specs.declared.notice.TheConstants.{LEAST_TIME, MAX_DEADLINE}
+use Rattle.am_model.specs.Config.{greatest_limits}
+use Rattle.am_model.specs.Faults.{board_fault_number}
+
+-- law: 64 receivers of 8 integrations, 256 rules; 65,536 known alerts, 4,096 groups, 1,024 silences, 64 open flushes, 1,048,576 records
+abbrev pub LimitsAre : Type 0
+LimitsAre =
+    (MAX_RECEIVERS ≡ 64)
+    × (MAX_INTEGRATIONS ≡ 8)
+    × (MAX_RULES ≡ 256)
+    × (MAX_NAMES ≡ 65_536)
+    × (MAX_GROUPS ≡ 4_096)
+    × (MAX_SILENCES ≡ 1_024)
+    × (MAX_FLUSHES ≡ 64)
+    × (MAX_HISTORY ≡ 1_048_576)
+
+-- law: the default of the limits, none of them lowered
+abbrev pub DefaultIs : Type 0
+DefaultIs =
+    greatest_limits ≡ record { names = 65_536; groups = 4_096; silences = 1_024; flushes = 64; history = 1_048_576 }
+
+-- law: a flush has 10 s at least, and a deadline is at most 10^15 + 10^12 ms
+abbrev pub TimesAre : Type 0
+TimesAre = (LEAST_TIME ≡ 10_000) × (MAX_DEADLINE ≡ 1_001_000_000_000_000)
+
+-- law: the numbers of the faults of an insert, a silence, a begin or a maintenance
+abbrev pub CallFaultsAre : Type 0
+CallFaultsAre =
+    CALL_FAULTS
+    ≡ (call.NoMemory, 1) ∷ (call.TooManyNames, 2) ∷ (call.TooManyGroups, 3)
+    ∷ (call.TooManySilences, 4) ∷ (call.TooManyOpen, 5) ∷ (call.HistoryFull, 6) ∷ []
+
+-- law: the numbers of the faults of a note
+abbrev pub NoteFaultsAre : Type 0
+NoteFaultsAre =
+    NOTE_FAULTS
+    ≡ (note.NoMemory, 1) ∷ (note.HistoryFull, 6) ∷ (note.Foreign, 7)
+    ∷ (note.NotOpen, 8) ∷ (note.NotReady, 9) ∷ (note.Already, 10) ∷ []
+
+-- law: the numbers of the faults of a configuration
+abbrev pub ConfigFaultsAre : Type 0
+ConfigFaultsAre =
+    CONFIG_FAULTS
+    ≡ (config.UnknownReceiver, 1) ∷ (config.ReceiverTwice, 2) ∷ (config.TooManyReceivers, 3) ∷ (config.TooManyIntegrations, 4)
+    ∷ (config.BadKind, 5) ∷ (config.TooManyRules, 6) ∷ (config.BadRetention, 7) ∷ (config.BadLimit, 8) ∷ []
+
+-- law: the numbers of the faults for which no board is made
+abbrev pub BoardFaultsAre : Type 0
+BoardFaultsAre =
+    (board_fault_number board.NoMemory ≡ 1) × ((fault : ConfigFault) → board_fault_number (board.BadConfig fault) ≡ 2)
+
+-- law: the numbers of the faults of a report
+abbrev pub ReportFaultsAre : Type 0
+ReportFaultsAre = REPORT_FAULTS ≡ (report.Stranger, 1) ∷ (report.Twice, 2) ∷ []

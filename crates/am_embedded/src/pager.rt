@@ -30,9 +30,8 @@ impl Courier for Pager {
             Answer::Done
         };
         let sent = Sent { answer, ended: at };
-        self.journal = self
-            .journal
-            .with_try(&Tried::new(notice, attempt, at, &sent));
+        self.journal
+            .add_try(&Tried::new(notice, attempt, at, &sent));
         Ok(sent)
     }
 }

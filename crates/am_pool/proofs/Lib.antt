@@ -1,5 +1,4 @@
 pub mod Appended
-pub mod JournalWalks
 pub mod Weights
 pub mod Dealings
 pub mod Working

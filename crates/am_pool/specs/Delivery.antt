@@ -21,8 +21,11 @@ abbrev pub IsReportOn : NoticeData → Report → Type 0
 IsReportOn notice report =
     (report.desk ≡ notice.desk) × (report.ticket ≡ notice.ticket) × (report.integration ≡ notice.integration)
 
--- from a start on, a notice was sent by a courier that had made these tries and refusals, and has made those since: there are answers whose tries, as those of the notice, are just the ones that were appended, and whose outcome, number and end the report tells; the courier refused one more attempt exactly where the outcome is Starved, which says that an attempt was due
-pub record IsDelivery (notice : NoticeData) (start : ℕ) (tries : List Tried) (refusals : ℕ) (tries_since : List Tried) (refusals_since : ℕ) (report : Report) : Type 0 where
+-- from a start on, a notice was sent by a courier that had made these tries and refusals, and has made those since: there are answers
+-- whose tries, as those of the notice, are just the ones that were appended, and whose outcome, number and end the report tells; the
+-- courier refused one more attempt exactly where the outcome is Starved, which says that an attempt was due
+pub record IsDelivery (notice : NoticeData) (start : ℕ) (tries : List Tried) (refusals : ℕ)
+    (tries_since : List Tried) (refusals_since : ℕ) (report : Report) : Type 0 where
   pub told : List Told
   pub appended : tries_since ≡ tries ++ all_tried_for notice (tries_of start told)
   pub has : HasOutcome start notice.deadline told report.outcome

@@ -4,3 +4,4 @@ pub mod Dealt
 pub mod Work
 pub mod Gathered
 pub mod Sent
+pub mod Laws

@@ -5,6 +5,11 @@ use Rattle.am_retry.specs.Attempts.{Try}
 use Rattle.am_pool.specs.declared.courier.Sent.{Sent}
 use Rattle.am_pool.specs.declared.courier.Tried.{Tried}
 
+-- what a journal tells of its courier: its tries, and how many attempts it refused
+pub record JournalData : Type 0 where
+  pub tries : List Tried
+  pub refusals : ℕ
+
 -- an attempt of this number to send a notice, at a moment, and how it went
 abbrev pub tried : NoticeData → ℕ → ℕ → Sent → Tried
 tried notice attempt at sent = record {

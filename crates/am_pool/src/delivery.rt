@@ -16,7 +16,8 @@ pub fn deliver<C: Courier>(courier: &mut C, notice: &Notice, start: u64) -> Repo
     requires something { is_nothing notice.now ≡ false }
     requires start { start ≤ MAX_MOMENT }
     ensures of_notice { IsReportOn notice.now result }
-    ensures delivery { IsDelivery notice.now start (C.tries courier.old) (C.refusals courier.old) (C.tries courier.new) (C.refusals courier.new) result }
+    ensures delivery { IsDelivery notice.now start (C.tries courier.old) (C.refusals courier.old)
+        (C.tries courier.new) (C.refusals courier.new) result }
 {
     prove!(!notice.nothing());
     let mut retry = Retry::start(start, notice.deadline);

@@ -1,21 +1,26 @@
 //! What a courier did, in proofs alone.
-ghost use Rattle.std.specs.Prelude.{◌≡◌, ℕ, ◌+◌, List, [], ◌∷◌, ◌++◌};
-ghost use base.Fml.{ftrue};
-ghost use Rattle.am_pool.specs.declared.courier.Tried.{Tried};
+ghost use Rattle.std.specs.Prelude.{◌≡◌, ◌+◌, [], ◌∷◌, ◌++◌};
 
 use crate::Tried;
+use am_trail::Trail;
+use std::alloc::AllocError;
 use std::marker::Model;
 
-/// The list of a courier's tries and the number of its refusals. They exist in proofs alone: a
-/// journal takes no memory.
+/// The tries of a courier, and how many attempts it refused. They exist in proofs alone: a journal
+/// takes no memory.
 #[derive(Drop)]
 pub struct Journal {
-    ghost tries: { List Tried },
-    ghost refusals: { ℕ },
+    tries: Trail<Tried>,
+    refusals: Trail<AllocError>,
 }
 
 impl Model for Journal {
-    ghost also_owns = { λ _. ftrue };
+    ghost use Rattle.std.specs.Prelude.{length};
+    ghost use Rattle.am_pool.specs.Tries.{JournalData};
+
+    ghost Value = { JournalData };
+
+    ghost view = { λ j. record { tries = j.tries.items; refusals = length j.refusals.items } };
 }
 
 impl Journal {
@@ -24,22 +29,25 @@ impl Journal {
         ensures tries { result.tries ≡ [] }
         ensures refusals { result.refusals ≡ 0 }
     {
-        Journal {}
+        Journal {
+            tries: Trail::new(),
+            refusals: Trail::new(),
+        }
     }
 
-    /// This journal, with one more try.
-    pub fn with_try(&self, _tried: &Tried) -> Journal
-        ensures tries { result.tries ≡ self.now.tries ++ _tried.now ∷ [] }
-        ensures refusals { result.refusals ≡ self.now.refusals }
+    /// Adds a try.
+    pub fn add_try(&mut self, tried: &Tried)
+        ensures tries { self.new.tries ≡ self.old.tries ++ tried.now ∷ [] }
+        ensures refusals { self.new.refusals ≡ self.old.refusals }
     {
-        Journal {}
+        self.tries.add(tried);
     }
 
-    /// This journal, with one more refusal.
-    pub fn with_refusal(&self) -> Journal
-        ensures tries { result.tries ≡ self.now.tries }
-        ensures refusals { result.refusals ≡ self.now.refusals + 1 }
+    /// Counts one more refusal.
+    pub fn add_refusal(&mut self)
+        ensures tries { self.new.tries ≡ self.old.tries }
+        ensures refusals { self.new.refusals ≡ self.old.refusals + 1 }
     {
-        Journal {}
+        self.refusals.add(&AllocError);
     }
 }

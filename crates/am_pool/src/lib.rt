@@ -23,7 +23,7 @@ pub use courier::{Courier, Sent, Tried};
 pub use delivery::deliver;
 pub use fault::PoolFault;
 pub use journal::Journal;
-pub use law::queue_deals_each_number_once;
+pub use law::{fault_numbers_are, limits_are, queue_deals_each_number_once};
 pub use limits::{MAX_JOBS, MAX_WORKERS};
 pub use pool::run_jobs;
 pub use queue::Hand;

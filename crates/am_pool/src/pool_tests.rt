@@ -36,7 +36,7 @@ impl Courier for Meeting<'_> {
         };
         self.sent = self.sent.saturating_add(1);
         let tried = Tried::new(notice, attempt, at, &sent);
-        self.journal = self.journal.with_try(&tried);
+        self.journal.add_try(&tried);
         Ok(sent)
     }
 }
@@ -203,7 +203,7 @@ impl Courier for Refusing {
     fn send(&mut self, notice: &Notice, attempt: u64, at: u64) -> Result<Sent, AllocError> {
         if notice.ticket == 0 && attempt == 2 {
             self.refused = self.refused.saturating_add(1);
-            self.journal = self.journal.with_refusal();
+            self.journal.add_refusal();
             return Err(AllocError);
         }
         let sent = Sent {
@@ -215,7 +215,7 @@ impl Courier for Refusing {
             ended: at,
         };
         let tried = Tried::new(notice, attempt, at, &sent);
-        self.journal = self.journal.with_try(&tried);
+        self.journal.add_try(&tried);
         Ok(sent)
     }
 }

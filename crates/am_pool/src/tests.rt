@@ -43,13 +43,13 @@ impl Courier for Planned {
             self.further
         };
         let Some(answer) = planned else {
-            self.journal = self.journal.with_refusal();
+            self.journal.add_refusal();
             return Err(AllocError);
         };
         let sent = Sent { answer, ended: at };
         self.sent = self.sent.saturating_add(1);
         let tried = Tried::new(notice, attempt, at, &sent);
-        self.journal = self.journal.with_try(&tried);
+        self.journal.add_try(&tried);
         Ok(sent)
     }
 }

@@ -2,7 +2,7 @@
 use denote.Param.Send.{IsSend, IsSync}
 use Rattle.am_desk.proofs.Crossing.{every, silence_send}
 use Rattle.am_alerts.proofs.alert.Alert.TheSendSync as alert
-use Rattle.am_run.specs.contracts.scenario.call.Call as call_row
+use Rattle.am_run.specs.contracts.scenario.call.LaneCall as call_row
 use Rattle.am_run.specs.contracts.scenario.script.Script as script_row
 
 pub call_send : IsSend call_row.the_row

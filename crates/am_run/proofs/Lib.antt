@@ -1,5 +1,5 @@
-pub mod TallyWalks
 pub mod FirstRun
+pub mod Attempts
 pub mod Receivers
 pub mod Lanes
 pub mod Crossing

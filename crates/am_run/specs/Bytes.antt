@@ -10,3 +10,10 @@ moved (Err fault) bytes = []
 abbrev pub is_end : {E : Type 0} → Result ℕ E → List ℕ → Bool
 is_end (Ok count) buffer = (count == 0) && not (length buffer == 0)
 is_end (Err fault) buffer = false
+
+-- what a device did: how often it was asked, failed and told its end, and the bytes that it moved
+pub record UsageData : Type 0 where
+  pub asked : ℕ
+  pub failed : ℕ
+  pub ended : ℕ
+  pub moved : List ℕ

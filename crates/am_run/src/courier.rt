@@ -57,7 +57,7 @@ impl Courier for ScriptedCourier<'_> {
             ended: at.saturating_add(planned.lasts),
         };
         let tried = Tried::new(notice, attempt, at, &sent);
-        self.journal = self.journal.with_try(&tried);
+        self.journal.add_try(&tried);
         Ok(sent)
     }
 }

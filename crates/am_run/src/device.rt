@@ -3,7 +3,7 @@ ghost use Rattle.std.specs.Prelude.{◌≡◌, ◌≤◌, ◌+◌, ◌++◌, ◌
 ghost use Rattle.std.specs.Result.{result_unwrap_or};
 ghost use Rattle.am_run.specs.Bytes.{moved, is_end};
 
-use crate::tally::Usage;
+use crate::usage::Usage;
 use std::io::{Read, Stdin, Stdout, Write};
 
 /// A read or a write failed.
@@ -85,13 +85,13 @@ impl StandardOutput {
 }
 
 impl Source for StandardInput {
-    ghost asked = { λ i. i.usage.asked.count };
+    ghost asked = { λ i. i.usage.asked };
 
-    ghost failed = { λ i. i.usage.failed.count };
+    ghost failed = { λ i. i.usage.failed };
 
-    ghost ended = { λ i. i.usage.ended.count };
+    ghost ended = { λ i. i.usage.ended };
 
-    ghost given = { λ i. i.usage.moved.bytes };
+    ghost given = { λ i. i.usage.moved };
 
     fn read(&mut self, buffer: &mut [u8]) -> Result<usize, DeviceFault> {
         match self.stdin.read(buffer) {
@@ -112,11 +112,11 @@ impl Source for StandardInput {
 }
 
 impl Sink for StandardOutput {
-    ghost asked = { λ o. o.usage.asked.count };
+    ghost asked = { λ o. o.usage.asked };
 
-    ghost failed = { λ o. o.usage.failed.count };
+    ghost failed = { λ o. o.usage.failed };
 
-    ghost taken = { λ o. o.usage.moved.bytes };
+    ghost taken = { λ o. o.usage.moved };
 
     fn write(&mut self, bytes: &[u8]) -> Result<usize, DeviceFault> {
         match self.stdout.write(bytes) {

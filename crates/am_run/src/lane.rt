@@ -2,7 +2,7 @@
 ghost use Rattle.std.specs.Prelude.{◌≡◌, ◌<◌, ◌≤◌, All, IfOk, length, map, take, vec_len};
 ghost use Rattle.am_pool.specs.Work.{IsReady};
 
-use crate::scenario::{Call, Lane};
+use crate::scenario::{Lane, LaneCall};
 use am_board::fault::Fault;
 use am_board::notice::Report;
 use am_desk::{Desk, Name, Pass};
@@ -17,7 +17,7 @@ use std::thread::{Threads, for_each_mut, join_mut};
 #[derive(Drop)]
 pub struct Seat<N: Name> {
     pass: Pass<N>,
-    calls: Vec<Call>,
+    calls: Vec<LaneCall>,
     /// The position of the call that was refused, and why.
     refused: Option<(usize, Fault)>,
 }
@@ -166,16 +166,16 @@ fn make<N: Name, R: Wait>(
     desk: &Desk<N>,
     pass: &mut Pass<N>,
     at: u64,
-    call: Call,
+    call: LaneCall,
 ) -> Result<(), Fault> {
     match call {
-        Call::Insert(alert) => {
+        LaneCall::Insert(alert) => {
             desk.insert(rt, alloc, pass, at, alert)?;
         }
-        Call::Silence(silence) => {
+        LaneCall::Silence(silence) => {
             desk.silence(rt, alloc, pass, at, silence)?;
         }
-        Call::Maintain => {
+        LaneCall::Maintain => {
             desk.maintain(rt, alloc, pass, at)?;
         }
     }

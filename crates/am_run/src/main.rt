@@ -16,11 +16,11 @@ mod report;
 mod run;
 mod scenario;
 mod sending;
-mod tally;
 #[cfg(test)]
 mod tests;
 mod transfer;
 mod trouble;
+mod usage;
 
 use device::{StandardInput, StandardOutput};
 use run::run_scenario;

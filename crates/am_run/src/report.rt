@@ -1,5 +1,5 @@
 //! The text of the report.
-ghost use Rattle.std.specs.Prelude.{◌≡◌, ◌++◌, ◌≤◌, ◌↔◌, codes, decimal, length, IfOk, IsTrue, OnOk, string_bytes};
+ghost use Rattle.std.specs.Prelude.{◌≡◌, ◌++◌, ◌≤◌, ◌↔◌, ℕ, codes, decimal, length, IfOk, IsTrue, OnOk, string_bytes};
 ghost use Rattle.std.specs.List.{flat_map, join_by};
 ghost use Rattle.std.specs.Option.{option_copied};
 ghost use Rattle.am_alerts.specs.LabelText.{label_set_text};
@@ -8,7 +8,9 @@ ghost use Rattle.am_model.specs.Configured.{route_of, integrations_named};
 ghost use Rattle.am_model.specs.look_back.Past.{notices_in};
 ghost use Rattle.am_model.specs.Replay.{IsLegal};
 ghost use Rattle.am_model.specs.Ticket.{outcome_of};
-ghost use Rattle.am_run.specs.Report.{labels_of, as_it_is, list_text, lists_text, group_text, integration_text, target_text, reported_text, outcome_text, notice_line, row_line, flushed_text, group_line, calls_line, finished_with, outcomes_in, outcome_in, attempts_on, line_on, notice_lines, report_text};
+ghost use Rattle.am_run.specs.Report.{labels_of, as_it_is, list_text, lists_text, group_text, integration_text, target_text};
+ghost use Rattle.am_run.specs.Report.{reported_text, outcome_text, notice_line, row_line, flushed_text, group_line, calls_line};
+ghost use Rattle.am_run.specs.Report.{finished_with, outcomes_in, attempts_on, line_on, notice_lines, report_text};
 
 use am_alerts::alert::Alert;
 use am_alerts::labels::Labels;
@@ -99,7 +101,8 @@ fn notices_in(reply: &Reply) -> &[Notice]
     }
 }
 
-/// Adds the lines on notices that these records follow.
+/// Adds the lines on notices that these records follow. All notices of a begin name its flush, so
+/// what came of it is looked for once.
 fn push_begun(
     config: &Config,
     reports: &[Report],
@@ -110,24 +113,98 @@ fn push_begun(
     ensures { OnOk result (string_bytes out.new
         ≡ string_bytes out.old ++ flat_map (line_on config.now reports.now later.now) notices.now) }
 {
+    let [first, ..] = notices else {
+        return Ok(());
+    };
+    let mut flush = Sending::of(first.ticket, reports, later);
     for notice in notices {
-        let outcome = outcome_in(notice, later);
-        let attempts = attempts_on(notice.ticket, notice.integration, reports);
+        flush = flush.or_of(notice.ticket, reports, later);
+        let outcome = outcome_of(flush.outcomes, notice.integration);
+        let attempts = attempts_on(notice.ticket, notice.integration, flush.reports);
         push_notice(config, notice, outcome, attempts, out)?;
     }
     Ok(())
 }
 
-/// What the sending of a notice came to, as the finish of its flush in these records says.
-fn outcome_in(notice: &Notice, later: &[Record]) -> Option<Outcome>
-    ensures { result ≡ outcome_in notice.now later.now }
-{
-    for record in later {
-        if let Some(outcomes) = finished_with(notice.ticket, &record.call) {
-            return outcome_of(outcomes, notice.integration);
+/// What came of the sending of a flush's notices.
+#[derive(Clone, Copy)]
+struct Sending<'r> {
+    ticket: u64,
+    outcomes: &'r [(u32, Outcome)],
+    /// From the first report on it to the last.
+    reports: &'r [Report],
+}
+
+impl<'r> Sending<'r> {
+    /// What came of this flush, as these reports tell and its finish in these records.
+    fn of(ticket: u64, reports: &'r [Report], later: &'r [Record]) -> Sending<'r>
+        ensures ticket { result.ticket ≡ ticket }
+        ensures outcomes { result.outcomes.now ≡ outcomes_in ticket later.now }
+        ensures attempts { (integration : ℕ) → attempts_on ticket integration result.reports.now
+            ≡ attempts_on ticket integration reports.now }
+    {
+        Sending {
+            ticket,
+            outcomes: outcomes_in(ticket, later),
+            reports: up_to_last_on(ticket, from_first_on(ticket, reports)),
         }
     }
-    None
+
+    /// This, if it is of this flush already; else what came of that one.
+    fn or_of(self, ticket: u64, reports: &'r [Report], later: &'r [Record]) -> Sending<'r>
+        requires outcomes { self.outcomes.now ≡ outcomes_in self.ticket later.now }
+        requires attempts { (integration : ℕ) → attempts_on self.ticket integration self.reports.now
+            ≡ attempts_on self.ticket integration reports.now }
+        ensures ticket { result.ticket ≡ ticket }
+        ensures outcomes { result.outcomes.now ≡ outcomes_in ticket later.now }
+        ensures attempts { (integration : ℕ) → attempts_on ticket integration result.reports.now
+            ≡ attempts_on ticket integration reports.now }
+    {
+        if self.ticket == ticket {
+            self
+        } else {
+            Sending::of(ticket, reports, later)
+        }
+    }
+}
+
+/// The outcomes that the flush of this number is finished with in these records; none where it isn't.
+fn outcomes_in(number: u64, later: &[Record]) -> &[(u32, Outcome)]
+    ensures { result.now ≡ outcomes_in number later.now }
+{
+    for record in later {
+        if let Some(outcomes) = finished_with(number, &record.call) {
+            return outcomes;
+        }
+    }
+    &[]
+}
+
+/// These reports from the first that is on the flush of this number.
+fn from_first_on(number: u64, reports: &[Report]) -> &[Report]
+    ensures { (integration : ℕ) → attempts_on number integration result.now ≡ attempts_on number integration reports.now }
+{
+    let mut rest = reports;
+    loop {
+        match rest {
+            [other, later @ ..] if other.ticket != number => rest = later,
+            _ => return rest,
+        }
+    }
+}
+
+/// These reports up to the last that is on the flush of this number.
+#[tactic(auto, using(crate::proofs::Attempts::another_at_the_end))]
+fn up_to_last_on(number: u64, reports: &[Report]) -> &[Report]
+    ensures { (integration : ℕ) → attempts_on number integration result.now ≡ attempts_on number integration reports.now }
+{
+    let mut rest = reports;
+    loop {
+        match rest.split_last() {
+            Some((other, earlier)) if other.ticket != number => rest = earlier,
+            _ => return rest,
+        }
+    }
 }
 
 /// The outcomes that a call finishes the flush of this number with, if it does.

@@ -19,7 +19,7 @@ mod matcher;
 mod route;
 mod script;
 
-pub use call::Call;
+pub use call::LaneCall;
 use config::read_config;
 pub use script::{Planned, Script};
 
@@ -57,7 +57,7 @@ pub struct Phase {
 /// Calls that are made one after the other.
 #[derive(Drop)]
 pub struct Lane {
-    pub calls: Vec<Call>,
+    pub calls: Vec<LaneCall>,
 }
 
 /// Reads a whole scenario. The first fault in the order of reading is answered.
@@ -104,7 +104,7 @@ impl<'v> FromJson<'v> for Phase {
 
 impl<'v> FromJson<'v> for Lane {
     fn read(reader: &Reader<'v, '_>) -> Result<Lane, ScenarioFault> {
-        let calls = reader.list::<Call>()?;
+        let calls = reader.list::<LaneCall>()?;
         Ok(Lane { calls })
     }
 }

@@ -2,7 +2,7 @@
 use crate::device::{DeviceFault, Sink, Source};
 use crate::fault::{RunFault, Word};
 use crate::run::run_scenario;
-use crate::tally::Usage;
+use crate::usage::Usage;
 use std::alloc::{AllocError, Global};
 use std::process::Abort;
 use std::sync::Wait;
@@ -11,6 +11,7 @@ use std::thread::Threads;
 
 mod devices;
 mod phases;
+mod records;
 mod refused;
 mod runs;
 
@@ -45,13 +46,13 @@ struct Paper {
 }
 
 impl Source for Pieces<'_> {
-    ghost asked = { λ p. p.usage.asked.count };
+    ghost asked = { λ p. p.usage.asked };
 
-    ghost failed = { λ p. p.usage.failed.count };
+    ghost failed = { λ p. p.usage.failed };
 
-    ghost ended = { λ p. p.usage.ended.count };
+    ghost ended = { λ p. p.usage.ended };
 
-    ghost given = { λ p. p.usage.moved.bytes };
+    ghost given = { λ p. p.usage.moved };
 
     fn read(&mut self, buffer: &mut [u8]) -> Result<usize, DeviceFault> {
         if self.good_reads == 0 {
@@ -72,11 +73,11 @@ impl Source for Pieces<'_> {
 }
 
 impl Sink for Paper {
-    ghost asked = { λ p. p.usage.asked.count };
+    ghost asked = { λ p. p.usage.asked };
 
-    ghost failed = { λ p. p.usage.failed.count };
+    ghost failed = { λ p. p.usage.failed };
 
-    ghost taken = { λ p. p.usage.moved.bytes };
+    ghost taken = { λ p. p.usage.moved };
 
     fn write(&mut self, bytes: &[u8]) -> Result<usize, DeviceFault> {
         let count = self.at_once.min(bytes.len());

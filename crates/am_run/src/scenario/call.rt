@@ -8,22 +8,22 @@ use am_mute::silence::Silence;
 
 /// A call of the board.
 #[derive(Drop)]
-pub enum Call {
+pub enum LaneCall {
     Insert(Alert),
     Silence(Silence),
     Maintain,
 }
 
-impl<'v> FromJson<'v> for Call {
-    fn read(reader: &Reader<'v, '_>) -> Result<Call, ScenarioFault> {
+impl<'v> FromJson<'v> for LaneCall {
+    fn read(reader: &Reader<'v, '_>) -> Result<LaneCall, ScenarioFault> {
         let call = reader.object()?;
         let insert = call.optional_as::<Alert>("insert")?;
         let silence = call.optional_as::<Silence>("silence")?;
         let maintain = call.optional("maintain");
         match (insert, silence, maintain) {
-            (Some(alert), None, None) => Ok(Call::Insert(alert)),
-            (None, Some(silence), None) => Ok(Call::Silence(silence)),
-            (None, None, Some(_)) => Ok(Call::Maintain),
+            (Some(alert), None, None) => Ok(LaneCall::Insert(alert)),
+            (None, Some(silence), None) => Ok(LaneCall::Silence(silence)),
+            (None, None, Some(_)) => Ok(LaneCall::Maintain),
             (None, None, None) => Err(reader.refuse(Word::Missing)),
             _ => Err(reader.refuse(Word::Value)),
         }

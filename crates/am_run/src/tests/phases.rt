@@ -28,7 +28,7 @@ impl Courier for Exhausted {
 
     fn send(&mut self, notice: &Notice, attempt: u64, at: u64) -> Result<Sent, AllocError> {
         if attempt > 1 {
-            self.journal = self.journal.with_refusal();
+            self.journal.add_refusal();
             return Err(AllocError);
         }
         let sent = Sent {
@@ -36,7 +36,7 @@ impl Courier for Exhausted {
             ended: at,
         };
         let tried = Tried::new(notice, attempt, at, &sent);
-        self.journal = self.journal.with_try(&tried);
+        self.journal.add_try(&tried);
         Ok(sent)
     }
 }
@@ -73,7 +73,7 @@ fn read(alloc: Global, text: &str) -> Result<Scenario, Fail> {
 }
 
 /// A run of a scenario with the couriers of its own scripts.
-fn play<R: AllocGlobal + Threads + Wait + Sync>(
+pub fn play<R: AllocGlobal + Threads + Wait + Sync>(
     rt: &R,
     text: &str,
 ) -> Result<(Option<ScenarioFault>, Closed), Fail> {

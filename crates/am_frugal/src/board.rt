@@ -1,0 +1,197 @@
+//! Calls on boards: from an opening to finishes that log, that remove and that are refused.
+ghost use Rattle.std.specs.Prelude.{◌≡◌};
+ghost use Rattle.am_frugal.specs.declared.board.TheConstants.{HOME};
+
+use crate::probe::Probe;
+use crate::ticket::OwnTicket;
+use crate::values::{alert, config};
+use am_alerts::alert::Alert;
+use am_board::begin::Begun;
+use am_board::board::Board;
+use am_board::config::Config;
+use am_board::fault::{BoardFault, FinishFault};
+use am_board::reason::Reason;
+use std::alloc::{AllocError, Global};
+
+/// The id of the board, which its tickets name.
+pub const HOME: u64 = 1;
+
+/// The id of another board.
+const ABROAD: u64 = 2;
+
+/// The pass of each call.
+const PASS: u32 = 0;
+
+/// The board.
+#[derive(Drop)]
+struct Desk {
+    board: Board,
+    ghost ours: { board.id ≡ HOME },
+}
+
+pub fn make_calls(probe: &Probe, alloc: Global) -> Result<(), AllocError> {
+    read_faults(probe);
+    match Desk::open(probe, alloc, config(alloc)?) {
+        Ok(mut desk) => desk.make_calls(probe, alloc),
+        Err(_) => Err(AllocError),
+    }
+}
+
+impl Desk {
+    fn open(probe: &Probe, alloc: Global, config: Config) -> Result<Desk, BoardFault> {
+        probe.ask("Board::new");
+        let board = Board::new(alloc, config, HOME)?;
+        probe.tell(&"made");
+        Ok(Desk { board })
+    }
+
+    /// Flushes a group of two alerts that fire, then of the two as they are resolved, and then of
+    /// two that fire again.
+    fn make_calls(&mut self, probe: &Probe, alloc: Global) -> Result<(), AllocError> {
+        self.insert_two(probe, alloc, None)?;
+        look(probe, &self.board);
+        self.flush(probe, alloc, 30_000)?;
+        self.insert_two(probe, alloc, Some(40_000))?;
+        self.flush(probe, alloc, 330_000)?;
+        look(probe, &self.board);
+        self.insert_two(probe, alloc, None)?;
+        self.flush_elsewhere(probe, alloc, 630_000)
+    }
+
+    /// Inserts two alerts of one group.
+    fn insert_two(
+        &mut self,
+        probe: &Probe,
+        alloc: Global,
+        ends: Option<u64>,
+    ) -> Result<(), AllocError> {
+        self.insert(probe, alloc, alert(alloc, "1", ends)?);
+        self.insert(probe, alloc, alert(alloc, "2", ends)?);
+        Ok(())
+    }
+
+    fn insert(&mut self, probe: &Probe, alloc: Global, alert: Alert) {
+        probe.ask("with memory: Board::insert");
+        let inserted = self.board.insert(alloc, PASS, 0, alert);
+        probe.tell(&inserted);
+    }
+
+    /// Begins a flush, sends its notices and finishes it.
+    fn flush(&mut self, probe: &Probe, alloc: Global, now: u64) -> Result<(), AllocError> {
+        match self.begin(probe, alloc, now) {
+            Some(mut own) => {
+                own.make_calls(probe);
+                self.finish(probe, own, now);
+                Ok(())
+            }
+            None => Err(AllocError),
+        }
+    }
+
+    fn begin(&mut self, probe: &Probe, alloc: Global, now: u64) -> Option<OwnTicket> {
+        probe.ask("with memory: Board::begin");
+        let begun = self.board.begin(alloc, PASS, now);
+        probe.tell(&begun.is_ok());
+        match begun {
+            Ok(Begun::Flush(ticket)) => Some(OwnTicket { ticket }),
+            Ok(
+                Begun::Quiet {
+                    group: _,
+                    removed: _,
+                },
+            ) => None,
+            Ok(Begun::NothingDue) => None,
+            Err(_) => None,
+        }
+    }
+
+    fn finish(&mut self, probe: &Probe, own: OwnTicket, now: u64) {
+        let OwnTicket { ticket } = own;
+        probe.ask("Board::finish");
+        match self.board.finish(PASS, ticket, now) {
+            Ok(finished) => probe.tell(&finished),
+            Err(FinishFault::NotOpen) => probe.tell(&"NotOpen"),
+            Err(FinishFault::Foreign(_ticket)) => unreachable!(),
+        }
+    }
+
+    /// Begins a flush, and hands its ticket in elsewhere.
+    fn flush_elsewhere(
+        &mut self,
+        probe: &Probe,
+        alloc: Global,
+        now: u64,
+    ) -> Result<(), AllocError> {
+        let Ok(mut namesake) = Desk::open(probe, alloc, config(alloc)?) else {
+            return Err(AllocError);
+        };
+        let Ok(mut abroad) = Board::new(alloc, config(alloc)?, ABROAD) else {
+            return Err(AllocError);
+        };
+        if let Some(own) = self.begin(probe, alloc, now) {
+            finish_elsewhere(probe, &mut abroad, &mut namesake, own, now);
+        }
+        Ok(())
+    }
+}
+
+/// Hands a ticket in at another board, which gives it back, and then at one with the id of the
+/// ticket's board, which has no such flush.
+fn finish_elsewhere(
+    probe: &Probe,
+    abroad: &mut Board,
+    namesake: &mut Desk,
+    own: OwnTicket,
+    now: u64,
+) {
+    if let Some(own) = finish_abroad(probe, abroad, own, now) {
+        namesake.finish(probe, own, now);
+    }
+}
+
+fn finish_abroad(probe: &Probe, abroad: &mut Board, own: OwnTicket, now: u64) -> Option<OwnTicket> {
+    let OwnTicket { ticket } = own;
+    probe.ask("Board::finish, of a ticket of another board");
+    match abroad.finish(PASS, ticket, now) {
+        Ok(finished) => {
+            probe.tell(&finished);
+            None
+        }
+        Err(FinishFault::NotOpen) => {
+            probe.tell(&"NotOpen");
+            None
+        }
+        Err(FinishFault::Foreign(ticket)) => {
+            probe.tell(&"Foreign");
+            Some(OwnTicket { ticket })
+        }
+    }
+}
+
+fn look(probe: &Probe, board: &Board) {
+    probe.ask("Board::glance");
+    let glance = board.glance();
+    probe.tell(&glance);
+    probe.ask("Board::summary");
+    let summary = board.summary();
+    probe.tell(&summary);
+    probe.ask("Board::history");
+    let history = board.history();
+    probe.tell(&history.len());
+    probe.ask("Board::config");
+    let config = board.config();
+    probe.tell(&config.retention);
+    probe.ask("Board::id");
+    let id = board.id();
+    probe.tell(&id);
+}
+
+/// The numbers of faults, and whether a reason asks.
+fn read_faults(probe: &Probe) {
+    probe.ask("BoardFault::number");
+    let number = BoardFault::NoMemory.number();
+    probe.tell(&number);
+    probe.ask("Reason::asks");
+    let asks = Reason::Repeat.asks();
+    probe.tell(&asks);
+}

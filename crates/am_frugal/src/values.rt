@@ -1,0 +1,120 @@
+//! The values that calls are made with.
+use am_alerts::alert::Alert;
+use am_alerts::labels::Labels;
+use am_alerts::matcher::{Matcher, MatcherParts, Operator};
+use am_alerts::route::{Child, GroupBy, Route, Routes};
+use am_alerts::sequence::Sequence;
+use am_alerts::text::Text;
+use am_board::config::{Config, Integration, Limits, Receiver};
+use am_mute::inhibit::InhibitRule;
+use std::alloc::{AllocError, Global};
+
+/// The labels of an instance of A.
+pub fn labels(alloc: Global, instance: &str) -> Result<Labels, AllocError> {
+    Labels::read(alloc, &[("alertname", "A"), ("inst", instance)]).map_err(|_| AllocError)
+}
+
+/// An alert of an instance of A, which starts at 0.
+pub fn alert(alloc: Global, instance: &str, ends: Option<u64>) -> Result<Alert, AllocError> {
+    Alert::new(labels(alloc, instance)?, 0, ends).map_err(|_| AllocError)
+}
+
+/// Matches the label sets in which this label has this value.
+pub fn matcher(alloc: Global, name: &str, value: &str) -> Result<Matcher, AllocError> {
+    let parts = MatcherParts {
+        name: Text::new(alloc, name)?,
+        op: Operator::Equal,
+        value: Text::new(alloc, value)?,
+    };
+    Matcher::new(alloc, parts).map_err(|_| AllocError)
+}
+
+/// One such matcher, in a list.
+pub fn matchers(alloc: Global, name: &str, value: &str) -> Result<Vec<Matcher>, AllocError> {
+    let matcher = matcher(alloc, name, value)?;
+    listed(alloc, matcher)
+}
+
+/// This name, in a list.
+pub fn names(alloc: Global, name: &str) -> Result<Vec<Text>, AllocError> {
+    let text = Text::new(alloc, name)?;
+    listed(alloc, text)
+}
+
+/// A list of one value.
+pub fn listed<T: Drop>(alloc: Global, value: T) -> Result<Vec<T>, AllocError> {
+    let mut list = Vec::new(alloc);
+    list.push(value)?;
+    Ok(list)
+}
+
+/// A rule by which the instance 1 of A inhibits the instance 2.
+pub fn rule(alloc: Global) -> Result<InhibitRule, AllocError> {
+    let source = matchers(alloc, "inst", "1")?;
+    let target = matchers(alloc, "inst", "2")?;
+    InhibitRule::new(source, target, names(alloc, "alertname")?).map_err(|_| AllocError)
+}
+
+/// A route to the receiver, which groups by alertname and waits 30s, 5m and 4h.
+pub fn route(alloc: Global, name: &str) -> Result<Route, AllocError> {
+    Ok(Route {
+        name: Text::new(alloc, name)?,
+        receiver: Text::new(alloc, "team")?,
+        group_by: GroupBy::Names(Sequence::from(names(alloc, "alertname")?)),
+        group_wait: 30_000,
+        group_interval: 300_000,
+        repeat_interval: 14_400_000,
+    })
+}
+
+/// A child that no label set of this program matches.
+pub fn child(alloc: Global) -> Result<Child, AllocError> {
+    Ok(Child {
+        route: route(alloc, "other")?,
+        matchers: Sequence::from(matchers(alloc, "alertname", "B")?),
+        goes_on: false,
+    })
+}
+
+/// That child, in a list.
+pub fn children(alloc: Global) -> Result<Vec<Child>, AllocError> {
+    let child = child(alloc)?;
+    listed(alloc, child)
+}
+
+/// The root with that child.
+pub fn routes(alloc: Global) -> Result<Routes, AllocError> {
+    let root = route(alloc, "root")?;
+    Routes::new(root, children(alloc)?).map_err(|_| AllocError)
+}
+
+/// One receiver, with two integrations.
+fn receivers(alloc: Global) -> Result<Sequence<Receiver>, AllocError> {
+    let receiver = Receiver {
+        name: Text::new(alloc, "team")?,
+        integrations: integrations(alloc)?,
+    };
+    Ok(Sequence::from(listed(alloc, receiver)?))
+}
+
+fn integrations(alloc: Global) -> Result<Sequence<Integration>, AllocError> {
+    let mut list = Vec::new(alloc);
+    for kind in ["hook", "page"] {
+        list.push(Integration {
+            kind: Text::new(alloc, kind)?,
+            send_resolved: true,
+        })?;
+    }
+    Ok(Sequence::from(list))
+}
+
+/// A configuration of these routes and this receiver, without rules.
+pub fn config(alloc: Global) -> Result<Config, AllocError> {
+    Ok(Config {
+        routes: routes(alloc)?,
+        receivers: receivers(alloc)?,
+        rules: Sequence::empty(alloc),
+        retention: 432_000_000,
+        limits: Limits::default(),
+    })
+}

@@ -1,11 +1,10 @@
 -- No flush asks more integrations than a receiver may have.
-use Rattle.std.proofs.Common.{◌≡◌, ℕ, ◌≤◌, ◌&&◌, cond, true, false, List, [], ◌∷◌, length, filter, ◌∙◌, arith}
-use Rattle.std.specs.List.{AllByRecursion, enumerate_from}
+use Rattle.std.proofs.Common.{ℕ, ◌≤◌, ◌&&◌, cond, true, false, List, [], ◌∷◌, length, filter, arith}
+use Rattle.std.specs.List.{AllByRecursion}
 use Rattle.std.specs.Str.{bytes_eq}
 use Rattle.std.proofs.lemmas.List.FromFn.{length-enumerate_from}
 use Rattle.am_nflog.specs.Members.{is_empty}
 use Rattle.am_model.specs.declared.config.Config.{Config}
-use Rattle.am_model.specs.declared.config.Integration.{Integration}
 use Rattle.am_model.specs.declared.config.Receiver.{Receiver}
 use Rattle.am_model.specs.declared.config.TheConstants.{MAX_INTEGRATIONS}
 use Rattle.am_model.specs.Begin.{label_sets, firing_of, resolved_of, needs, asked_of}

@@ -1,5 +1,5 @@
 -- No row of the log is of a moment after the greatest there is.
-use Rattle.std.proofs.Common.{◌≡◌, ℕ, ◌≤◌, Bool, true, false, Option, Some, None, List, [], ◌∷◌, not, arith, fold, if◌then◌else◌}
+use Rattle.std.proofs.Common.{ℕ, ◌≤◌, true, false, Option, Some, None, List, [], ◌∷◌, not, arith, fold, if◌then◌else◌}
 use Rattle.std.specs.List.{AllByRecursion}
 use Rattle.am_alerts.specs.declared.limits.TheConstants.{MAX_MOMENT}
 use Rattle.am_retry.specs.declared.outcome.Outcome.{Outcome}

@@ -1,14 +1,14 @@
 -- What a begin is to do, by the state, is what looking back finds.
-use Rattle.std.proofs.Common.{◌≡◌, ℕ, ◌≤◌, Option, Some, None, List, [], ◌∷◌, map, refl, sym, ap, ◌∙◌, subst}
+use Rattle.std.proofs.Common.{◌≡◌, ℕ, Option, Some, None, List, refl, sym, ap, subst}
 use Rattle.std.specs.Option.{option_map}
 use Rattle.am_model.specs.declared.config.Config.{Config}
 use Rattle.am_model.specs.declared.record.Record.{Record}
 use Rattle.am_model.specs.Configured.{integrations_of}
-use Rattle.am_model.specs.look_back.Outlook.{muted_of, reason_of, outlook_on, outlook_by, outlook_at, outlook, OutlooksAreFound}
+use Rattle.am_model.specs.look_back.Outlook.{muted_of, reason_of, outlook_on, outlook_by, outlook_at, OutlooksAreFound}
 use Rattle.am_model.specs.look_back.Past.{past_of}
 use Rattle.am_model.specs.look_back.Reasons.{reason_in}
 use Rattle.am_model.specs.Begin.{taken}
-use Rattle.am_model.specs.Replay.{replay, IsLegal}
+use Rattle.am_model.specs.Replay.{replay}
 use Rattle.am_model.specs.State.{GroupState, State, moment}
 use Rattle.am_model.proofs.looking_back.AskedRightly.{reasons-found}
 use Rattle.am_model.proofs.looking_back.FoundAlerts.{steady_past, finds_past}

@@ -139,7 +139,8 @@ pub fn reasons_decide()
     ensures waits { NotYetEnds }
 {}
 
-/// What a begin is to do, worked out of the state alone, is what looking back finds.
+/// The reasons that the state alone gives for what a begin is to do are those that looking back
+/// finds. The group that it takes and what mutes its alerts are read off the state in both.
 pub fn outlooks_look_back()
     ensures { OutlooksAreFound }
 {}

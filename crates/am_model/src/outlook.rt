@@ -8,7 +8,9 @@ use am_mute::mute::MuteCause;
 /// An alert of a group that is muted, and why.
 #[derive(Debug, Drop)]
 pub struct MutedAlert {
+    /// The alert's label set.
     pub labels: Labels,
+    /// The first silence that mutes it, else the first rule.
     pub cause: MuteCause,
 }
 

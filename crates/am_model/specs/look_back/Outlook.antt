@@ -1,4 +1,5 @@
--- Outlook: what a begin is to do with the group that it takes, told before it is made.
+-- Outlook: what a begin is to do with the group that it takes, told before it is made. The group and what mutes its alerts are the
+-- state's; the reasons are told from the history, and by the state too.
 use Rattle.std.specs.Prelude.{◌≡◌, ℕ, List, map, find, Option}
 use Rattle.std.specs.List.{filter_map}
 use Rattle.std.specs.Option.{option_map}
@@ -52,7 +53,7 @@ outlook config history now =
     let t = moment s now in
     outlook_by config s t (λ g. reason_in config g.name t (past_of history))
 
--- after each legal history the state tells what looking back finds
+-- after each legal history the state gives the reasons that looking back finds
 abbrev pub OutlooksAreFound : Type 0
 OutlooksAreFound =
     (config : Config) (id : ℕ) (history : List Record) (now : ℕ)

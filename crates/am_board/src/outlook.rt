@@ -1,6 +1,8 @@
-//! What a begin is to do with the group that it takes, and why.
+//! When a begin takes a group, what it is to do with it, and why.
 ghost use Rattle.std.specs.Prelude.{◌≡◌, ◌+◌, ◌<◌, ◌≤◌, ◌^◌, All, IfOk, IfSome, length, map, option_copied};
 ghost use Rattle.std.specs.List.{enumerate_from, filter_map, IsDistinct};
+ghost use Rattle.am_board.specs.History.{state_at};
+ghost use Rattle.am_model.specs.Begin.{next_due};
 ghost use Rattle.am_model.specs.Configured.{HaveFewIntegrations, integrations_of};
 ghost use Rattle.am_model.specs.Insert.{same_member};
 ghost use Rattle.am_model.specs.State.{moment};
@@ -16,6 +18,7 @@ use crate::board::Board;
 use crate::config::{Config, Integration};
 use crate::flush::ToldSets;
 use crate::group::{Group, GroupName, Member};
+use crate::notice::MAX_DEADLINE;
 use crate::reason::Reason;
 use crate::state::State;
 use crate::unmuted::Unmuted;
@@ -38,6 +41,26 @@ impl Board {
         ensures { IfOk result (λ told. told ≡ outlook self.now.config self.now.history now) }
     {
         outlook_of(alloc, &self.config, &self.state, now)
+    }
+
+    /// When the next group is due of those that have no open flush, in milliseconds; none where there
+    /// is no such group. From this moment on, and not before, a begin takes a group, if nothing
+    /// changes until then. Takes no memory.
+    pub fn next_due(&self) -> Option<u64>
+        ensures { result ≡ next_due (state_at self.now) }
+    {
+        next_due_of(&self.state)
+    }
+}
+
+/// When the next group is due of those that have no open flush.
+fn next_due_of(state: &State) -> Option<u64>
+    ensures { result ≡ next_due (state_of state.now) }
+{
+    let groups = state.groups.as_slice();
+    match first_due(groups, state.flushes.as_slice(), MAX_DEADLINE) {
+        None => None,
+        Some(place) => Some(groups[place].due),
     }
 }
 

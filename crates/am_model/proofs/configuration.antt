@@ -1,3 +1,4 @@
 pub mod Faultless
 pub mod FewAsked
+pub mod GroupReceiver
 pub mod Receivers

@@ -12,7 +12,7 @@ use Rattle.am_mute.specs.Mute.{is_muted}
 use Rattle.am_nflog.specs.Members.{is_empty}
 use Rattle.am_nflog.specs.Needed.{needed}
 use Rattle.am_nflog.specs.declared.row.LogRow.{LogRow}
-use Rattle.am_model.specs.declared.notice.TheConstants.{LEAST_TIME}
+use Rattle.am_model.specs.declared.notice.TheConstants.{LEAST_TIME, MAX_DEADLINE}
 use Rattle.am_model.specs.declared.config.Config.{Config}
 use Rattle.am_model.specs.declared.config.Integration.{Integration}
 use Rattle.am_model.specs.declared.group.GroupName.{GroupName}
@@ -35,6 +35,10 @@ may_begin s t g = nat_le g.due t && not (is_flushing s.flushes g.name)
 -- the group that a begin at t takes
 abbrev pub taken : State → ℕ → Option GroupState
 taken s t = least due_cmp (filter (may_begin s t) s.groups)
+
+-- when the next group is due that has no open flush: the one that a begin at the last moment of all takes
+abbrev pub next_due : State → Option ℕ
+next_due s = option_map (λ g. g.due) (taken s MAX_DEADLINE)
 
 -- an alert as a flush at t copies it: without its end, unless it is resolved
 abbrev pub copied : ℕ → AlertData → AlertData

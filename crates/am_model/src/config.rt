@@ -7,10 +7,12 @@ ghost use Rattle.am_alerts.specs.Fault.{ok_unless};
 ghost use Rattle.am_model.specs.Config.{AreAllowed, IsWithin, is_within, are_allowed, has_receiver, has_receivers, has_receiver_twice};
 ghost use Rattle.am_model.specs.Config.{has_many_integrations, has_good_kinds, greatest_limits, receivers_fault, bounds_fault};
 ghost use Rattle.am_model.specs.Config.{config_fault, kind_at, integration_text};
+ghost use Rattle.am_model.specs.Configured.{route_of, integrations_named};
 
+use crate::group::GroupName;
 use am_alerts::labels::is_label_name;
 use am_alerts::limits::{MAX_CHILDREN, MAX_DURATION};
-use am_alerts::route::{Child, Routes};
+use am_alerts::route::{Child, Route, Routes};
 use am_alerts::sequence::Sequence;
 use am_alerts::text::Text;
 use am_mute::inhibit::InhibitRule;
@@ -145,6 +147,29 @@ impl Config {
             .as_slice()
             .iter()
             .find(|receiver| receiver.name.as_str() == name)
+    }
+
+    /// The route of a group; the root, if no route is at the group's position. A group of a board has
+    /// one.
+    pub fn route_of(&self, group: &GroupName) -> &Route
+        ensures { result.now ≡ route_of self.now group.now }
+    {
+        if group.route as usize <= self.routes.children().len() {
+            self.routes.route(group.route)
+        } else {
+            self.routes.root()
+        }
+    }
+
+    /// The integrations of a group's receiver; none, if there is no such receiver. A group of a board
+    /// has one.
+    pub fn integrations_of(&self, group: &GroupName) -> &[Integration]
+        ensures { result.now ≡ integrations_named (route_of self.now group.now).receiver self.now.receivers }
+    {
+        match self.receiver(self.route_of(group).receiver.as_str()) {
+            None => &[],
+            Some(receiver) => receiver.integrations.as_slice(),
+        }
     }
 
     /// Whether a dispatcher may be configured so. Takes no memory.

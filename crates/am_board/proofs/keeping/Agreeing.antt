@@ -13,7 +13,7 @@ use Rattle.am_nflog.specs.Members.{is_empty}
 use Rattle.am_nflog.specs.Needed.{needed}
 use Rattle.am_retry.specs.declared.outcome.Outcome.{Outcome}
 use Rattle.am_model.proofs.lists.Words.{IsDistinct-put_in}
-use Rattle.am_model.specs.Begin.{entry_of, asked_about, asked_of, firing_of, resolved_of, label_sets, reply_asking, reply_taking, after_asking, after_taking, taken}
+use Rattle.am_model.specs.Begin.{entry_of, asked_about, asked_of, firing_of, resolved_of, label_sets, reply_asking, reply_taking, after_asking, after_taking, taken, next_due}
 use Rattle.am_model.specs.Causes.{insert_cause, silence_cause, begin_cause, maintain_cause, note_cause, asks_some, opens_by, is_full}
 use Rattle.am_model.specs.Configured.{route_of, integrations_of}
 use Rattle.am_model.specs.Ticket.{TicketData}
@@ -188,6 +188,9 @@ module _ (a b : State) (agrees : Agrees a b) where
 
   pub group_views-agrees : group_views a ≡ group_views b
   group_views-agrees = ap group_views agrees.rest
+
+  pub next_due-agrees : next_due a ≡ next_due b
+  next_due-agrees = ap next_due agrees.rest
 
   pub summary_at-agrees : (n : ℕ) → summary_at n a ≡ summary_at n b
   summary_at-agrees n = ap (summary_at n) agrees.rest ∙ ap (λ m. record (summary_at n b) { entries = m }) (sym (length_permutation a.rows b.rows agrees.rows))

@@ -26,7 +26,8 @@ use Rattle.am_retry.specs.declared.outcome.Outcome.{Outcome}
 use Rattle.am_board.specs.Step.{Accepts, Stays, IsAnswer, IsCaused}
 use Rattle.am_model.proofs.legal.FewGroups.{IsInsert}
 use Rattle.am_model.proofs.legal.FewKnown.{IsSilence}
-use Rattle.am_board.proofs.keeping.Agreeing.{row_views-agrees, group_views-agrees, outlook_at-agrees, summary_at-agrees}
+use Rattle.am_model.specs.Begin.{next_due}
+use Rattle.am_board.proofs.keeping.Agreeing.{row_views-agrees, group_views-agrees, next_due-agrees, outlook_at-agrees, summary_at-agrees}
 use Rattle.am_model.specs.Views.{row_views, group_cmp, group_view, group_views, summary_at, summary}
 use Rattle.am_model.specs.Lists.{in_order}
 use Rattle.am_model.specs.declared.views.GroupView.{GroupView}
@@ -200,6 +201,11 @@ module _ (b : Inside) (sound : IsSound b) (now : BoardData) (view_is : seen b b.
   groups_at =
       subst (λ (d : BoardData). group_views (state_of b.state) ≡ group_views (state_at d)) view_is
       (group_views-agrees (state_of b.state) (replay b.config b.state.history.items) sound.agrees)
+
+  pub due_at : next_due (state_of b.state) ≡ next_due (state_at now)
+  due_at =
+      subst (λ (d : BoardData). next_due (state_of b.state) ≡ next_due (state_at d)) view_is
+      (next_due-agrees (state_of b.state) (replay b.config b.state.history.items) sound.agrees)
 
   pub summary_then : summary_at (vec_len b.state.history) (state_of b.state) ≡ summary now.config now.history
   summary_then =

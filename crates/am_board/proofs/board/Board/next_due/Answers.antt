@@ -1,0 +1,6 @@
+use Rattle.std.proofs.Common.{◌∙◌}
+use Rattle.am_board.proofs.keeping.Calls.{due_at}
+use Rattle.am_board.proofs.board.Board.next_due.Goals as goal
+
+pub returns : goal.returns
+returns c = c.next_due_of.ensures ∙ due_at c.self.inside c.self.invariant c.args.self.now c.self.view_is

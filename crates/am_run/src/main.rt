@@ -4,26 +4,8 @@
 //! On a fault it prints one line to standard error, and ends with the fault's status.
 #![tactic(auto)]
 
-mod courier;
-mod device;
-mod fault;
-mod lane;
-mod law;
-mod phase;
-mod place;
-mod reader;
-mod report;
-mod run;
-mod scenario;
-mod sending;
-#[cfg(test)]
-mod tests;
-mod transfer;
-mod trouble;
-mod usage;
-
-use device::{StandardInput, StandardOutput};
-use run::run_scenario;
+use am_cli::device::{StandardInput, StandardOutput};
+use am_scenario::run::run_scenario;
 use std::process::ExitCode;
 
 fn main(rt: HostRuntime) -> ExitCode {

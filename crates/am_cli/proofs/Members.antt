@@ -1,0 +1,22 @@
+-- The members of an object, and the items of an array.
+use Rattle.std.proofs.Common.{◌≡◌, ◌&&◌, ◌∙◌, ℕ, Bool, true, false, not, List, [], ◌∷◌, Option, Some, length, map, find, option_map, refl, sym, ap, is_none, if◌then◌else◌}
+use Rattle.std.specs.List.{list_all}
+use Rattle.serde_json.specs.Data.{Items}
+use Rattle.serde_json.specs.Events.{items_len}
+use Rattle.serde_json.specs.View.{items_view}
+use Rattle.serde_json.specs.declared.value.Value.{Value}
+use Rattle.serde_json.proofs.Views.{items_len-items_view}
+
+-- an array has as many items as there are values
+pub has_all : (array : Option Items) (values : List Value) (n : ℕ) → Some (items_view values) ≡ array → n ≡ length values → option_map items_len array ≡ Some n
+has_all array values n is all = sym (ap (option_map items_len) is) ∙ ap Some (items_len-items_view values ∙ sym all)
+
+-- nothing is found that fails a test where all pass it
+pub none_fails : {A B : Type 0} (test : B → Bool) (f : A → B) (xs : List A) → is_none (find (λ y. not (test y)) (map f xs)) ≡ list_all (λ x. test (f x)) xs
+none_fails test f [] = refl
+none_fails test f (x ∷ xs) = step (test (f x)) (none_fails test f xs)
+  where
+    step : (b : Bool) → is_none (find (λ y. not (test y)) (map f xs)) ≡ list_all (λ z. test (f z)) xs
+        → is_none (if not b then Some (f x) else find (λ y. not (test y)) (map f xs)) ≡ (b && list_all (λ z. test (f z)) xs)
+    step true later = later
+    step false later = refl

@@ -1,0 +1,64 @@
+-- What a reader is at, and how it refuses.
+use Rattle.std.specs.Prelude.{◌≡◌, ◌==◌, ℕ, Bool, List, Option, None, Some, String, if◌then◌else◌}
+use Rattle.std.specs.Prelude.{option_and_then, option_map, string_bytes, IsUtf8}
+use Rattle.std.specs.Borrow.{Bor}
+use Rattle.std.specs.List.{list_all, list_any}
+use Rattle.std.specs.Result.{result_ok}
+use Rattle.std.specs.Str.{bytes_eq}
+use Rattle.std.specs.declared.alloc.Global.{Global}
+use Rattle.serde_json.specs.Data.{Data}
+use Rattle.serde_json.specs.Events.{items_len}
+use Rattle.serde_json.specs.Find.{as_array, as_number, as_str, as_u64}
+use Rattle.serde_json.specs.Read.{read}
+use Rattle.serde_json.specs.declared.value.Value.{Value}
+use Rattle.am_alerts.specs.Duration.{duration_of, within_limit}
+use Rattle.am_cli.specs.declared.fault.InputFault.{InputFault}
+use Rattle.am_cli.specs.declared.fault.InputFault.TheVariants.{NotJson, Refused, NoMemory}
+use Rattle.am_cli.specs.declared.fault.Word.{Word}
+use Rattle.am_cli.specs.declared.reader.Manner.{Manner}
+
+-- a JSON value, and the manner in which it is read
+pub record ReaderData : Type 0 where
+  pub value : Value
+  pub manner : Manner
+
+-- the members of a JSON object, and the manner in which they are read
+pub record ObjectData : Type 0 where
+  pub members : List (String Global × Value)
+  pub manner : Manner
+
+-- the number that a value is, from 0 to 2^64 - 1 and written without point or exponent
+abbrev pub number_in : Data → Option ℕ
+number_in value = option_and_then as_u64 (as_number value)
+
+-- the duration that a value is, in milliseconds
+abbrev pub duration_in : Data → Option ℕ
+duration_in value = option_and_then (λ text. result_ok (within_limit (duration_of text))) (as_str value)
+
+-- the duration that a value is, in milliseconds, if it isn't zero
+abbrev pub interval_in : Data → Option ℕ
+interval_in value = option_and_then (λ duration. if duration == 0 then None else Some duration) (duration_in value)
+
+-- a value is an array of so many items
+abbrev pub HasItems : Data → ℕ → Type 0
+HasItems value count = option_map items_len (as_array value) ≡ Some count
+
+-- refused by this word, or for want of memory to tell the place
+abbrev pub IsRefusedBy : Word → InputFault → Type 0
+IsRefusedBy word (NotJson line column) = ⊥
+IsRefusedBy word (Refused place by) = by ≡ word
+IsRefusedBy word NoMemory = Unit {0}
+
+-- why bytes are no value: they are no JSON text, or memory was refused
+abbrev pub RefusesText : List ℕ → InputFault → Type 0
+RefusesText input (NotJson line column) = IsUtf8 input → read input ≡ None
+RefusesText input (Refused place by) = ⊥
+RefusesText input NoMemory = Unit {0}
+
+-- whether a name is one of these
+abbrev pub is_one_of : List (Bor (List ℕ)) → List ℕ → Bool
+is_one_of names name = list_any (λ known. bytes_eq known.now name) names
+
+-- whether the name of each of these members is one of these
+abbrev pub are_named : List (Bor (List ℕ)) → List (String Global × Value) → Bool
+are_named names members = list_all (λ m. is_one_of names (string_bytes m.0)) members

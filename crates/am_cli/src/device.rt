@@ -1,0 +1,133 @@
+//! Where an input comes from, and where what is made of it goes.
+ghost use Rattle.std.specs.Prelude.{◌≡◌, ◌≤◌, ◌+◌, ◌++◌, ◌==◌, List, ℕ, length, IfOk, is_ok, if◌then◌else◌};
+ghost use Rattle.std.specs.Result.{result_unwrap_or};
+ghost use Rattle.am_cli.specs.Bytes.{moved, is_end};
+
+use crate::usage::Usage;
+use std::io::{Read, Stdin, Stdout, Write};
+
+/// A read or a write failed.
+#[derive(Clone, Copy, Debug, PartialEq, Eq)]
+pub struct DeviceFault;
+
+/// Where bytes are read from.
+///
+/// Contracts see how often it was asked, how often it failed, how often it told its end, and the
+/// list of the bytes that it gave.
+pub trait Source {
+    ghost asked: { Self → ℕ };
+
+    ghost failed: { Self → ℕ };
+
+    ghost ended: { Self → ℕ };
+
+    ghost given: { Self → List ℕ };
+
+    /// Reads into the front of the buffer, and answers how many bytes. None is the end of the
+    /// input, where the buffer isn't empty.
+    fn read(&mut self, buffer: &mut [u8]) -> Result<usize, DeviceFault>
+        ensures within { IfOk result (λ count. count ≤ length buffer.new) }
+        ensures asks { asked self.new ≡ asked self.old + 1 }
+        ensures fails { failed self.new ≡ failed self.old + (if is_ok result then 0 else 1) }
+        ensures ends { ended self.new ≡ ended self.old + (if is_end result buffer.new then 1 else 0) }
+        ensures gives { given self.new ≡ given self.old ++ moved result buffer.new };
+}
+
+/// Where bytes are written to.
+///
+/// Contracts see how often it was asked, how often it failed and the list of the bytes that it took.
+pub trait Sink {
+    ghost asked: { Self → ℕ };
+
+    ghost failed: { Self → ℕ };
+
+    ghost taken: { Self → List ℕ };
+
+    /// Writes from the front of the bytes, and answers how many it took. To take none is to fail.
+    fn write(&mut self, bytes: &[u8]) -> Result<usize, DeviceFault>
+        ensures within { IfOk result (λ count. count ≤ length bytes.now) }
+        ensures asks { asked self.new ≡ asked self.old + 1 }
+        ensures fails { failed self.new ≡ failed self.old
+            + (if result_unwrap_or result 0 == 0 then 1 else 0) }
+        ensures takes { taken self.new ≡ taken self.old ++ moved result bytes.now };
+}
+
+/// The standard input.
+#[derive(Drop)]
+pub struct StandardInput {
+    stdin: Stdin,
+    usage: Usage,
+}
+
+/// The standard output.
+#[derive(Drop)]
+pub struct StandardOutput {
+    stdout: Stdout,
+    usage: Usage,
+}
+
+impl StandardInput {
+    pub fn new(stdin: Stdin) -> StandardInput {
+        StandardInput {
+            stdin,
+            usage: Usage::none(),
+        }
+    }
+}
+
+impl StandardOutput {
+    pub fn new(stdout: Stdout) -> StandardOutput {
+        StandardOutput {
+            stdout,
+            usage: Usage::none(),
+        }
+    }
+}
+
+impl Source for StandardInput {
+    ghost asked = { λ i. i.usage.asked };
+
+    ghost failed = { λ i. i.usage.failed };
+
+    ghost ended = { λ i. i.usage.ended };
+
+    ghost given = { λ i. i.usage.moved };
+
+    fn read(&mut self, buffer: &mut [u8]) -> Result<usize, DeviceFault> {
+        match self.stdin.read(buffer) {
+            Ok(0) if !buffer.is_empty() => {
+                self.usage.add_end();
+                Ok(0)
+            }
+            Ok(count) => {
+                self.usage.add_success(&buffer[..count]);
+                Ok(count)
+            }
+            Err(_) => {
+                self.usage.add_failure();
+                Err(DeviceFault)
+            }
+        }
+    }
+}
+
+impl Sink for StandardOutput {
+    ghost asked = { λ o. o.usage.asked };
+
+    ghost failed = { λ o. o.usage.failed };
+
+    ghost taken = { λ o. o.usage.moved };
+
+    fn write(&mut self, bytes: &[u8]) -> Result<usize, DeviceFault> {
+        match self.stdout.write(bytes) {
+            Ok(count) if count > 0 => {
+                self.usage.add_success(&bytes[..count]);
+                Ok(count)
+            }
+            _ => {
+                self.usage.add_failure();
+                Err(DeviceFault)
+            }
+        }
+    }
+}

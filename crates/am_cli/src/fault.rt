@@ -1,0 +1,68 @@
+//! Why an input is refused.
+use std::alloc::{AllocError, AllocFailed};
+use std::fmt;
+use thiserror::Error;
+
+/// Why a value of an input is refused at its place.
+#[derive(Clone, Copy, Debug, PartialEq, Eq)]
+pub enum Word {
+    /// A member that must be there isn't.
+    Missing,
+    /// Another kind of JSON value is wanted there.
+    Kind,
+    /// The kind is right, and the value is refused.
+    Value,
+    /// Nobody knows a member of this name, which the strict manner refuses.
+    Unknown,
+    /// A call of the board was refused for want of room.
+    Full,
+}
+
+/// Why nothing is made of the bytes of an input.
+#[derive(Debug, Drop, Error)]
+pub enum InputFault {
+    /// They are no JSON text in UTF-8, for what stands at this line and column. Both count from 1, the
+    /// column in bytes; 0 is the column of a line's end before it.
+    #[error("not JSON: line {line}, column {column}")]
+    NotJson { line: usize, column: usize },
+    /// A value is refused; the place is a JSON pointer.
+    #[error("refused at {place}: {word}")]
+    Refused { place: String, word: Word },
+    /// Memory was refused.
+    #[error("no memory")]
+    NoMemory,
+}
+
+impl From<AllocError> for InputFault {
+    ghost use Rattle.std.specs.Prelude.{◌≡◌};
+    ghost use Rattle.am_cli.specs.declared.fault.InputFault.TheVariants as input_fault;
+
+    ghost from_gives = { λ _ fault. fault ≡ input_fault.NoMemory };
+
+    fn from(_refused: AllocError) -> InputFault {
+        InputFault::NoMemory
+    }
+}
+
+impl<T: Drop> From<AllocFailed<T>> for InputFault {
+    ghost use Rattle.std.specs.Prelude.{◌≡◌};
+    ghost use Rattle.am_cli.specs.declared.fault.InputFault.TheVariants as input_fault;
+
+    ghost from_gives = { λ _ fault. fault ≡ input_fault.NoMemory };
+
+    fn from(_refused: AllocFailed<T>) -> InputFault {
+        InputFault::NoMemory
+    }
+}
+
+impl fmt::Display for Word {
+    fn fmt<W: fmt::Write>(&self, f: &mut fmt::Formatter<W>) -> fmt::Result {
+        f.write_str(match self {
+            Word::Missing => "missing",
+            Word::Kind => "kind",
+            Word::Value => "value",
+            Word::Unknown => "unknown",
+            Word::Full => "full",
+        })
+    }
+}

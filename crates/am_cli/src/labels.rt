@@ -1,0 +1,61 @@
+//! Label sets.
+use crate::fault::{InputFault, Word};
+use crate::reader::{FromJson, Manner, Reader};
+use am_alerts::labels::{LabelFault, Labels, is_label_name};
+use am_alerts::limits::MAX_LABEL_BYTES;
+
+/// The name of a label and its value: an array of two texts.
+impl<'v> FromJson<'v> for (&'v str, &'v str) {
+    fn read(reader: &Reader<'v, '_>) -> Result<(&'v str, &'v str), InputFault> {
+        let (name, value) = reader.pair()?;
+        Ok((name.text()?, value.text()?))
+    }
+}
+
+/// Reads a label set: an array of pairs of a name and a value, or in the strict manner also an object
+/// whose members are the labels. Refused as a whole, or in the strict manner at the label at fault: of
+/// two of one name the second.
+pub fn read_labels(reader: &Reader<'_, '_>) -> Result<Labels, InputFault> {
+    let pairs = read_pairs(reader)?;
+    match Labels::read(reader.alloc(), pairs.as_slice()) {
+        Ok(labels) => Ok(labels),
+        Err(LabelFault::NoMemory) => Err(InputFault::NoMemory),
+        Err(fault) => Err(refuse_pairs(reader, pairs.as_slice(), fault)),
+    }
+}
+
+fn read_pairs<'v>(reader: &Reader<'v, '_>) -> Result<Vec<(&'v str, &'v str)>, InputFault> {
+    if reader.manner() == Manner::Strict && reader.is_object() {
+        return reader.object()?.texts();
+    }
+    reader.list::<(&str, &str)>()
+}
+
+fn refuse_pairs(reader: &Reader<'_, '_>, pairs: &[(&str, &str)], fault: LabelFault) -> InputFault {
+    let place = reader.place();
+    for (position, (name, value)) in pairs.iter().enumerate() {
+        if is_at_fault(&pairs[..position], name, value, fault) {
+            return if reader.is_object() {
+                reader.refuse_at(&place.member(name), Word::Value)
+            } else {
+                reader.refuse_at(&place.item(position), Word::Value)
+            };
+        }
+    }
+    reader.refuse(Word::Value)
+}
+
+/// Whether a fault of pairs is that of this one, which comes behind these.
+fn is_at_fault(before: &[(&str, &str)], name: &str, value: &str, fault: LabelFault) -> bool {
+    match fault {
+        LabelFault::BadName => !is_label_name(name),
+        LabelFault::TooLong => name.len() > MAX_LABEL_BYTES || value.len() > MAX_LABEL_BYTES,
+        LabelFault::Twice => {
+            !value.is_empty()
+                && before
+                    .iter()
+                    .any(|(earlier, value)| *earlier == name && !value.is_empty())
+        }
+        LabelFault::Empty | LabelFault::TooMany | LabelFault::NoMemory => false,
+    }
+}

@@ -1,0 +1,19 @@
+//! What the programs share: devices whose bytes contracts see, JSON that is read with its places,
+//! and the form of a configuration.
+#![tactic(auto)]
+
+pub mod config;
+pub mod device;
+pub mod duration;
+pub mod fault;
+pub mod labels;
+mod matcher;
+mod matcher_text;
+pub mod place;
+pub mod reader;
+mod refusal;
+mod route;
+#[cfg(test)]
+mod tests;
+pub mod transfer;
+pub mod usage;

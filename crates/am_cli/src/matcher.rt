@@ -1,0 +1,100 @@
+//! Matchers, and the inhibition rules that are made of them.
+use crate::fault::{InputFault, Word};
+use crate::matcher_text::parts_of_text;
+use crate::reader::{FromJson, Manner, Reader};
+use am_alerts::limits::{MAX_LABEL_BYTES, MAX_MATCHERS};
+use am_alerts::matcher::{Matcher, MatcherFault, MatcherParts, Operator};
+use am_alerts::text::Text;
+use am_mute::inhibit::{InhibitRule, RuleFault};
+
+/// Where the name stands in a matcher of three texts.
+const NAME: usize = 0;
+
+/// Where the operator stands.
+const OPERATOR: usize = 1;
+
+/// Where the value stands.
+const VALUE: usize = 2;
+
+/// Three texts, or in the strict manner also one.
+impl<'v> FromJson<'v> for Matcher {
+    fn read(reader: &Reader<'v, '_>) -> Result<Matcher, InputFault> {
+        if reader.manner() == Manner::Strict && reader.is_text() {
+            return read_one_text(reader);
+        }
+        read_three_texts(reader)
+    }
+}
+
+fn read_one_text(reader: &Reader<'_, '_>) -> Result<Matcher, InputFault> {
+    let Some(parts) = parts_of_text(reader.alloc(), reader.text()?)? else {
+        return Err(reader.refuse(Word::Value));
+    };
+    match Matcher::new(reader.alloc(), parts) {
+        Ok(matcher) => Ok(matcher),
+        Err(MatcherFault::NoMemory) => Err(InputFault::NoMemory),
+        Err(_) => Err(reader.refuse(Word::Value)),
+    }
+}
+
+fn read_three_texts(reader: &Reader<'_, '_>) -> Result<Matcher, InputFault> {
+    let place = reader.place();
+    let (name, operator, value) = reader.three_texts()?;
+    let Some(op) = operator_of(operator) else {
+        return Err(reader.refuse_at(&place.item(OPERATOR), Word::Value));
+    };
+    let parts = MatcherParts {
+        name: Text::new(reader.alloc(), name)?,
+        op,
+        value: Text::new(reader.alloc(), value)?,
+    };
+    match Matcher::new(reader.alloc(), parts) {
+        Ok(matcher) => Ok(matcher),
+        Err(MatcherFault::NoMemory) => Err(InputFault::NoMemory),
+        Err(fault) => Err(reader.refuse_at(&place.item(part_at_fault(fault, name)), Word::Value)),
+    }
+}
+
+/// Which of the three texts is at fault.
+fn part_at_fault(fault: MatcherFault, name: &str) -> usize {
+    match fault {
+        MatcherFault::BadName => NAME,
+        MatcherFault::TooLong if name.len() > MAX_LABEL_BYTES => NAME,
+        _ => VALUE,
+    }
+}
+
+/// The operator that is written so.
+fn operator_of(text: &str) -> Option<Operator> {
+    match text {
+        "=" => Some(Operator::Equal),
+        "!=" => Some(Operator::NotEqual),
+        "=~" => Some(Operator::Like),
+        "!~" => Some(Operator::NotLike),
+        _ => None,
+    }
+}
+
+impl<'v> FromJson<'v> for InhibitRule {
+    fn read(reader: &Reader<'v, '_>) -> Result<InhibitRule, InputFault> {
+        let rule = reader.object()?;
+        rule.only(&["source", "target", "equal"])?;
+        let source = rule.list_or_none::<Matcher>("source")?;
+        let target = rule.list_or_none::<Matcher>("target")?;
+        let equal = rule.list_or_none::<Text>("equal")?;
+        let sources = source.len();
+        InhibitRule::new(source, target, equal).map_err(|fault| {
+            let list = list_at_fault(fault, sources);
+            reader.refuse_at(&reader.place().member(list), Word::Value)
+        })
+    }
+}
+
+/// Which list of a rule, with so many source matchers, is at fault.
+fn list_at_fault(fault: RuleFault, sources: usize) -> &'static str {
+    match fault {
+        RuleFault::TooManyNames => "equal",
+        RuleFault::TooManyMatchers if sources > MAX_MATCHERS => "source",
+        RuleFault::TooManyMatchers => "target",
+    }
+}

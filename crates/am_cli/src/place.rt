@@ -1,0 +1,63 @@
+//! Where something stands in an input.
+ghost use Rattle.am_cli.specs.Read.{IsRefusedBy};
+
+use crate::fault::{InputFault, Word};
+use std::alloc::{AllocError, Global};
+
+/// A place in an input: the way down to it from the top. Its text is a JSON pointer.
+#[derive(Clone, Copy)]
+pub enum Place<'a> {
+    Top,
+    Member { above: &'a Place<'a>, name: &'a str },
+    Item { above: &'a Place<'a>, index: usize },
+}
+
+impl<'a> Place<'a> {
+    /// The place of a member of the object here.
+    pub fn member(&'a self, name: &'a str) -> Place<'a> {
+        Place::Member { above: self, name }
+    }
+
+    /// The place of an item of the array here.
+    pub fn item(&'a self, index: usize) -> Place<'a> {
+        Place::Item { above: self, index }
+    }
+
+    /// The fault that refuses what stands here.
+    pub fn refuse(&self, alloc: Global, word: Word) -> InputFault
+        ensures { IsRefusedBy word result }
+    {
+        let mut place = String::new(alloc);
+        match self.push_text(&mut place) {
+            Ok(()) => InputFault::Refused { place, word },
+            Err(_) => InputFault::NoMemory,
+        }
+    }
+
+    fn push_text(&self, out: &mut String) -> Result<(), AllocError> {
+        match self {
+            Place::Top => Ok(()),
+            Place::Member { above, name } => {
+                above.push_text(out)?;
+                out.push_str("/")?;
+                push_name(name, out)
+            }
+            Place::Item { above, index } => {
+                above.push_text(out)?;
+                write!(out, "/{index}")
+            }
+        }
+    }
+}
+
+/// Adds a member's name, as a JSON pointer writes it: `~` as `~0`, and `/` as `~1`.
+fn push_name(name: &str, out: &mut String) -> Result<(), AllocError> {
+    for character in name.chars() {
+        match character {
+            '~' => out.push_str("~0")?,
+            '/' => out.push_str("~1")?,
+            _ => out.push(character)?,
+        }
+    }
+    Ok(())
+}

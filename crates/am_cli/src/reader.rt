@@ -1,0 +1,463 @@
+//! Going down a JSON value, with the place at each step.
+ghost use Rattle.std.specs.Prelude.{◌≡◌, ◌<◌, ◌≤◌, [], Some, IfErr, IfOk, IfSome, MatchOption};
+ghost use Rattle.std.specs.Prelude.{find, is_ok, is_some, not, option_and_then, option_map, string_bytes, vec_len};
+ghost use Rattle.std.specs.BTreeMap.{keys};
+ghost use Rattle.std.specs.Option.{option_copied};
+ghost use Rattle.std.specs.Result.{result_ok};
+ghost use Rattle.serde_json.specs.Find.{as_array, as_bool, as_null, as_object, as_str, get_member};
+ghost use Rattle.serde_json.specs.Read.{read as read_text};
+ghost use Rattle.serde_json.specs.View.{items_view, members_view, view};
+ghost use Rattle.am_cli.specs.Read.{HasItems, IsRefusedBy, RefusesText, are_named, is_one_of, number_in};
+
+use crate::fault::{InputFault, Word};
+use crate::place::Place;
+use am_alerts::text::Text;
+use serde_json::{Map, Value};
+use std::alloc::Global;
+use std::marker::Model;
+
+/// How much a reader takes, and where it refuses.
+#[derive(Clone, Copy, Debug, PartialEq, Eq)]
+pub enum Manner {
+    /// Members of unknown names are passed over. What is made of several values is refused at the value
+    /// that holds them.
+    Lenient,
+    /// A member of an unknown name is refused, and so is each value at its very own place. Labels may be
+    /// an object of texts, and a matcher may be one text.
+    Strict,
+}
+
+/// A JSON value and its place.
+#[derive(Drop)]
+pub struct Reader<'v, 'p> {
+    alloc: Global,
+    value: &'v Value,
+    place: Place<'p>,
+    manner: Manner,
+}
+
+/// A JSON object and its place.
+#[derive(Drop)]
+pub struct Object<'v, 'p> {
+    alloc: Global,
+    members: &'v Map<String, Value>,
+    place: Place<'p>,
+    manner: Manner,
+}
+
+impl<'v, 'p> Model for Reader<'v, 'p> {
+    ghost use Rattle.std.specs.Coded.{codes};
+    ghost use Rattle.serde_json.specs.contracts.value.Value as json;
+    ghost use Rattle.am_cli.specs.Read.{ReaderData};
+
+    ghost Value = { ReaderData };
+
+    ghost coded = { Prim.hlevel (codes, json.the_row.coded) };
+
+    ghost view = { λ r. record { value = r.value.now; manner = r.manner } };
+}
+
+impl<'v, 'p> Model for Object<'v, 'p> {
+    ghost use Rattle.std.specs.Coded.{codes};
+    ghost use Rattle.serde_json.specs.contracts.value.Value as json;
+    ghost use Rattle.am_cli.specs.Read.{ObjectData};
+
+    ghost Value = { ObjectData };
+
+    ghost coded = { Prim.hlevel (codes, json.the_row.coded) };
+
+    ghost view = { λ o. record { members = o.members.now.entries; manner = o.manner } };
+}
+
+/// What is read from a JSON value.
+pub trait FromJson<'v>: Drop + Sized {
+    /// Reads it. The first fault is answered, at its place.
+    fn read(reader: &Reader<'v, '_>) -> Result<Self, InputFault>;
+}
+
+/// The JSON value that these bytes are. Refused as `NotJson` or for want of memory, with no place.
+pub fn parse(alloc: Global, input: &[u8]) -> Result<Value, InputFault>
+    ensures value { IfOk result (λ value. read_text input.now ≡ Some (view value)) }
+    ensures refused { IfErr result (RefusesText input.now) }
+{
+    match Value::from_slice(alloc, input) {
+        Ok(value) => Ok(value),
+        Err(refused) if refused.is_memory() => Err(InputFault::NoMemory),
+        Err(refused) => Err(InputFault::NotJson {
+            line: refused.line(),
+            column: refused.column(),
+        }),
+    }
+}
+
+impl<'v, 'p> Reader<'v, 'p> {
+    /// The value as a whole, which is read in the lenient manner.
+    pub fn top(alloc: Global, value: &'v Value) -> Reader<'v, 'p>
+        ensures value { result.value ≡ value.now }
+        ensures manner { result.manner ≡ Manner.Lenient }
+    {
+        Reader {
+            alloc,
+            value,
+            place: Place::Top,
+            manner: Manner::Lenient,
+        }
+    }
+
+    /// The value as a whole, which is read in the strict manner.
+    pub fn strict(alloc: Global, value: &'v Value) -> Reader<'v, 'p>
+        ensures value { result.value ≡ value.now }
+        ensures manner { result.manner ≡ Manner.Strict }
+    {
+        Reader {
+            alloc,
+            value,
+            place: Place::Top,
+            manner: Manner::Strict,
+        }
+    }
+
+    /// The allocator of what is read.
+    pub fn alloc(&self) -> Global {
+        self.alloc
+    }
+
+    /// The manner of reading.
+    pub fn manner(&self) -> Manner
+        ensures { result ≡ self.now.manner }
+    {
+        self.manner
+    }
+
+    /// Where this value stands.
+    pub fn place(&self) -> &Place<'p> {
+        &self.place
+    }
+
+    /// The fault that refuses a value at a place below this one; in the lenient manner, this value.
+    pub fn refuse_at(&self, below: &Place<'_>, word: Word) -> InputFault
+        ensures { IsRefusedBy word result }
+    {
+        match self.manner {
+            Manner::Lenient => self.refuse(word),
+            Manner::Strict => below.refuse(self.alloc, word),
+        }
+    }
+
+    /// The fault that refuses this value.
+    pub fn refuse(&self, word: Word) -> InputFault
+        ensures { IsRefusedBy word result }
+    {
+        self.place.refuse(self.alloc, word)
+    }
+
+    /// Whether the value is an object.
+    pub fn is_object(&self) -> bool
+        ensures { result ≡ is_some (as_object (view self.now.value)) }
+    {
+        self.value.is_object()
+    }
+
+    /// Whether the value is a text.
+    pub fn is_text(&self) -> bool
+        ensures { result ≡ is_some (as_str (view self.now.value)) }
+    {
+        self.value.is_string()
+    }
+
+    /// Whether the value is `null`.
+    pub fn is_null(&self) -> bool
+        ensures { result ≡ is_some (as_null (view self.now.value)) }
+    {
+        self.value.is_null()
+    }
+
+    /// The object that this value is, or `Kind`.
+    pub fn object(&self) -> Result<Object<'v, 'p>, InputFault>
+        ensures members { option_map (λ o. members_view o.members) (result_ok result) ≡ as_object (view self.now.value) }
+        ensures manner { IfOk result (λ object. object.manner ≡ self.now.manner) }
+        ensures refused { IfErr result (IsRefusedBy Word.Kind) }
+    {
+        match self.value.as_object() {
+            None => Err(self.refuse(Word::Kind)),
+            Some(members) => Ok(Object {
+                alloc: self.alloc,
+                members,
+                place: self.place,
+                manner: self.manner,
+            }),
+        }
+    }
+
+    /// A whole number from 0 to 2^64 - 1, written without point or exponent, or `Kind`.
+    pub fn number(&self) -> Result<u64, InputFault>
+        ensures number { result_ok result ≡ number_in (view self.now.value) }
+        ensures refused { IfErr result (IsRefusedBy Word.Kind) }
+    {
+        match self.value.as_u64() {
+            None => Err(self.refuse(Word::Kind)),
+            Some(number) => Ok(number),
+        }
+    }
+
+    /// A number that is at most so great, or else `Value`.
+    pub fn number_up_to(&self, most: u64) -> Result<u64, InputFault>
+        ensures number { IfOk result (λ number. number_in (view self.now.value) ≡ Some number) }
+        ensures bound { IfOk result (λ number. number ≤ most) }
+        ensures refused { IfErr result (λ fault. MatchOption (number_in (view self.now.value))
+            (IsRefusedBy Word.Kind fault) (λ n. (most < n) × IsRefusedBy Word.Value fault)) }
+    {
+        let number = self.number()?;
+        if number > most {
+            return Err(self.refuse(Word::Value));
+        }
+        Ok(number)
+    }
+
+    /// `true` or `false`, or `Kind`.
+    pub fn flag(&self) -> Result<bool, InputFault>
+        ensures flag { result_ok result ≡ as_bool (view self.now.value) }
+        ensures refused { IfErr result (IsRefusedBy Word.Kind) }
+    {
+        match self.value.as_bool() {
+            None => Err(self.refuse(Word::Kind)),
+            Some(flag) => Ok(flag),
+        }
+    }
+
+    /// The text that this value is, or `Kind`.
+    pub fn text(&self) -> Result<&'v str, InputFault>
+        ensures text { option_map (λ t. t.now) (result_ok result) ≡ as_str (view self.now.value) }
+        ensures refused { IfErr result (IsRefusedBy Word.Kind) }
+    {
+        match self.value.as_str() {
+            None => Err(self.refuse(Word::Kind)),
+            Some(text) => Ok(text),
+        }
+    }
+
+    /// The items of an array, each read wholly before the next. `Kind` where there is no array.
+    pub fn list<T: FromJson<'v>>(&self) -> Result<Vec<T>, InputFault>
+        ensures { IfOk result (λ items. HasItems (view self.now.value) (vec_len items)) }
+    {
+        let mut items = Vec::new(self.alloc);
+        let values = self.array()?;
+        for (index, value) in values.iter().enumerate() {
+            items.push(T::read(&self.item(index, value))?)?;
+        }
+        Ok(items)
+    }
+
+    /// The items of an array that has at most so many, or else `Value`. They are read before they are
+    /// counted.
+    pub fn list_up_to<T: FromJson<'v>>(&self, most: usize) -> Result<Vec<T>, InputFault>
+        ensures count { IfOk result (λ items. HasItems (view self.now.value) (vec_len items)) }
+        ensures bound { IfOk result (λ items. vec_len items ≤ most) }
+    {
+        let items = self.list::<T>()?;
+        if items.len() > most {
+            return Err(self.refuse(Word::Value));
+        }
+        Ok(items)
+    }
+
+    /// The items of an array of length two, or `Kind`.
+    pub fn pair<'q>(&'q self) -> Result<(Reader<'v, 'q>, Reader<'v, 'q>), InputFault> {
+        match self.array()? {
+            [first, second] => Ok((self.item(0, first), self.item(1, second))),
+            _ => Err(self.refuse(Word::Kind)),
+        }
+    }
+
+    /// The texts of an array of length three, or `Kind`.
+    pub fn three_texts(&self) -> Result<(&'v str, &'v str, &'v str), InputFault> {
+        match self.array()? {
+            [first, second, third] => {
+                let first = self.item(0, first).text()?;
+                let second = self.item(1, second).text()?;
+                Ok((first, second, self.item(2, third).text()?))
+            }
+            _ => Err(self.refuse(Word::Kind)),
+        }
+    }
+
+    fn array(&self) -> Result<&'v [Value], InputFault>
+        ensures items { option_map (λ s. items_view s.now) (result_ok result) ≡ as_array (view self.now.value) }
+        ensures refused { IfErr result (IsRefusedBy Word.Kind) }
+    {
+        match self.value.as_array() {
+            None => Err(self.refuse(Word::Kind)),
+            Some(items) => Ok(items.as_slice()),
+        }
+    }
+
+    fn item<'q>(&'q self, index: usize, value: &'v Value) -> Reader<'v, 'q> {
+        Reader {
+            alloc: self.alloc,
+            value,
+            place: self.place.item(index),
+            manner: self.manner,
+        }
+    }
+}
+
+impl<'v> Object<'v, '_> {
+    /// The allocator of what is read.
+    pub fn alloc(&self) -> Global {
+        self.alloc
+    }
+
+    /// In the strict manner refuses, as `Unknown`, the first member, by name, that has none of these
+    /// names.
+    pub fn only(&self, names: &[&str]) -> Result<(), InputFault>
+        ensures lenient { self.now.manner ≡ Manner.Lenient → result ≡ Ok tt }
+        ensures strict { self.now.manner ≡ Manner.Strict → is_ok result ≡ are_named names.now self.now.members }
+        ensures refused { IfErr result (IsRefusedBy Word.Unknown) }
+    {
+        if self.manner == Manner::Lenient {
+            return Ok(());
+        }
+        match unnamed(self.members, names) {
+            None => Ok(()),
+            Some(name) => {
+                let member = self.place.member(name.as_str());
+                Err(member.refuse(self.alloc, Word::Unknown))
+            }
+        }
+    }
+
+    /// The names of the members with their texts, by name. `Kind` for a member that is none.
+    pub fn texts(&self) -> Result<Vec<(&'v str, &'v str)>, InputFault> {
+        let mut texts = Vec::new(self.alloc);
+        for (name, value) in self.members.iter() {
+            let member = self.member(name.as_str(), value);
+            texts.push((name.as_str(), member.text()?))?;
+        }
+        Ok(texts)
+    }
+
+    /// A member, if it is there.
+    pub fn optional<'q>(&'q self, name: &'q str) -> Option<Reader<'v, 'q>>
+        ensures value { option_map (λ r. view r.value) result ≡ get_member name.now (members_view self.now.members) }
+        ensures manner { IfSome result (λ r. r.manner ≡ self.now.manner) }
+    {
+        match member_of(self.members, name) {
+            None => None,
+            Some(value) => Some(self.member(name, value)),
+        }
+    }
+
+    fn member<'q>(&'q self, name: &'q str, value: &'v Value) -> Reader<'v, 'q>
+        ensures value { result.value ≡ value.now }
+        ensures manner { result.manner ≡ self.now.manner }
+    {
+        Reader {
+            alloc: self.alloc,
+            value,
+            place: self.place.member(name),
+            manner: self.manner,
+        }
+    }
+
+    /// A member that must be there, or `Missing`.
+    pub fn required<'q>(&'q self, name: &'q str) -> Result<Reader<'v, 'q>, InputFault>
+        ensures value { option_map (λ r. view r.value) (result_ok result)
+            ≡ get_member name.now (members_view self.now.members) }
+        ensures manner { IfOk result (λ r. r.manner ≡ self.now.manner) }
+        ensures refused { IfErr result (IsRefusedBy Word.Missing) }
+    {
+        match self.optional(name) {
+            None => Err(self.place.member(name).refuse(self.alloc, Word::Missing)),
+            Some(member) => Ok(member),
+        }
+    }
+
+    /// What is read from a member, if it is there.
+    pub fn optional_as<T: FromJson<'v>>(&self, name: &str) -> Result<Option<T>, InputFault> {
+        match self.optional(name) {
+            None => Ok(None),
+            Some(member) => Ok(Some(T::read(&member)?)),
+        }
+    }
+
+    /// A number, or what it is if the member isn't there.
+    pub fn number_or(&self, name: &str, absent: u64) -> Result<u64, InputFault>
+        ensures value { MatchOption (get_member name.now (members_view self.now.members)) (result ≡ Ok absent)
+            (λ member. result_ok result ≡ number_in member) }
+        ensures refused { IfErr result (IsRefusedBy Word.Kind) }
+    {
+        match self.optional(name) {
+            None => Ok(absent),
+            Some(member) => member.number(),
+        }
+    }
+
+    /// A flag, or what it is if the member isn't there.
+    pub fn flag_or(&self, name: &str, absent: bool) -> Result<bool, InputFault>
+        ensures value { MatchOption (get_member name.now (members_view self.now.members)) (result ≡ Ok absent)
+            (λ member. result_ok result ≡ as_bool member) }
+        ensures refused { IfErr result (IsRefusedBy Word.Kind) }
+    {
+        match self.optional(name) {
+            None => Ok(absent),
+            Some(member) => member.flag(),
+        }
+    }
+
+    /// The items of an array, or none if the member isn't there.
+    pub fn list_or_none<T: FromJson<'v>>(&self, name: &str) -> Result<Vec<T>, InputFault>
+        ensures { IfOk result (λ items.
+            MatchOption (get_member name.now (members_view self.now.members)) (items.items ≡ [])
+            (λ member. HasItems member (vec_len items))) }
+    {
+        match self.optional(name) {
+            None => Ok(Vec::new(self.alloc)),
+            Some(member) => member.list::<T>(),
+        }
+    }
+
+    /// The items of an array that has at most so many, or none if the member isn't there.
+    pub fn list_up_to<T: FromJson<'v>>(&self, name: &str, most: usize) -> Result<Vec<T>, InputFault>
+        ensures { IfOk result (λ items. vec_len items ≤ most) }
+    {
+        match self.optional(name) {
+            None => Ok(Vec::new(self.alloc)),
+            Some(member) => member.list_up_to::<T>(most),
+        }
+    }
+
+    /// A copy of a text that must be there, or `Missing`.
+    pub fn required_text(&self, name: &str) -> Result<Text, InputFault>
+        ensures { IfOk result (λ text.
+            option_and_then as_str (get_member name.now (members_view self.now.members)) ≡ Some text) }
+    {
+        Ok(Text::new(self.alloc, self.required(name)?.text()?)?)
+    }
+}
+
+/// The value of a member, if it is there.
+fn member_of<'v>(members: &'v Map<String, Value>, name: &str) -> Option<&'v Value>
+    ensures { option_map (λ v. view v.now) result
+        ≡ get_member name.now (members_view members.now.entries) }
+{
+    members.get(name)
+}
+
+/// The first member, by name, that has none of these names.
+fn unnamed<'m>(members: &'m Map<String, Value>, names: &[&str]) -> Option<&'m String>
+    ensures { option_copied result ≡ find (λ name. not (is_one_of names.now (string_bytes name))) (keys members.now) }
+{
+    members.keys().find(|name| !is_one_of(names, name.as_str()))
+}
+
+fn is_one_of(names: &[&str], name: &str) -> bool
+    ensures { result ≡ is_one_of names.now name.now }
+{
+    names.iter().any(|known| *known == name)
+}
+
+impl<'v> FromJson<'v> for Text {
+    fn read(reader: &Reader<'v, '_>) -> Result<Text, InputFault> {
+        Ok(Text::new(reader.alloc(), reader.text()?)?)
+    }
+}

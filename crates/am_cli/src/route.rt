@@ -1,0 +1,120 @@
+//! The routing tree of a configuration.
+use crate::duration::{duration_or, interval_or};
+use crate::fault::{InputFault, Word};
+use crate::reader::{FromJson, Object, Reader};
+use am_alerts::limits::{MAX_MATCHERS, MAX_NAMES};
+use am_alerts::matcher::Matcher;
+use am_alerts::route::{Child, GroupBy, Route};
+use am_alerts::sequence::Sequence;
+use am_alerts::text::Text;
+
+/// How long a new group waits until it is flushed: 30 seconds, in milliseconds.
+const GROUP_WAIT: u64 = 30_000;
+
+/// How long a group waits from flush to flush: 5 minutes, in milliseconds.
+const GROUP_INTERVAL: u64 = 300_000;
+
+/// When a notice without news is repeated: after 4 hours, in milliseconds.
+const REPEAT_INTERVAL: u64 = 14_400_000;
+
+/// Stands in `group_by` for all labels.
+pub(crate) const ALL_LABELS: &str = "...";
+
+/// What the root and its children have alike: all of a route but its name.
+#[derive(Drop)]
+struct Options {
+    receiver: Text,
+    group_by: GroupBy,
+    group_wait: u64,
+    group_interval: u64,
+    repeat_interval: u64,
+}
+
+impl Options {
+    fn read(route: &Object<'_, '_>) -> Result<Options, InputFault> {
+        let receiver = route.required_text("receiver")?;
+        let group_by = read_group_by(route)?;
+        let group_wait = duration_or(route, "group_wait", GROUP_WAIT)?;
+        let group_interval = interval_or(route, "group_interval", GROUP_INTERVAL)?;
+        let repeat_interval = interval_or(route, "repeat_interval", REPEAT_INTERVAL)?;
+        Ok(Options {
+            receiver,
+            group_by,
+            group_wait,
+            group_interval,
+            repeat_interval,
+        })
+    }
+
+    fn named(self, name: Text) -> Route {
+        let Options {
+            receiver,
+            group_by,
+            group_wait,
+            group_interval,
+            repeat_interval,
+        } = self;
+        Route {
+            name,
+            receiver,
+            group_by,
+            group_wait,
+            group_interval,
+            repeat_interval,
+        }
+    }
+}
+
+/// Reads the root route.
+pub fn read_root(reader: &Reader<'_, '_>) -> Result<Route, InputFault> {
+    let root = reader.object()?;
+    root.only(&[
+        "receiver",
+        "group_by",
+        "group_wait",
+        "group_interval",
+        "repeat_interval",
+    ])?;
+    let options = Options::read(&root)?;
+    Ok(options.named(Text::new(reader.alloc(), "root")?))
+}
+
+impl<'v> FromJson<'v> for Child {
+    fn read(reader: &Reader<'v, '_>) -> Result<Child, InputFault> {
+        let child = reader.object()?;
+        child.only(&[
+            "receiver",
+            "group_by",
+            "group_wait",
+            "group_interval",
+            "repeat_interval",
+            "name",
+            "matchers",
+            "continue",
+        ])?;
+        let options = Options::read(&child)?;
+        let name = child.required_text("name")?;
+        let matchers = child.list_up_to::<Matcher>("matchers", MAX_MATCHERS)?;
+        let goes_on = child.flag_or("continue", false)?;
+        Ok(Child {
+            route: options.named(name),
+            matchers: Sequence::from(matchers),
+            goes_on,
+        })
+    }
+}
+
+/// The labels by which a route groups. `...` stands for all of them, and alone.
+fn read_group_by(route: &Object<'_, '_>) -> Result<GroupBy, InputFault> {
+    let Some(member) = route.optional("group_by") else {
+        return Ok(GroupBy::Names(Sequence::empty(route.alloc())));
+    };
+    let names = member.list_up_to::<Text>(MAX_NAMES)?;
+    if !names.iter().any(|name| name.as_str() == ALL_LABELS) {
+        return Ok(GroupBy::Names(Sequence::from(names)));
+    }
+    if names.len() > 1 {
+        return Err(member.refuse(Word::Value));
+    }
+    Ok(GroupBy::All)
+}

@@ -1,0 +1,74 @@
+//! Reading a whole input and writing all of a text.
+ghost use Rattle.std.specs.Prelude.{◌≡◌, ◌≤◌, ◌<◌, ◌+◌, ◌++◌, ◌⊎◌, ◌↔◌, length, IfOk, IsErr, OnOk};
+
+use crate::device::{Sink, Source};
+use std::alloc::Global;
+use thiserror::Error;
+
+/// How many bytes an input may have: 16 MiB.
+pub const MAX_INPUT: usize = 16_777_216;
+
+/// How many bytes are asked for at once.
+const CHUNK: usize = 8_192;
+
+/// Why an input wasn't read to its end.
+#[derive(Clone, Copy, Debug, PartialEq, Eq, Error)]
+pub enum ReadFault {
+    /// A read failed, or the input has more than 16,777,216 bytes.
+    #[error("input not readable")]
+    Unreadable,
+    /// Memory was refused.
+    #[error("no memory")]
+    NoMemory,
+}
+
+/// A write failed. Some of the bytes may have been written.
+#[derive(Clone, Copy, Debug, PartialEq, Eq, Error)]
+#[error("output not writable")]
+pub struct Unwritable;
+
+/// Reads to the end of the input. A read that fails isn't tried again. No more than one byte
+/// beyond the greatest input is asked for.
+pub fn read_all<S: Source>(alloc: Global, source: &mut S) -> Result<Vec<u8>, ReadFault>
+    ensures whole { IfOk result (λ input.
+        S.given source.new ≡ S.given source.old ++ input.items) }
+    ensures ended { OnOk result (S.ended source.new ≡ S.ended source.old + 1) }
+    ensures asked { S.asked source.new ≤ S.asked source.old + (MAX_INPUT + 1) }
+    ensures unreadable { (result ≡ Err ReadFault.Unreadable)
+        ↔ ((S.failed source.old < S.failed source.new)
+        ⊎ (length (S.given source.old) + MAX_INPUT < length (S.given source.new))) }
+{
+    let mut input = Vec::new(alloc);
+    let mut chunk = [0u8; CHUNK];
+    loop {
+        let wanted = CHUNK.min(MAX_INPUT + 1 - input.len());
+        let given = match source.read(&mut chunk[..wanted]) {
+            Ok(given) => given,
+            Err(_) => return Err(ReadFault::Unreadable),
+        };
+        if given == 0 {
+            return Ok(input);
+        }
+        if input.len() + given > MAX_INPUT {
+            return Err(ReadFault::Unreadable);
+        }
+        if input.extend_from_slice(&chunk[..given]).is_err() {
+            return Err(ReadFault::NoMemory);
+        }
+    }
+}
+
+/// Writes all of these bytes. A write that takes none has failed.
+pub fn write_all<K: Sink>(sink: &mut K, bytes: &[u8]) -> Result<(), Unwritable>
+    ensures whole { OnOk result (K.taken sink.new ≡ K.taken sink.old ++ bytes.now) }
+    ensures unwritable { IsErr result ↔ (K.failed sink.old < K.failed sink.new) }
+{
+    let mut rest = bytes;
+    while !rest.is_empty() {
+        match sink.write(rest) {
+            Err(_) | Ok(0) => return Err(Unwritable),
+            Ok(taken) => rest = &rest[taken..],
+        }
+    }
+    Ok(())
+}

@@ -1,4 +1,0 @@
-pub mod Faults
-pub mod Bytes
-pub mod Report
-pub mod FirstRun

@@ -1,9 +1,0 @@
-//! Worked runs: the definitions, run on them.
-ghost use Rattle.am_run.specs.FirstRun.{FirstIsLegal, FirstIsTold};
-
-/// The history of the first worked run is legal, and its report has the four lines that were worked
-/// out by hand. It does nothing: what it says is its contract.
-pub fn first_run_is_told()
-    ensures legal { FirstIsLegal }
-    ensures told { FirstIsTold }
-{}

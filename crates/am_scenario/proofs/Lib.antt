@@ -1,0 +1,4 @@
+pub mod FirstRun
+pub mod Attempts
+pub mod Lanes
+pub mod Crossing

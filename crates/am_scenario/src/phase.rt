@@ -1,0 +1,319 @@
+//! The phases of a run.
+ghost use Rattle.std.specs.Prelude.{◌≡◌, ◌<◌, ◌≤◌, ◌+◌, IfOk, map, vec_len};
+ghost use Rattle.std.specs.List.{range_with_len};
+ghost use Rattle.am_alerts.specs.declared.limits.TheConstants.{MAX_MOMENT};
+ghost use Rattle.am_desk.specs.Desks.{AreFresh};
+ghost use Rattle.am_desk.specs.Terms.{terms_of};
+
+use crate::lane::{Seat, run_beside, seats_for};
+use crate::scenario::{Lane, Phase};
+use crate::sending::{jobs_of, last_end, report_on};
+use crate::trouble::{Refused, Troubles};
+use am_board::begin::Begun;
+use am_board::config::MAX_HISTORY;
+use am_board::fault::{Fault, NoteFault};
+use am_board::notice::Report;
+use am_cli::fault::{InputFault, Word};
+use am_cli::place::Place;
+use am_desk::{CloseFault, Closed, Desk, Name, OwnTicket, Pass};
+use am_pool::{Courier, PoolFault};
+use am_retry::Outcome;
+use std::alloc::Global;
+use std::sync::Wait;
+use std::thread::Threads;
+
+/// A run: its desk, and what has come of it.
+#[derive(Drop)]
+pub struct Run<N: Name> {
+    alloc: Global,
+    desk: Desk<N>,
+    /// The main thread's, which begins, notes and finishes.
+    main: Pass<N>,
+    /// Lane i has seat i, with the pass i + 1.
+    seats: Vec<Seat<N>>,
+    /// Has room for all passes.
+    passes: Vec<Pass<N>>,
+    troubles: Troubles,
+    /// The reports on the notices so far.
+    reports: Vec<Report>,
+    ghost seated: { vec_len seats + 1 ≡ N.plan.passes },
+}
+
+impl<N: Name + Send + Sync> Run<N> {
+    /// A run on a desk with all its passes. Refused for want of memory.
+    pub fn new(alloc: Global, desk: Desk<N>, passes: Vec<Pass<N>>) -> Result<Run<N>, InputFault>
+        requires { AreFresh 0 passes.items × (vec_len passes ≡ N.plan.passes) × (0 < N.plan.passes) }
+    {
+        Run::seated(alloc, desk, passes)
+    }
+
+    /// A run in which lane i has the pass i + 1.
+    fn seated(alloc: Global, desk: Desk<N>, mut passes: Vec<Pass<N>>) -> Result<Run<N>, InputFault>
+        requires { AreFresh 0 passes.items × (vec_len passes ≡ N.plan.passes) × (0 < N.plan.passes) }
+        ensures { IfOk result (λ run. (run.main.number ≡ 0)
+            × (map (λ s. s.pass.number) run.seats.items ≡ range_with_len 1 (vec_len run.seats))) }
+    {
+        let main = passes.remove(0);
+        let seats = seats_for(alloc, &mut passes)?;
+        Ok(Run {
+            alloc,
+            desk,
+            main,
+            seats,
+            passes,
+            troubles: Troubles::none(),
+            reports: Vec::new(alloc),
+        })
+    }
+
+    /// The closed desk, and the reports on the notices.
+    pub fn close(self) -> Result<(Closed, Vec<Report>), InputFault>
+        ensures { IfOk result (λ r. terms_of r.0 ≡ N.terms) }
+    {
+        let Run {
+            alloc,
+            desk,
+            main,
+            seats,
+            mut passes,
+            troubles: _,
+            reports,
+        } = self;
+        put_back(&mut passes, main, seats)?;
+        Ok((close(alloc, desk, passes)?, reports))
+    }
+
+    /// Runs the phase of this index, with couriers for its notices. All flushes that it begins are
+    /// finished, whatever happens; where a begin is refused, with nothing recorded.
+    pub fn run_phase<R: Threads + Wait + Sync, C: Courier + Send>(
+        &mut self,
+        rt: &R,
+        couriers: &mut [C],
+        index: usize,
+        phase: Phase,
+    ) -> Result<(), InputFault>
+        requires { vec_len phase.lanes < N.plan.passes }
+    {
+        let Phase { at, flush, lanes } = phase;
+        let mut tickets = Vec::new(self.alloc);
+        let mut reports = Vec::new(self.alloc);
+        if flush {
+            self.begin_all(rt, at, &mut tickets);
+        }
+        if self.troubles.are_none() {
+            reports = self.run_beside(rt, couriers, at, tickets.as_slice(), lanes);
+            self.settle_all(rt, at, &mut tickets, reports.as_slice());
+        }
+        self.finish_all(rt, at, tickets, reports.as_slice());
+        self.keep(reports.as_slice());
+        self.troubles.verdict(self.alloc, index)
+    }
+
+    /// Begins flushes until no group is due, or as many are open as may be.
+    fn begin_all<R: Wait>(&mut self, rt: &R, at: u64, tickets: &mut Vec<OwnTicket<N>>) {
+        // Each begin leaves a record: the history is full before this ends.
+        for _ in 0..MAX_HISTORY + 1 {
+            if !self.begin(rt, at, tickets) {
+                return;
+            }
+        }
+    }
+
+    /// Begins a flush. Answers whether there may be more to begin.
+    fn begin<R: Wait>(&mut self, rt: &R, at: u64, tickets: &mut Vec<OwnTicket<N>>) -> bool {
+        if tickets.reserve(1).is_err() {
+            self.troubles.add_no_memory();
+            return false;
+        }
+        match self.desk.begin(rt, self.alloc, &mut self.main, at) {
+            Ok(Begun::NothingDue) => false,
+            Ok(
+                Begun::Quiet {
+                    group: _,
+                    removed: _,
+                },
+            ) => true,
+            Ok(Begun::Flush(ticket)) => {
+                tickets.push_reserved(OwnTicket::new(ticket));
+                true
+            }
+            // The groups that are left stay due.
+            Err(Fault::TooManyOpen) => false,
+            Err(fault) => {
+                self.troubles.refuse(fault, Refused::Begin);
+                false
+            }
+        }
+    }
+
+    /// Runs the lanes, and sends beside them the notices that have something to send. Answers the
+    /// reports, by ticket and integration.
+    fn run_beside<R: Threads + Wait + Sync, C: Courier + Send>(
+        &mut self,
+        rt: &R,
+        couriers: &mut [C],
+        at: u64,
+        tickets: &[OwnTicket<N>],
+        lanes: Vec<Lane>,
+    ) -> Vec<Report>
+        requires start { at ≤ MAX_MOMENT }
+        requires lanes { vec_len lanes < N.plan.passes }
+    {
+        let Ok(jobs) = jobs_of(self.alloc, tickets, at) else {
+            self.troubles.add_no_memory();
+            return Vec::new(self.alloc);
+        };
+        let sent = run_beside(
+            rt,
+            self.alloc,
+            &self.desk,
+            at,
+            self.seats.as_mut_slice(),
+            lanes,
+            couriers,
+            jobs.as_slice(),
+        );
+        hear_lanes(self.seats.as_slice(), &mut self.troubles);
+        self.hear_couriers(sent)
+    }
+
+    /// The reports of the couriers.
+    fn hear_couriers(&mut self, sent: Result<Vec<Report>, PoolFault>) -> Vec<Report> {
+        match sent {
+            Ok(reports) => {
+                if reports
+                    .iter()
+                    .any(|report| report.outcome == Outcome::Starved)
+                {
+                    self.troubles.add_no_memory();
+                }
+                reports
+            }
+            Err(PoolFault::NoMemory) => {
+                self.troubles.add_no_memory();
+                Vec::new(self.alloc)
+            }
+            Err(_) => {
+                self.troubles.add(Refused::Ending);
+                Vec::new(self.alloc)
+            }
+        }
+    }
+
+    /// Keeps the reports of a phase.
+    fn keep(&mut self, reports: &[Report]) {
+        if self.reports.extend_from_slice(reports).is_err() {
+            self.troubles.add_no_memory();
+        }
+    }
+
+    /// Records the reports, and notes each success.
+    fn settle_all<R: Wait>(
+        &mut self,
+        rt: &R,
+        at: u64,
+        tickets: &mut Vec<OwnTicket<N>>,
+        reports: &[Report],
+    ) {
+        for own in tickets.iter_mut() {
+            if !record_all(own, reports) {
+                self.troubles.add(Refused::Ending);
+            }
+            self.settle(rt, at, own, reports);
+        }
+    }
+
+    fn settle<R: Wait>(&mut self, rt: &R, at: u64, own: &OwnTicket<N>, reports: &[Report]) {
+        let ticket = own.ticket();
+        for (place, notice) in ticket.notices().iter().enumerate() {
+            if notice.nothing() || ticket.outcome(place) == Some(Outcome::Delivered) {
+                let report = report_on(reports, ticket.number(), notice.integration);
+                let end = match report {
+                    None => at,
+                    Some(report) => report.ended.max(at),
+                };
+                self.note(rt, end, own, place);
+            }
+        }
+    }
+
+    /// Logs the success of a notice. Where the history has no room the finish logs it.
+    fn note<R: Wait>(&mut self, rt: &R, now: u64, own: &OwnTicket<N>, place: usize) {
+        match self
+            .desk
+            .note(rt, self.alloc, &mut self.main, own.ticket(), place, now)
+        {
+            Ok(_) | Err(NoteFault::HistoryFull) => {}
+            Err(NoteFault::NoMemory) => self.troubles.add_no_memory(),
+            Err(_) => self.troubles.add(Refused::Ending),
+        }
+    }
+
+    /// Finishes the flushes, by number, each when the sending of its notices was over.
+    fn finish_all<R: Wait>(
+        &mut self,
+        rt: &R,
+        at: u64,
+        tickets: Vec<OwnTicket<N>>,
+        reports: &[Report],
+    ) {
+        let mut left = tickets;
+        while !left.is_empty() {
+            let own = left.remove(0);
+            let now = last_end(reports, own.ticket().number(), at);
+            if self.desk.finish_own(rt, &mut self.main, own, now).is_err() {
+                self.troubles.add(Refused::Ending);
+            }
+        }
+        left.destroy_empty();
+    }
+}
+
+/// Adds the refused calls of the lanes, by lane.
+fn hear_lanes<N: Name>(seats: &[Seat<N>], troubles: &mut Troubles) {
+    for (lane, seat) in seats.iter().enumerate() {
+        if let Some((call, fault)) = seat.refused() {
+            troubles.refuse(fault, Refused::Call { lane, call });
+        }
+    }
+}
+
+/// Records those of the reports that are on this ticket. Answers whether none was refused.
+fn record_all<N: Name>(own: &mut OwnTicket<N>, reports: &[Report]) -> bool {
+    let mut all = true;
+    for report in reports {
+        if report.ticket == own.ticket().number() && own.record(*report).is_err() {
+            all = false;
+        }
+    }
+    all
+}
+
+/// Puts the passes of a run together again.
+fn put_back<N: Name>(
+    passes: &mut Vec<Pass<N>>,
+    main: Pass<N>,
+    seats: Vec<Seat<N>>,
+) -> Result<(), InputFault> {
+    passes.push(main)?;
+    for seat in seats {
+        passes.push(seat.into_pass())?;
+    }
+    Ok(())
+}
+
+/// Closes the desk of a run. No flush is open, and no pass is missing.
+fn close<N: Name>(alloc: Global, desk: Desk<N>, passes: Vec<Pass<N>>) -> Result<Closed, InputFault>
+    ensures { IfOk result (λ closed. terms_of closed ≡ N.terms) }
+{
+    match desk.close(passes) {
+        Ok(closed) => Ok(closed),
+        Err(
+            CloseFault {
+                cause: _,
+                desk: _desk,
+                passes: _passes,
+            },
+        ) => Err(Place::Top.refuse(alloc, Word::Full)),
+    }
+}

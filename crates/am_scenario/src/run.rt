@@ -1,0 +1,157 @@
+//! The run of a scenario, from its bytes to its report.
+ghost use Rattle.std.specs.Prelude.{◌≡◌, ◌≢◌, ◌≤◌, ◌<◌, ◌+◌, ◌++◌, ◌⊎◌, ◌↔◌, All, List, ℕ, length, vec_len};
+ghost use Rattle.std.specs.Prelude.{IfErr, IfOk, OnOk, string_bytes};
+ghost use Rattle.am_desk.specs.Desks.{AreFresh};
+ghost use Rattle.am_desk.specs.Terms.{terms};
+ghost use Rattle.am_scenario.specs.Report.{IsReportOf};
+ghost use Rattle.am_scenario.specs.declared.run.TheConstants.{BOARD_ID};
+ghost use Rattle.am_scenario.specs.declared.scenario.TheConstants.{MAX_LANES};
+
+use crate::courier::couriers_for;
+use crate::fault::RunFault;
+use crate::phase::Run;
+use crate::report::report_text;
+use crate::scenario::{Phase, Scenario, read_scenario};
+use am_board::config::Config;
+use am_cli::device::{Sink, Source};
+use am_cli::fault::{InputFault, Word};
+use am_cli::place::Place;
+use am_cli::reader::parse;
+use am_cli::transfer::{MAX_INPUT, read_all, write_all};
+use am_desk::{Blank, BlankFault, Brand, Desk, Name, OpenFault, Pass};
+use std::alloc::Global;
+use std::sync::Wait;
+use std::thread::Threads;
+
+/// The id of the desk of a run.
+pub const BOARD_ID: u64 = 1;
+
+/// Reads a scenario from the source, runs it and writes its report to the sink.
+///
+/// The report is the text of a history that is legal. It is made whole before its first byte is
+/// written: on every fault but `Unwritable` the sink wasn't asked.
+pub fn run_scenario<R: AllocGlobal + Threads + Wait + Sync, S: Source, K: Sink>(
+    rt: &R,
+    source: &mut S,
+    sink: &mut K,
+) -> Result<(), RunFault>
+    ensures asked { S.asked source.new ≤ S.asked source.old + (MAX_INPUT + 1) }
+    ensures unreadable { (result ≡ Err RunFault.Unreadable)
+        ↔ ((S.failed source.old < S.failed source.new)
+        ⊎ (length (S.given source.old) + MAX_INPUT < length (S.given source.new))) }
+    ensures unwritable { (result ≡ Err RunFault.Unwritable)
+        ↔ (K.failed sink.old < K.failed sink.new) }
+    ensures unwritten { IfErr result (λ fault.
+        fault ≢ RunFault.Unwritable → sink.new ≡ sink.old) }
+    ensures ended { OnOk result (S.ended source.new ≡ S.ended source.old + 1) }
+    ensures written { OnOk result ((report : List ℕ) × IsReportOf BOARD_ID report
+        × (K.taken sink.new ≡ K.taken sink.old ++ report)) }
+{
+    let alloc = rt.alloc();
+    let input = read_all(alloc, source)?;
+    let report = report_of(rt, alloc, input.as_slice())?;
+    Ok(write_all(sink, report.as_bytes())?)
+}
+
+/// The report on the scenario that these bytes are.
+fn report_of<R: Threads + Wait + Sync>(
+    rt: &R,
+    alloc: Global,
+    input: &[u8],
+) -> Result<String, InputFault>
+    ensures { IfOk result (λ text. IsReportOf BOARD_ID (string_bytes text)) }
+{
+    let scenario = read(alloc, input)?;
+    play(rt, alloc, scenario)
+}
+
+/// The scenario that these bytes are. Of the JSON value nothing is kept.
+fn read(alloc: Global, input: &[u8]) -> Result<Scenario, InputFault> {
+    let value = parse(alloc, input)?;
+    read_scenario(alloc, &value)
+}
+
+/// Plays a scenario on a desk of its own, and makes its report.
+fn play<R: Threads + Wait + Sync>(
+    rt: &R,
+    alloc: Global,
+    scenario: Scenario,
+) -> Result<String, InputFault>
+    ensures { IfOk result (λ text. IsReportOf BOARD_ID (string_bytes text)) }
+{
+    let blank = blank_for(alloc, scenario.phases.as_slice())?;
+    play_on::<Brand, R>(rt, alloc, scenario, blank)
+}
+
+/// Plays a scenario on the desk of this name, and makes its report.
+fn play_on<N: Name + Send + Sync, R: Threads + Wait + Sync>(
+    rt: &R,
+    alloc: Global,
+    scenario: Scenario,
+    blank: Blank,
+) -> Result<String, InputFault>
+    requires name { (blank ≡ N.plan) × (terms scenario.config blank.id ≡ N.terms) }
+    requires id { blank.id ≡ BOARD_ID }
+    requires lanes { All (λ p. vec_len p.lanes < blank.passes) scenario.phases.items }
+    ensures { IfOk result (λ text. IsReportOf BOARD_ID (string_bytes text)) }
+{
+    let Scenario {
+        config,
+        workers,
+        scripts,
+        phases,
+    } = scenario;
+    let (desk, passes) = open::<N>(alloc, config, blank)?;
+    let mut couriers = couriers_for(alloc, workers, scripts.as_slice())?;
+    let mut run = Run::new(alloc, desk, passes)?;
+    for (index, phase) in phases.into_iter().enumerate() {
+        run.run_phase(rt, couriers.as_mut_slice(), index, phase)?;
+    }
+    let (closed, reports) = run.close()?;
+    Ok(report_text(alloc, &closed, reports.as_slice())?)
+}
+
+/// The blank of a desk with a pass for the main thread and one for each lane of the phase that has
+/// most of them.
+pub fn blank_for(alloc: Global, phases: &[Phase]) -> Result<Blank, InputFault>
+    ensures id { IfOk result (λ blank. blank.id ≡ BOARD_ID) }
+    ensures lanes { IfOk result (λ blank. All (λ p. vec_len p.lanes < blank.passes) phases.now) }
+{
+    let lanes = most_lanes(phases);
+    match Blank::new(alloc, BOARD_ID, 1 + lanes as u32) {
+        Ok(blank) => Ok(blank),
+        Err(BlankFault::NoMemory) => Err(InputFault::NoMemory),
+        Err(BlankFault::BadCount) => unreachable!(),
+    }
+}
+
+/// How many lanes the phase has that has most of them.
+fn most_lanes(phases: &[Phase]) -> usize
+    ensures most { All (λ p. vec_len p.lanes ≤ result) phases.now }
+    ensures few { result ≤ MAX_LANES }
+{
+    let mut most = 0;
+    for phase in phases {
+        most = phase.lanes.len().max(most);
+    }
+    most
+}
+
+/// The desk of a run, with its passes.
+pub fn open<N: Name>(
+    alloc: Global,
+    config: Config,
+    blank: Blank,
+) -> Result<(Desk<N>, Vec<Pass<N>>), InputFault>
+    requires { (blank ≡ N.plan) × (terms config blank.id ≡ N.terms) }
+    ensures { IfOk result (λ r. AreFresh 0 r.1.items × (vec_len r.1 ≡ N.plan.passes) × (0 < N.plan.passes)) }
+{
+    match Desk::<N>::open(alloc, config, blank) {
+        Ok(opened) => Ok(opened),
+        Err(OpenFault::NoMemory) => Err(InputFault::NoMemory),
+        Err(OpenFault::BadConfig(_)) => {
+            let top = Place::Top;
+            Err(top.member("config").refuse(alloc, Word::Value))
+        }
+    }
+}

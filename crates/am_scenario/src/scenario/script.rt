@@ -1,0 +1,75 @@
+//! What is answered to the attempts of a notice.
+use am_alerts::limits::MAX_DURATION;
+use am_cli::fault::{InputFault, Word};
+use am_cli::reader::{FromJson, Reader};
+use am_retry::Answer;
+
+/// The answers to the attempts of one notice, in their order. The last one is that of all attempts
+/// that follow.
+#[derive(Drop)]
+pub struct Script {
+    pub ticket: u64,
+    pub integration: u64,
+    pub answers: Vec<Planned>,
+}
+
+/// The answer to an attempt.
+#[derive(Clone, Copy)]
+pub struct Planned {
+    pub answer: Answer,
+    /// How long the attempt lasts, in milliseconds.
+    pub lasts: u64,
+}
+
+impl Script {
+    /// The answer to the attempt of this number, from 1.
+    pub fn answer_to(&self, attempt: u64) -> Planned {
+        let answers = self.answers.as_slice();
+        match (
+            answers.get(attempt.saturating_sub(1) as usize),
+            answers.last(),
+        ) {
+            (Some(planned), _) | (None, Some(planned)) => *planned,
+            (None, None) => Planned::at_once(),
+        }
+    }
+}
+
+impl Planned {
+    /// Done, in no time.
+    pub fn at_once() -> Planned {
+        Planned {
+            answer: Answer::Done,
+            lasts: 0,
+        }
+    }
+}
+
+impl<'v> FromJson<'v> for Script {
+    fn read(reader: &Reader<'v, '_>) -> Result<Script, InputFault> {
+        let script = reader.object()?;
+        Ok(Script {
+            ticket: script.required("ticket")?.number()?,
+            integration: script.required("integration")?.number()?,
+            answers: script.required("script")?.list::<Planned>()?,
+        })
+    }
+}
+
+impl<'v> FromJson<'v> for Planned {
+    fn read(reader: &Reader<'v, '_>) -> Result<Planned, InputFault> {
+        let (word, lasts) = reader.pair()?;
+        let answer = read_answer(&word)?;
+        let lasts = lasts.number_up_to(MAX_DURATION)?;
+        Ok(Planned { answer, lasts })
+    }
+}
+
+fn read_answer(reader: &Reader<'_, '_>) -> Result<Answer, InputFault> {
+    match reader.text()? {
+        "done" => Ok(Answer::Done),
+        "again" => Ok(Answer::Again),
+        "never" => Ok(Answer::Never),
+        _ => Err(reader.refuse(Word::Value)),
+    }
+}

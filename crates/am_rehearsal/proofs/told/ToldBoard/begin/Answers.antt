@@ -1,0 +1,24 @@
+use Rattle.std.proofs.Common.{ap, ◌∙◌, ◌++◌, List, length}
+use Rattle.am_board.specs.History.{reply_of}
+use Rattle.am_model.specs.declared.record.Call.TheVariants.{Begin}
+use Rattle.am_model.specs.declared.record.Record.{Record}
+use Rattle.am_model.specs.Records.{entry}
+use Rattle.am_rehearsal.specs.Told.{takes_group, told_where}
+use Rattle.am_rehearsal.specs.declared.event.ToldBegin.{ToldBegin}
+use Rattle.am_rehearsal.specs.declared.limits.TheConstants.{BOARD_ID}
+use Rattle.am_rehearsal.proofs.Standing.{stands_told}
+use Rattle.am_rehearsal.proofs.told.ToldBoard.begin.Goals as goal
+
+pub invariant_of-self-2 : goal.invariant_of-self-2
+invariant_of-self-2 c =
+    let was = c.args.self.now in
+    let takes = takes_group (reply_of c.in-Ok.begun) in
+    let is_to_do = c.in_ok-outlook.outlook in
+    let told =
+    c.tell.ensures
+    ∙ (ap (λ (l : List ToldBegin). l ++ told_where takes (length c.history-place.result.now) is_to_do) c.reserve.ensures.items
+    ∙ ap (λ (h : List Record). was.begins.items ++ told_where takes (length h) is_to_do) c.history-place.ensures.history) in
+    let stands =
+    stands_told BOARD_ID was.begins.items was.board c.begin.new.self (was.ours, was.told) (entry 0 (Begin c.args.now) (reply_of c.in-Ok.begun)) is_to_do
+    c.in_ok-outlook.ensures c.in-Ok.ensures.recorded c.tell.new.begins.items told in
+    record { ours = stands.0; told = stands.1 }

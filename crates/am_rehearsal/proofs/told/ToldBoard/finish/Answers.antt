@@ -1,0 +1,18 @@
+use Rattle.std.proofs.Common.{refl}
+use Rattle.std.proofs.lemmas.Result.{IfOk-weaker}
+use Rattle.am_model.specs.declared.record.Call.TheVariants.{Finish}
+use Rattle.am_model.specs.declared.record.Reply.TheVariants.{Finished}
+use Rattle.am_model.specs.Records.{entry}
+use Rattle.am_rehearsal.specs.declared.limits.TheConstants.{BOARD_ID}
+use Rattle.am_rehearsal.proofs.Standing.{stands_over}
+use Rattle.am_rehearsal.proofs.told.ToldBoard.finish.Goals as goal
+
+pub invariant_of-self : goal.invariant_of-self
+invariant_of-self c =
+    let was = c.args.self.now in
+    let ticket = c.args.own.ticket in
+    let stands =
+    stands_over BOARD_ID was.begins.items was.board c.finish.new.self (was.ours, was.told) c.finish.result
+    (IfOk-weaker c.finish.result _ _ (λ finished recorded. (entry 0 (Finish c.args.now ticket.number ticket.outcomes) (Finished finished), refl, recorded)) c.finish.ensures.recorded)
+    c.finish.ensures.refused in
+    record { ours = stands.0; told = stands.1 }

@@ -1,0 +1,17 @@
+use Rattle.std.proofs.Common.{refl}
+use Rattle.std.proofs.lemmas.Result.{IfOk-weaker}
+use Rattle.am_model.specs.declared.record.Call.TheVariants.{Insert}
+use Rattle.am_model.specs.declared.record.Reply.TheVariants.{Inserted}
+use Rattle.am_model.specs.Records.{entry}
+use Rattle.am_rehearsal.specs.declared.limits.TheConstants.{BOARD_ID}
+use Rattle.am_rehearsal.proofs.Standing.{stands_over}
+use Rattle.am_rehearsal.proofs.told.ToldBoard.insert.Goals as goal
+
+pub invariant_of-self : goal.invariant_of-self
+invariant_of-self c =
+    let was = c.args.self.now in
+    let stands =
+    stands_over BOARD_ID was.begins.items was.board c.insert.new.self (was.ours, was.told) c.insert.result
+    (IfOk-weaker c.insert.result _ _ (λ inserted recorded. (entry 0 (Insert c.args.now c.args.alert) (Inserted inserted), refl, recorded)) c.insert.ensures.recorded)
+    c.insert.ensures.refused in
+    record { ours = stands.0; told = stands.1 }

@@ -1,0 +1,17 @@
+use Rattle.std.proofs.Common.{refl}
+use Rattle.std.proofs.lemmas.Result.{IfOk-weaker}
+use Rattle.am_model.specs.declared.record.Call.TheVariants.{Maintain}
+use Rattle.am_model.specs.declared.record.Reply.TheVariants.{Maintained}
+use Rattle.am_model.specs.Records.{entry}
+use Rattle.am_rehearsal.specs.declared.limits.TheConstants.{BOARD_ID}
+use Rattle.am_rehearsal.proofs.Standing.{stands_over}
+use Rattle.am_rehearsal.proofs.told.ToldBoard.maintain.Goals as goal
+
+pub invariant_of-self : goal.invariant_of-self
+invariant_of-self c =
+    let was = c.args.self.now in
+    let stands =
+    stands_over BOARD_ID was.begins.items was.board c.maintain.new.self (was.ours, was.told) c.maintain.result
+    (IfOk-weaker c.maintain.result _ _ (λ maintained recorded. (entry 0 (Maintain c.args.now) (Maintained maintained), refl, recorded)) c.maintain.ensures.recorded)
+    c.maintain.ensures.refused in
+    record { ours = stands.0; told = stands.1 }

@@ -1,0 +1,13 @@
+use Rattle.std.proofs.Common.{ap, ◌∙◌, sym}
+use Rattle.am_board.specs.History.{BoardData}
+use Rattle.am_board.proofs.keeping.Staying.{unless_value}
+use Rattle.am_rehearsal.specs.Told.{told}
+use Rattle.am_rehearsal.proofs.told.ToldBoard.new.Goals as goal
+
+pub invariant_of-result : goal.invariant_of-result
+invariant_of-result c =
+    let opened = unless_value _ _ _ c.in_ok-board.ensures in
+    record {
+      ours = ap (λ (b : BoardData). b.id) opened;
+      told = c.new-2.ensures.items ∙ sym (ap (λ (b : BoardData). told b.config b.history) opened);
+    }

@@ -1,0 +1,22 @@
+//! What a played rehearsal tells.
+use am_board::notice::Report;
+use am_board::outlook::Outlook;
+
+/// A begin that took a group, with what it was to do.
+#[derive(Debug, Drop)]
+pub struct ToldBegin {
+    /// The place of the begin's record in the history.
+    pub place: usize,
+    /// What it was to do, and why, told before it was made.
+    pub outlook: Outlook,
+}
+
+/// Something that happened, in the order in which it did.
+#[derive(Clone, Copy, Debug)]
+pub enum Event {
+    /// A begin took a group: the one at this place among the told begins.
+    Begun { begin: usize },
+    /// The sending of a notice came to its end. Its flush was opened by the begin at this place among
+    /// the told begins.
+    Sent { begin: usize, report: Report },
+}

@@ -1,0 +1,452 @@
+//! The clock of a rehearsal.
+//!
+//! At one moment the ends of sendings come first, then alerts and silences, then maintenance, then
+//! the begins. All of it are calls of a board: nothing is decided here but when they are made.
+ghost use Rattle.std.specs.Prelude.{◌≡◌, ◌<◌, ◌≤◌, IfOk, IfSome, length, vec_len, vec_capacity};
+ghost use Rattle.am_alerts.specs.declared.limits.TheConstants.{MAX_MOMENT};
+ghost use Rattle.am_rehearsal.specs.Told.{told};
+ghost use Rattle.am_rehearsal.specs.declared.limits.TheConstants.{BOARD_ID, MAX_UNTIL};
+
+use crate::courier::OutageCourier;
+use crate::event::{Event, ToldBegin};
+use crate::rehearsal::{Act, Outage, Plan, Rehearsal};
+use crate::sending::{End, Sending, earlier, ends_of};
+use crate::told::{OwnTicket, Taken, ToldBoard};
+use am_board::board::Board;
+use am_board::config::{Config, MAX_HISTORY};
+use am_board::fault::{BoardFault, Fault, NoteFault};
+use am_retry::Outcome;
+use std::alloc::{AllocError, AllocFailed, Global};
+
+/// A rehearsal that was played to its end: its board, what each begin that took a group was to do,
+/// and what happened, in its order.
+#[derive(Drop)]
+pub struct Played {
+    pub board: Board,
+    pub begins: Vec<ToldBegin>,
+    pub events: Vec<Event>,
+}
+
+/// Why a rehearsal isn't played to its end.
+#[derive(Clone, Copy, Debug, PartialEq, Eq)]
+pub enum PlayFault {
+    /// Memory was refused.
+    NoMemory,
+    /// No dispatcher may have the configuration.
+    BadConfig,
+    /// A limit leaves no room for the plan at this place.
+    PlanFull(usize),
+    /// The history has no room for what is begun or maintained until then.
+    Full,
+}
+
+/// Plays a rehearsal. What is planned after its end isn't played; what is being sent at its end is
+/// sent to its own end.
+///
+/// The reasons that are told of each begin are those that looking back over the history before it
+/// finds.
+pub fn play(alloc: Global, rehearsal: Rehearsal) -> Result<Played, PlayFault>
+    ensures told { IfOk result (λ played. played.begins.items ≡ told played.board.config played.board.history) }
+{
+    let Rehearsal {
+        config,
+        until,
+        maintain,
+        plans,
+        outages,
+    } = rehearsal;
+    let mut course = Course::open(alloc, config, outages.as_slice(), maintain)?;
+    for (index, plan) in plans.into_iter().enumerate() {
+        if plan.at > until {
+            break;
+        }
+        // Nothing comes between two plans of one moment.
+        if plan.at > course.clock {
+            course.run_before(plan.at);
+        }
+        course.act(index, plan);
+    }
+    course.run_before(until + 1);
+    course.end_all();
+    course.close()
+}
+
+/// What comes next, and when.
+#[derive(Clone, Copy)]
+struct Next {
+    at: u64,
+    what: Step,
+}
+
+#[derive(Clone, Copy, PartialEq, Eq)]
+enum Step {
+    Ends,
+    Maintenance,
+    Begins,
+}
+
+/// A rehearsal that is being played.
+struct Course<'o> {
+    alloc: Global,
+    board: ToldBoard,
+    outages: &'o [Outage],
+    maintain: u64,
+    /// In the order of their begins.
+    sendings: Vec<Sending>,
+    events: Vec<Event>,
+    /// The moment that is played.
+    clock: u64,
+    next_maintenance: u64,
+    /// Whether as many flushes are open as may be.
+    is_blocked: bool,
+    trouble: Option<PlayFault>,
+}
+
+impl<'o> Course<'o> {
+    fn open(
+        alloc: Global,
+        config: Config,
+        outages: &'o [Outage],
+        maintain: u64,
+    ) -> Result<Course<'o>, PlayFault> {
+        Ok(Course {
+            alloc,
+            board: ToldBoard::new(alloc, config)?,
+            outages,
+            maintain,
+            sendings: Vec::new(alloc),
+            events: Vec::new(alloc),
+            clock: 0,
+            next_maintenance: maintain,
+            is_blocked: false,
+            trouble: None,
+        })
+    }
+
+    /// Plays what comes before what is planned at `at`: all that is before that moment, and the ends of
+    /// sendings at it.
+    fn run_before(&mut self, at: u64)
+        requires { at ≤ MAX_MOMENT }
+    {
+        for _ in 0..u64::MAX {
+            if self.trouble.is_some() {
+                return;
+            }
+            let next = self.next();
+            match next.what {
+                Step::Ends if next.at <= at => self.tell_ends(next.at),
+                Step::Maintenance if next.at < at => self.make_maintenance(next.at),
+                Step::Begins if next.at < at => self.begin_all(next.at),
+                _ => return,
+            }
+        }
+    }
+
+    /// Plays the ends of what is being sent, and nothing else.
+    fn end_all(&mut self) {
+        for _ in 0..u64::MAX {
+            match first_end(self.sendings.as_slice()) {
+                Some(at) if self.trouble.is_none() => self.tell_ends(at),
+                _ => return,
+            }
+        }
+    }
+
+    /// What comes next, and when. At one moment ends come first, and begins last.
+    fn next(&self) -> Next {
+        let mut next = Next {
+            at: self.next_maintenance,
+            what: Step::Maintenance,
+        };
+        if let Some(due) = self.next_begins() {
+            if due < next.at {
+                next = Next {
+                    at: due,
+                    what: Step::Begins,
+                };
+            }
+        }
+        match first_end(self.sendings.as_slice()) {
+            Some(at) if at <= next.at => Next {
+                at,
+                what: Step::Ends,
+            },
+            _ => next,
+        }
+    }
+
+    /// When the next group can be begun.
+    fn next_begins(&self) -> Option<u64> {
+        if self.is_blocked {
+            return None;
+        }
+        match self.board.next_due() {
+            None => None,
+            Some(due) => Some(due.max(self.clock)),
+        }
+    }
+
+    /// Does what is planned, which is the plan at this place.
+    fn act(&mut self, index: usize, plan: Plan) {
+        if self.trouble.is_some() {
+            return;
+        }
+        let Plan { at, act } = plan;
+        self.clock = at;
+        let done = match act {
+            Act::Insert(alert) => self.board.insert(self.alloc, at, alert),
+            Act::Silence(silence) => self.board.silence(self.alloc, at, silence),
+        };
+        if let Err(fault) = done {
+            self.refuse(fault, PlayFault::PlanFull(index));
+        }
+    }
+
+    fn make_maintenance(&mut self, at: u64) {
+        self.clock = at;
+        self.next_maintenance = at.saturating_add(self.maintain);
+        if let Err(fault) = self.board.maintain(self.alloc, at) {
+            self.refuse(fault, PlayFault::Full);
+        }
+    }
+
+    /// Ends the rehearsal with want of memory, or with this.
+    fn refuse(&mut self, fault: Fault, otherwise: PlayFault) {
+        self.trouble = Some(match fault {
+            Fault::NoMemory => PlayFault::NoMemory,
+            _ => otherwise,
+        });
+    }
+
+    /// Begins flushes until no group is due, or as many are open as may be.
+    fn begin_all(&mut self, at: u64)
+        requires { at ≤ MAX_MOMENT }
+    {
+        self.clock = at;
+        // Each begin leaves a record: the history is full before this ends.
+        for _ in 0..MAX_HISTORY + 1 {
+            if !self.begin(at) {
+                return;
+            }
+        }
+    }
+
+    /// Begins a flush. Answers whether there may be more to begin.
+    fn begin(&mut self, at: u64) -> bool
+        requires { at ≤ MAX_MOMENT }
+    {
+        if self.sendings.reserve(1).is_err() || self.events.reserve(1).is_err() {
+            self.trouble = Some(PlayFault::NoMemory);
+            return false;
+        }
+        let begin = self.board.taken();
+        match self.board.begin(self.alloc, at) {
+            Ok(Taken::Nothing) => false,
+            Ok(Taken::Quiet) => {
+                self.events.push_reserved(Event::Begun { begin });
+                true
+            }
+            Ok(Taken::Flush(own)) => {
+                self.events.push_reserved(Event::Begun { begin });
+                self.send(begin, own, at);
+                true
+            }
+            // The groups that are left stay due.
+            Err(Fault::TooManyOpen) => {
+                self.is_blocked = true;
+                false
+            }
+            Err(fault) => {
+                self.refuse(fault, PlayFault::Full);
+                false
+            }
+        }
+    }
+
+    /// Sends the notices of a flush from `at` on.
+    fn send(&mut self, begin: usize, own: OwnTicket, at: u64)
+        requires moment { at ≤ MAX_MOMENT }
+        requires room { vec_len self.old.sendings < vec_capacity self.old.sendings }
+    {
+        let mut courier = OutageCourier::new(self.board.config(), self.outages);
+        let ends = match ends_of(self.alloc, &mut courier, own.ticket(), at) {
+            Ok(ends) => ends,
+            Err(_) => {
+                self.trouble = Some(PlayFault::NoMemory);
+                Vec::new(self.alloc)
+            }
+        };
+        self.sendings.push_reserved(Sending { own, begin, ends });
+    }
+
+    /// Tells the board of the ends of sendings that have come at `at`, and finishes the flushes of
+    /// which all have.
+    fn tell_ends(&mut self, at: u64) {
+        self.clock = at;
+        for sending in self.sendings.iter_mut() {
+            if let Err(fault) = tell_ends_of(
+                self.alloc,
+                &mut self.board,
+                &mut self.events,
+                sending,
+                at,
+            ) {
+                self.trouble = Some(fault);
+                return;
+            }
+        }
+        self.finish_over(at);
+    }
+
+    /// Finishes the flushes of which all notices have come to their ends.
+    fn finish_over(&mut self, at: u64) {
+        while let Some(place) = first_over(self.sendings.as_slice()) {
+            let sending = self.sendings.remove(place);
+            self.is_blocked = false;
+            if !finish(&mut self.board, sending, at) {
+                self.trouble = Some(PlayFault::Full);
+            }
+        }
+    }
+
+    /// Finishes the flushes that are open, as they are.
+    fn finish_all(&mut self)
+        ensures { vec_len self.new.sendings ≡ 0 }
+    {
+        while !self.sendings.is_empty() {
+            let sending = self.sendings.remove(0);
+            if !finish(&mut self.board, sending, self.clock) {
+                self.trouble = Some(PlayFault::Full);
+            }
+        }
+    }
+
+    /// What was played. Where it wasn't played to its end, the flushes that are open are finished as
+    /// they are.
+    fn close(mut self) -> Result<Played, PlayFault>
+        ensures { IfOk result (λ played. played.begins.items ≡ told played.board.config played.board.history) }
+    {
+        self.finish_all();
+        let Course {
+            alloc: _,
+            board,
+            outages: _,
+            maintain: _,
+            sendings,
+            events,
+            clock: _,
+            next_maintenance: _,
+            is_blocked: _,
+            trouble,
+        } = self;
+        sendings.destroy_empty();
+        match trouble {
+            Some(fault) => Err(fault),
+            None => {
+                let (board, begins) = board.into_parts();
+                Ok(Played {
+                    board,
+                    begins,
+                    events,
+                })
+            }
+        }
+    }
+}
+
+/// Finishes a flush. Answers whether it was open.
+fn finish(board: &mut ToldBoard, sending: Sending, at: u64) -> bool {
+    let Sending {
+        own,
+        begin: _,
+        ends: _,
+    } = sending;
+    board.finish(own, at)
+}
+
+/// The place of the first flush of which all notices have come to their ends.
+fn first_over(sendings: &[Sending]) -> Option<usize>
+    ensures { IfSome result (λ place. place < length sendings.now) }
+{
+    sendings
+        .iter()
+        .position(|sending| sending.next_end().is_none())
+}
+
+/// The first end of a notice that the board wasn't told of.
+fn first_end(sendings: &[Sending]) -> Option<u64> {
+    let mut first: Option<u64> = None;
+    for sending in sendings {
+        if let Some(at) = sending.next_end() {
+            first = Some(earlier(at, first));
+        }
+    }
+    first
+}
+
+/// Tells the board of the ends of a sending that have come at `at`.
+fn tell_ends_of(
+    alloc: Global,
+    board: &mut ToldBoard,
+    events: &mut Vec<Event>,
+    sending: &mut Sending,
+    at: u64,
+) -> Result<(), PlayFault> {
+    for place in 0..sending.ends.len() {
+        let end = sending.ends[place];
+        if !end.is_told && end.at <= at {
+            sending.ends[place].is_told = true;
+            tell_end(alloc, board, events, sending, place, end)?;
+        }
+    }
+    Ok(())
+}
+
+/// Records the end of the notice at a place, and notes a success.
+fn tell_end(
+    alloc: Global,
+    board: &mut ToldBoard,
+    events: &mut Vec<Event>,
+    sending: &mut Sending,
+    place: usize,
+    end: End,
+) -> Result<(), PlayFault>
+    ensures { sending.new.ends ≡ sending.old.ends }
+{
+    if let Some(report) = end.report {
+        events.push(Event::Sent {
+            begin: sending.begin,
+            report,
+        })?;
+        sending.own.record(report);
+        if report.outcome != Outcome::Delivered {
+            return Ok(());
+        }
+    }
+    match board.note(alloc, &sending.own, place, end.at) {
+        Ok(()) | Err(NoteFault::HistoryFull) => Ok(()),
+        Err(NoteFault::NoMemory) => Err(PlayFault::NoMemory),
+        Err(_) => Err(PlayFault::Full),
+    }
+}
+
+impl From<BoardFault> for PlayFault {
+    fn from(fault: BoardFault) -> PlayFault {
+        match fault {
+            BoardFault::NoMemory => PlayFault::NoMemory,
+            BoardFault::BadConfig(_) => PlayFault::BadConfig,
+        }
+    }
+}
+
+impl From<AllocError> for PlayFault {
+    fn from(_refused: AllocError) -> PlayFault {
+        PlayFault::NoMemory
+    }
+}
+
+impl<T: Drop> From<AllocFailed<T>> for PlayFault {
+    fn from(_refused: AllocFailed<T>) -> PlayFault {
+        PlayFault::NoMemory
+    }
+}

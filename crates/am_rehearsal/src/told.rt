@@ -1,0 +1,170 @@
+//! A board of which is kept what each of its begins was to do, and why.
+ghost use Rattle.std.specs.Prelude.{◌≡◌, ◌≤◌, ◌+◌, ◌++◌, vec_len, vec_capacity};
+ghost use Rattle.am_board.specs.History.{reply_of, IsFresh};
+ghost use Rattle.am_rehearsal.specs.Told.{takes_group, told, told_where};
+ghost use Rattle.am_rehearsal.specs.declared.limits.TheConstants.{BOARD_ID};
+
+use crate::event::ToldBegin;
+use crate::limits::BOARD_ID;
+use am_alerts::alert::Alert;
+use am_board::begin::Begun;
+use am_board::board::Board;
+use am_board::config::Config;
+use am_board::fault::{BoardFault, Fault, FinishFault, NoteFault};
+use am_board::notice::Report;
+use am_board::outlook::Outlook;
+use am_board::ticket::Ticket;
+use am_mute::silence::Silence;
+use std::alloc::Global;
+
+/// The pass of each call: there is one thread.
+const PASS: u32 = 0;
+
+/// A board, and what each of its begins that took a group was to do.
+#[derive(Drop)]
+pub(crate) struct ToldBoard {
+    board: Board,
+    begins: Vec<ToldBegin>,
+    ghost ours: { board.id ≡ BOARD_ID },
+    ghost told: { begins.items ≡ told board.config board.history },
+}
+
+/// A ticket that the board gave.
+pub(crate) struct OwnTicket {
+    ticket: Ticket,
+    ghost ours: { ticket.desk ≡ BOARD_ID },
+}
+
+/// What a begin came to. A ticket must be spent.
+pub(crate) enum Taken {
+    /// No group is due.
+    Nothing,
+    /// A group was taken, and nobody is asked.
+    Quiet,
+    /// A flush was opened.
+    Flush(OwnTicket),
+}
+
+impl OwnTicket {
+    pub(crate) fn ticket(&self) -> &Ticket {
+        &self.ticket
+    }
+
+    /// Records how a notice went. A report on another notice changes nothing, nor does a second one.
+    pub(crate) fn record(&mut self, report: Report) {
+        let _ = self.ticket.record(report);
+    }
+}
+
+impl ToldBoard {
+    /// A board of this configuration, with nothing in it.
+    pub(crate) fn new(alloc: Global, config: Config) -> Result<ToldBoard, BoardFault> {
+        let board = Board::new(alloc, config, BOARD_ID)?;
+        Ok(ToldBoard {
+            board,
+            begins: Vec::new(alloc),
+        })
+    }
+
+    /// The board, and what its begins were to do.
+    pub(crate) fn into_parts(self) -> (Board, Vec<ToldBegin>)
+        ensures { result.1.items ≡ told result.0.config result.0.history }
+    {
+        let ToldBoard { board, begins } = self;
+        (board, begins)
+    }
+
+    pub(crate) fn config(&self) -> &Config {
+        self.board.config()
+    }
+
+    /// How many begins took a group.
+    pub(crate) fn taken(&self) -> usize {
+        self.begins.len()
+    }
+
+    /// When the next group is due that has no open flush, in milliseconds.
+    pub(crate) fn next_due(&self) -> Option<u64> {
+        self.board.next_due()
+    }
+
+    pub(crate) fn insert(&mut self, alloc: Global, now: u64, alert: Alert) -> Result<(), Fault> {
+        let _inserted = self.board.insert(alloc, PASS, now, alert)?;
+        Ok(())
+    }
+
+    pub(crate) fn silence(
+        &mut self,
+        alloc: Global,
+        now: u64,
+        silence: Silence,
+    ) -> Result<(), Fault> {
+        let _silenced = self.board.silence(alloc, PASS, now, silence)?;
+        Ok(())
+    }
+
+    pub(crate) fn maintain(&mut self, alloc: Global, now: u64) -> Result<(), Fault> {
+        let _maintained = self.board.maintain(alloc, PASS, now)?;
+        Ok(())
+    }
+
+    /// Logs the success of the notice at a place of a ticket.
+    pub(crate) fn note(
+        &mut self,
+        alloc: Global,
+        own: &OwnTicket,
+        place: usize,
+        now: u64,
+    ) -> Result<(), NoteFault> {
+        let _noted = self.board.note(alloc, PASS, &own.ticket, place, now)?;
+        Ok(())
+    }
+
+    /// Finishes a flush. Answers whether it was open.
+    pub(crate) fn finish(&mut self, own: OwnTicket, now: u64) -> bool {
+        let OwnTicket { ticket } = own;
+        match self.board.finish(PASS, ticket, now) {
+            Ok(_finished) => true,
+            Err(FinishFault::NotOpen) => false,
+            Err(FinishFault::Foreign(_ticket)) => unreachable!(),
+        }
+    }
+
+    /// Takes the group that is due first, and keeps what is to be done with it.
+    pub(crate) fn begin(&mut self, alloc: Global, now: u64) -> Result<Taken, Fault> {
+        self.begins.reserve(1)?;
+        let place = self.board.history().len();
+        let outlook = self.board.outlook(alloc, now)?;
+        let begun = match self.board.begin(alloc, PASS, now) {
+            Ok(begun) => begun,
+            Err(fault) => return Err(fault),
+        };
+        tell(&mut self.begins, place, outlook, &begun);
+        Ok(own(begun))
+    }
+}
+
+/// What a begin of the board came to.
+fn own(begun: Begun) -> Taken
+    requires { IsFresh BOARD_ID begun }
+{
+    match begun {
+        Begun::NothingDue => Taken::Nothing,
+        Begun::Quiet {
+            group: _,
+            removed: _,
+        } => Taken::Quiet,
+        Begun::Flush(ticket) => Taken::Flush(OwnTicket { ticket }),
+    }
+}
+
+/// Adds what a begin was to do whose record is at this place, if it took a group.
+fn tell(begins: &mut Vec<ToldBegin>, place: usize, outlook: Option<Outlook>, begun: &Begun)
+    requires room { vec_len begins.old + 1 ≤ vec_capacity begins.old }
+    ensures { begins.new.items ≡ begins.old.items ++ told_where (takes_group (reply_of begun.now)) place outlook }
+{
+    match (begun, outlook) {
+        (Begun::NothingDue, _) | (_, None) => {}
+        (_, Some(outlook)) => begins.push_reserved(ToldBegin { place, outlook }),
+    }
+}

@@ -1,0 +1,28 @@
+-- How a rehearsal ends without its timeline, or with an expectation that isn't met.
+use Rattle.std.specs.Prelude.{ℕ}
+use Rattle.am_cli.specs.declared.fault.InputFault.{InputFault}
+use Rattle.am_cli.specs.declared.fault.InputFault.TheVariants as input
+use Rattle.am_cli.specs.declared.transfer.ReadFault.{ReadFault}
+use Rattle.am_cli.specs.declared.transfer.ReadFault.TheVariants as read
+use Rattle.am_rehearse.specs.declared.fault.RehearseFault.{RehearseFault}
+use Rattle.am_rehearse.specs.declared.fault.RehearseFault.TheVariants as rehearse
+
+-- a fault of an input is the program's of the same name
+abbrev pub fault_of_input : InputFault → RehearseFault
+fault_of_input (input.NotJson line column) = rehearse.NotJson line column
+fault_of_input (input.Refused place word) = rehearse.Refused place word
+fault_of_input input.NoMemory = rehearse.NoMemory
+
+-- and so is one of reading it
+abbrev pub fault_of_read : ReadFault → RehearseFault
+fault_of_read read.Unreadable = rehearse.Unreadable
+fault_of_read read.NoMemory = rehearse.NoMemory
+
+-- 1 is for the input, 2 for what is in it, 3 for memory, 4 for the output and 5 for what was expected
+abbrev pub status_of : RehearseFault → ℕ
+status_of rehearse.Unreadable = 1
+status_of (rehearse.NotJson line column) = 2
+status_of (rehearse.Refused place word) = 2
+status_of rehearse.NoMemory = 3
+status_of rehearse.Unwritable = 4
+status_of rehearse.Unmet = 5

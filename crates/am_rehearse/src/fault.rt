@@ -1,0 +1,85 @@
+//! Why a rehearsal ends without its timeline, or with an expectation that isn't met.
+use am_cli::fault::{InputFault, Word};
+use am_cli::transfer::{ReadFault, Unwritable};
+use thiserror::Error;
+
+/// Why the program ends with a status that isn't 0.
+#[derive(Debug, Drop, Error)]
+pub enum RehearseFault {
+    /// A read failed, or the input has more than 16,777,216 bytes.
+    #[error("am-rehearse: input not readable")]
+    Unreadable,
+    /// The input is no JSON text in UTF-8, at this line and column where they are known.
+    #[error("am-rehearse: rehearsal refused: not JSON at line {line}, column {column}")]
+    NotJson { line: usize, column: usize },
+    /// The rehearsal is refused; the place is a JSON pointer.
+    #[error("am-rehearse: rehearsal refused at {place}: {word}")]
+    Refused { place: String, word: Word },
+    /// Memory was refused.
+    #[error("am-rehearse: no memory")]
+    NoMemory,
+    /// A write failed. Some of the output may have been written.
+    #[error("am-rehearse: output not writable")]
+    Unwritable,
+    /// An expectation isn't met. The output was written whole.
+    #[error("am-rehearse: an expectation isn't met")]
+    Unmet,
+}
+
+impl RehearseFault {
+    ghost use Rattle.std.specs.Prelude.{◌≡◌};
+    ghost use Rattle.am_rehearse.specs.Faults.{status_of};
+
+    /// The status with which the program ends on this fault.
+    pub fn status(&self) -> u8
+        ensures { result ≡ status_of self.now }
+    {
+        match self {
+            RehearseFault::Unreadable => 1,
+            RehearseFault::NotJson { .. } | RehearseFault::Refused { .. } => 2,
+            RehearseFault::NoMemory => 3,
+            RehearseFault::Unwritable => 4,
+            RehearseFault::Unmet => 5,
+        }
+    }
+}
+
+impl From<InputFault> for RehearseFault {
+    ghost use Rattle.std.specs.Prelude.{◌≡◌};
+    ghost use Rattle.am_rehearse.specs.Faults.{fault_of_input};
+
+    ghost from_gives = { λ of_input fault. fault ≡ fault_of_input of_input };
+
+    fn from(fault: InputFault) -> RehearseFault {
+        match fault {
+            InputFault::NotJson { line, column } => RehearseFault::NotJson { line, column },
+            InputFault::Refused { place, word } => RehearseFault::Refused { place, word },
+            InputFault::NoMemory => RehearseFault::NoMemory,
+        }
+    }
+}
+
+impl From<ReadFault> for RehearseFault {
+    ghost use Rattle.std.specs.Prelude.{◌≡◌};
+    ghost use Rattle.am_rehearse.specs.Faults.{fault_of_read};
+
+    ghost from_gives = { λ of_read fault. fault ≡ fault_of_read of_read };
+
+    fn from(fault: ReadFault) -> RehearseFault {
+        match fault {
+            ReadFault::Unreadable => RehearseFault::Unreadable,
+            ReadFault::NoMemory => RehearseFault::NoMemory,
+        }
+    }
+}
+
+impl From<Unwritable> for RehearseFault {
+    ghost use Rattle.std.specs.Prelude.{◌≡◌};
+    ghost use Rattle.am_rehearse.specs.declared.fault.RehearseFault.TheVariants as rehearse_fault;
+
+    ghost from_gives = { λ _ fault. fault ≡ rehearse_fault.Unwritable };
+
+    fn from(_unwritable: Unwritable) -> RehearseFault {
+        RehearseFault::Unwritable
+    }
+}

@@ -1,0 +1,179 @@
+//! What a rehearsal is made of, and how it is read.
+ghost use Rattle.std.specs.Prelude.{◌≤◌, IfOk};
+ghost use Rattle.am_rehearsal.specs.declared.limits.TheConstants.{MAX_UNTIL};
+
+use crate::input::alert::AlertItem;
+use crate::input::expectation::ExpectationItem;
+use crate::input::outage::OutageItem;
+use crate::input::silence::SilenceItem;
+use crate::input::target::check;
+use am_board::config::Config;
+use am_cli::config::read_config;
+use am_cli::duration::duration;
+use am_cli::fault::{InputFault, Word};
+use am_cli::place::Place;
+use am_cli::reader::{Object, Reader};
+use am_rehearsal::MAX_UNTIL;
+use am_rehearsal::rehearsal::{Outage, Rehearsal};
+use am_timeline::dated::Dated;
+use am_timeline::expectation::Expectation;
+use serde_json::Value;
+use std::alloc::Global;
+
+mod alert;
+mod expectation;
+mod moment;
+mod origin;
+mod outage;
+mod planned;
+mod silence;
+mod span;
+mod target;
+
+pub use origin::Origin;
+
+/// How often maintenance is made, where the rehearsal doesn't say: every 15 minutes, in milliseconds.
+const MAINTAIN: u64 = 900_000;
+
+/// The members of a rehearsal.
+const MEMBERS: [&str; 9] = [
+    "config", "start", "until", "alerts", "silences", "maintain", "outages", "expect", "output",
+];
+
+/// A rehearsal as it was read, and what is to be printed of it.
+#[derive(Drop)]
+pub struct Input {
+    pub rehearsal: Rehearsal,
+    /// Where the plans of the rehearsal stand in the input, by place.
+    pub origins: Vec<Origin>,
+    /// The moment of the start, if it is told.
+    pub start: Option<Dated>,
+    pub expectations: Vec<Expectation>,
+    pub output: Output,
+}
+
+/// What is printed.
+#[derive(Clone, Copy, Debug, PartialEq, Eq)]
+pub enum Output {
+    /// A line for each event, a table and the expectations.
+    Timeline,
+    /// The lines on delivered notices alone.
+    Notices,
+    /// A JSON object on each line.
+    Json,
+}
+
+/// Reads a whole rehearsal. The first fault in the order of reading is answered.
+pub fn read_input(alloc: Global, value: &Value) -> Result<Input, InputFault> {
+    let reader = Reader::strict(alloc, value);
+    let top = reader.object()?;
+    top.only(&MEMBERS)?;
+    let config = read_config(&top.required("config")?)?;
+    let start = moment::start(&top)?;
+    let until = read_until(&top)?;
+    let alerts = top.list_or_none::<AlertItem>("alerts")?;
+    let silences = top.list_or_none::<SilenceItem>("silences")?;
+    let maintain = read_maintain(&top)?;
+    let outages = read_outages(&top, &config)?;
+    let expectations = read_expectations(&top, &config, until)?;
+    let output = read_output(&top)?;
+    let (plans, origins) = planned::in_order(alloc, alerts, silences)?;
+    let rehearsal = Rehearsal {
+        config,
+        until,
+        maintain,
+        plans,
+        outages,
+    };
+    Ok(Input {
+        rehearsal,
+        origins,
+        start,
+        expectations,
+        output,
+    })
+}
+
+/// The last moment; `Value` above `MAX_UNTIL`.
+fn read_until(top: &Object<'_, '_>) -> Result<u64, InputFault>
+    ensures { IfOk result (λ until. until ≤ MAX_UNTIL) }
+{
+    let member = top.required("until")?;
+    let until = duration(&member)?;
+    if until > MAX_UNTIL {
+        return Err(member.refuse(Word::Value));
+    }
+    Ok(until)
+}
+
+/// How often maintenance is made; `Value` for zero.
+fn read_maintain(top: &Object<'_, '_>) -> Result<u64, InputFault>
+    ensures { IfOk result (λ maintain. 1 ≤ maintain) }
+{
+    match top.optional("maintain") {
+        None => Ok(MAINTAIN),
+        Some(member) => match duration(&member)? {
+            0 => Err(member.refuse(Word::Value)),
+            maintain => Ok(maintain),
+        },
+    }
+}
+
+fn read_outages(top: &Object<'_, '_>, config: &Config) -> Result<Vec<Outage>, InputFault> {
+    let mut outages = Vec::new(top.alloc());
+    for (index, item) in top
+        .list_or_none::<OutageItem>("outages")?
+        .into_iter()
+        .enumerate()
+    {
+        let place = Place::Top;
+        check(
+            top.alloc(),
+            config,
+            item.receiver.as_str(),
+            item.integration,
+            place.member("outages").item(index),
+        )?;
+        outages.push(item.into_outage())?;
+    }
+    Ok(outages)
+}
+
+fn read_expectations(
+    top: &Object<'_, '_>,
+    config: &Config,
+    until: u64,
+) -> Result<Vec<Expectation>, InputFault> {
+    let mut expectations = Vec::new(top.alloc());
+    for (index, item) in top
+        .list_or_none::<ExpectationItem>("expect")?
+        .into_iter()
+        .enumerate()
+    {
+        let place = Place::Top;
+        if let Some(receiver) = &item.receiver {
+            check(
+                top.alloc(),
+                config,
+                receiver.as_str(),
+                item.integration,
+                place.member("expect").item(index),
+            )?;
+        }
+        expectations.push(item.into_expectation(until))?;
+    }
+    Ok(expectations)
+}
+
+/// What is printed; the timeline, where it isn't said.
+fn read_output(top: &Object<'_, '_>) -> Result<Output, InputFault> {
+    let Some(member) = top.optional("output") else {
+        return Ok(Output::Timeline);
+    };
+    match member.text()? {
+        "timeline" => Ok(Output::Timeline),
+        "notices" => Ok(Output::Notices),
+        "json" => Ok(Output::Json),
+        _ => Err(member.refuse(Word::Value)),
+    }
+}

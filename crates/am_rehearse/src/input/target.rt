@@ -1,0 +1,36 @@
+//! Which receiver and which integration is meant.
+ghost use Rattle.std.specs.Prelude.{◌≤◌, IfOk};
+
+use am_board::config::{Config, MAX_INTEGRATIONS};
+use am_cli::fault::{InputFault, Word};
+use am_cli::place::Place;
+use am_cli::reader::Object;
+use std::alloc::Global;
+
+/// The position of an integration in its receiver, which is the member `integration`, if it is there.
+pub fn position(object: &Object<'_, '_>) -> Result<Option<u32>, InputFault> {
+    match object.optional("integration") {
+        None => Ok(None),
+        Some(member) => Ok(Some(member.number_up_to(MAX_INTEGRATIONS as u64)? as u32)),
+    }
+}
+
+/// Refuses a receiver that the configuration hasn't, and a position that the receiver hasn't, at
+/// their members of what stands at this place.
+pub fn check(
+    alloc: Global,
+    config: &Config,
+    receiver: &str,
+    position: Option<u32>,
+    place: Place<'_>,
+) -> Result<(), InputFault> {
+    let Some(receiver) = config.receiver(receiver) else {
+        return Err(place.member("receiver").refuse(alloc, Word::Value));
+    };
+    match position {
+        Some(position) if position as usize >= receiver.integrations.len() => {
+            Err(place.member("integration").refuse(alloc, Word::Value))
+        }
+        _ => Ok(()),
+    }
+}

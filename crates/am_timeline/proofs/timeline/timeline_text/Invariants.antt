@@ -1,0 +1,9 @@
+use Rattle.std.proofs.Common.{◌≡◌, string_bytes, take}
+use Rattle.std.specs.List.{flat_map}
+use Rattle.am_timeline.specs.Timeline.{event_lines}
+use Rattle.am_timeline.proofs.timeline.timeline_text.Given as goal
+
+-- the lines so far were added
+abbrev pub invariant-loop-event : goal.invariant-loop-event
+invariant-loop-event g l =
+    string_bytes l.out ≡ flat_map (event_lines l.story (g.C.Clock.times l.clock)) (take l.event-index l.story.events)

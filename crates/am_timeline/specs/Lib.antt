@@ -1,0 +1,10 @@
+pub mod Times
+pub mod Shown
+pub mod Story
+pub mod Timeline
+pub mod Notices
+pub mod Table
+pub mod Expectation
+pub mod Judgement
+pub mod Dated
+pub mod Rows

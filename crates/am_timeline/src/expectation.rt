@@ -1,0 +1,201 @@
+//! What is expected of a rehearsal, and whether it came so.
+ghost use Rattle.std.specs.Prelude.{◌≡◌, ◌==◌, option_copied, true};
+ghost use Rattle.std.specs.List.{list_all, list_any};
+ghost use Rattle.std.specs.Option.{option_map_or};
+ghost use Rattle.am_timeline.specs.Expectation.{are_as_wanted, came_so, has_set, have_just, is_listed, is_meant, is_meant_by, is_met};
+ghost use Rattle.am_timeline.specs.Expectation.{is_wanted, is_wanted_by};
+ghost use Rattle.am_timeline.specs.Table.{is_for};
+
+use crate::sent::{Sent, sent_of};
+use crate::story::Story;
+use crate::table::is_for;
+use am_alerts::alert::Alert;
+use am_alerts::labels::Labels;
+use am_alerts::sequence::Sequence;
+use am_alerts::text::Text;
+use am_board::config::Config;
+use am_rehearsal::event::Event;
+
+/// What is expected of the notices of a span. A notice has the moment at which its sending ended; only
+/// those count that were delivered.
+#[derive(Debug, Drop)]
+pub struct Expectation {
+    /// From this moment on, in milliseconds.
+    pub from: u64,
+    /// Up to this moment, in milliseconds; it belongs to the span.
+    pub to: u64,
+    /// The name of the receiver; none stands for each.
+    pub receiver: Option<Text>,
+    /// The position of the integration in its receiver; none stands for each.
+    pub integration: Option<u32>,
+    pub wanted: Wanted,
+}
+
+/// What is wanted.
+#[derive(Debug, Drop)]
+pub enum Wanted {
+    /// That there is no notice.
+    NoNotice,
+    /// That there is a notice which tells just these label sets, in whatever order; of what isn't said,
+    /// whatever it tells.
+    Notice {
+        firing: Option<Sequence<Labels>>,
+        resolved: Option<Sequence<Labels>>,
+    },
+}
+
+impl Expectation {
+    /// Whether it came so in a rehearsal.
+    pub fn is_met(&self, story: &Story) -> bool
+        ensures { result ≡ is_met story.now self.now }
+    {
+        match &self.wanted {
+            Wanted::NoNotice => !self.has_meant(story),
+            Wanted::Notice { firing, resolved } => {
+                self.has_wanted(story, firing.as_ref(), resolved.as_ref())
+            }
+        }
+    }
+
+    /// Whether there is a notice that is meant.
+    pub(crate) fn has_meant(&self, story: &Story) -> bool
+        ensures { result ≡ list_any (is_meant_by story.now self.now) story.now.events }
+    {
+        for event in story.events {
+            if self.is_meant_by(story, event) {
+                return true;
+            }
+        }
+        false
+    }
+
+    /// Whether there is one that tells what is wanted.
+    fn has_wanted(
+        &self,
+        story: &Story,
+        firing: Option<&Sequence<Labels>>,
+        resolved: Option<&Sequence<Labels>>,
+    ) -> bool
+        ensures { result ≡ list_any (is_wanted_by story.now self.now
+            (option_copied firing.entry) (option_copied resolved.entry)) story.now.events }
+    {
+        for event in story.events {
+            if self.is_wanted_by(story, firing, resolved, event) {
+                return true;
+            }
+        }
+        false
+    }
+
+    /// Whether the sending of a notice that is meant ended by this.
+    fn is_meant_by(&self, story: &Story, event: &Event) -> bool
+        ensures { result ≡ is_meant_by story.now self.now event.now }
+    {
+        match sent_of(story, event) {
+            None => false,
+            Some(sent) => self.is_meant(story.config, &sent),
+        }
+    }
+
+    /// Whether the sending of one that tells what is wanted did.
+    fn is_wanted_by(
+        &self,
+        story: &Story,
+        firing: Option<&Sequence<Labels>>,
+        resolved: Option<&Sequence<Labels>>,
+        event: &Event,
+    ) -> bool
+        ensures { result ≡ is_wanted_by story.now self.now
+            (option_copied firing.entry) (option_copied resolved.entry) event.now }
+    {
+        match sent_of(story, event) {
+            None => false,
+            Some(sent) => {
+                self.is_meant(story.config, &sent) && is_wanted(firing, resolved, &sent)
+            }
+        }
+    }
+
+    /// Whether it speaks of a notice.
+    pub(crate) fn is_meant(&self, config: &Config, sent: &Sent) -> bool
+        ensures { result ≡ is_meant config.now self.now sent.now }
+    {
+        sent.is_delivered()
+            && self.from <= sent.report.ended
+            && sent.report.ended <= self.to
+            && self.is_for_receiver(config, sent)
+            && self.is_for_integration(sent)
+    }
+
+    fn is_for_receiver(&self, config: &Config, sent: &Sent) -> bool
+        ensures { result ≡ option_map_or (λ name. is_for config.now name sent.now) self.now.receiver true }
+    {
+        match &self.receiver {
+            None => true,
+            Some(name) => is_for(config, name.as_str(), sent),
+        }
+    }
+
+    fn is_for_integration(&self, sent: &Sent) -> bool
+        ensures { result ≡ option_map_or (λ position. sent.now.notice.integration == position) self.now.integration true }
+    {
+        let notice = sent.notice;
+        match self.integration {
+            None => true,
+            Some(position) => notice.integration == position,
+        }
+    }
+}
+
+/// Whether a notice tells what is wanted.
+fn is_wanted(
+    firing: Option<&Sequence<Labels>>,
+    resolved: Option<&Sequence<Labels>>,
+    sent: &Sent,
+) -> bool
+    ensures { result ≡ is_wanted (option_copied firing.entry) (option_copied resolved.entry) sent.now }
+{
+    let notice = sent.notice;
+    are_as_wanted(firing, notice.firing.as_slice())
+        && are_as_wanted(resolved, notice.resolved.as_slice())
+}
+
+fn are_as_wanted(wanted: Option<&Sequence<Labels>>, alerts: &[Alert]) -> bool
+    ensures { result ≡ are_as_wanted (option_copied wanted.entry) alerts.now }
+{
+    match wanted {
+        None => true,
+        Some(sets) => have_just(sets.as_slice(), alerts),
+    }
+}
+
+/// Whether alerts have just these label sets.
+fn have_just(wanted: &[Labels], alerts: &[Alert]) -> bool
+    ensures { result ≡ have_just wanted.now alerts.now }
+{
+    have_sets(wanted, alerts) && are_listed(wanted, alerts)
+}
+
+fn have_sets(wanted: &[Labels], alerts: &[Alert]) -> bool
+    ensures { result ≡ list_all (has_set alerts.now) wanted.now }
+{
+    wanted.iter().all(|labels| has_set(alerts, labels))
+}
+
+fn are_listed(wanted: &[Labels], alerts: &[Alert]) -> bool
+    ensures { result ≡ list_all (is_listed wanted.now) alerts.now }
+{
+    alerts.iter().all(|alert| is_listed(wanted, alert))
+}
+
+fn has_set(alerts: &[Alert], labels: &Labels) -> bool
+    ensures { result ≡ has_set alerts.now labels.now }
+{
+    alerts.iter().any(|alert| alert.labels() == labels)
+}
+
+fn is_listed(wanted: &[Labels], alert: &Alert) -> bool
+    ensures { result ≡ is_listed wanted.now alert.now }
+{
+    wanted.iter().any(|labels| labels == alert.labels())
+}

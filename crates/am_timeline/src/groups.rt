@@ -1,0 +1,76 @@
+//! Groups, and whom they are for.
+ghost use Rattle.std.specs.Prelude.{◌≡◌, ◌++◌, OnOk, string_bytes};
+ghost use Rattle.am_model.specs.Config.{kind_at};
+ghost use Rattle.am_timeline.specs.Timeline.{group_shown, integration_shown, target_shown, way_shown};
+
+use crate::clock::push_number;
+use crate::shown::{push_set, push_text};
+use am_board::config::{Config, Integration};
+use am_board::group::GroupName;
+use std::alloc::AllocError;
+
+/// Adds a group, its receiver and an integration of that.
+pub(crate) fn push_target(
+    config: &Config,
+    group: &GroupName,
+    position: usize,
+    out: &mut String,
+) -> Result<(), AllocError>
+    ensures { OnOk result (string_bytes out.new
+        ≡ string_bytes out.old ++ target_shown config.now group.now position) }
+{
+    push_way(config, group, out)?;
+    out.push_str(" ")?;
+    push_integration(config, group, position, out)
+}
+
+/// Adds a group and its receiver.
+pub(crate) fn push_way(
+    config: &Config,
+    group: &GroupName,
+    out: &mut String,
+) -> Result<(), AllocError>
+    ensures { OnOk result (string_bytes out.new ≡ string_bytes out.old ++ way_shown config.now group.now) }
+{
+    push_group(config, group, out)?;
+    out.push_str(" -> ")?;
+    push_text(config.route_of(group).receiver.as_str(), out)
+}
+
+/// Adds a group: the name of its route and its group labels.
+pub(crate) fn push_group(
+    config: &Config,
+    group: &GroupName,
+    out: &mut String,
+) -> Result<(), AllocError>
+    ensures { OnOk result (string_bytes out.new ≡ string_bytes out.old ++ group_shown config.now group.now) }
+{
+    out.push_str(config.route_of(group).name.as_str())?;
+    push_set(&group.labels, out)
+}
+
+/// Adds an integration of a group's receiver.
+pub(crate) fn push_integration(
+    config: &Config,
+    group: &GroupName,
+    position: usize,
+    out: &mut String,
+) -> Result<(), AllocError>
+    ensures { OnOk result (string_bytes out.new
+        ≡ string_bytes out.old ++ integration_shown config.now group.now position) }
+{
+    let integrations = config.integrations_of(group);
+    out.push_str(kind_at(integrations, position))?;
+    out.push_str("/")?;
+    push_number(position as u64, out)
+}
+
+/// The kind of the integration at a position; nothing at a position that isn't there.
+pub(crate) fn kind_at(integrations: &[Integration], position: usize) -> &str
+    ensures { result.now ≡ kind_at integrations.now position }
+{
+    match integrations.get(position) {
+        None => "",
+        Some(integration) => integration.kind.as_str(),
+    }
+}

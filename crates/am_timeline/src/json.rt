@@ -1,0 +1,226 @@
+//! The facts of the timeline as JSON.
+mod object;
+
+use crate::begun::{is_sent_nothing, nothing_left};
+use crate::clock::Clock;
+use crate::line::reason_words;
+use crate::sent::{Sent, sent_of};
+use crate::story::{Story, notices_at};
+use am_board::config::Config;
+use am_board::notice::Notice;
+use am_board::outlook::Outlook;
+use am_board::reason::Reason;
+use am_rehearsal::event::{Event, ToldBegin};
+use am_retry::Outcome;
+use object::{Object, muted_list, sets_of};
+use std::alloc::{AllocError, Global};
+
+/// The facts of the timeline, a JSON object on each line and a line for each of its lines, in the same
+/// order.
+///
+/// Each object has `event` (`notice`, `failed`, `quiet` or `muted`), `at` (milliseconds from the start),
+/// `time` (as the clock shows it), `route` and `group` (the group labels), and where they apply
+/// `receiver`, `integration` (as `hook/0`), `outcome`, `attempts`, `since` (milliseconds), `reason`,
+/// `from` (milliseconds), `firing` and `resolved` (lists of label sets) and `muted` (a list of objects
+/// with `labels`, `cause`, and `until` or `by` and `rule`).
+pub fn json_text<C: Clock>(alloc: Global, story: &Story, clock: &C) -> Result<String, AllocError> {
+    let mut out = String::new(alloc);
+    for event in story.events {
+        push_event(alloc, story, clock, event, &mut out)?;
+    }
+    Ok(out)
+}
+
+fn push_event<C: Clock>(
+    alloc: Global,
+    story: &Story,
+    clock: &C,
+    event: &Event,
+    out: &mut String,
+) -> Result<(), AllocError> {
+    match event {
+        Event::Begun { begin } => match story.begins.get(*begin) {
+            None => Ok(()),
+            Some(begin) => push_begun(alloc, story, clock, begin, out),
+        },
+        Event::Sent { .. } => match sent_of(story, event) {
+            None => Ok(()),
+            Some(sent) => push_sent(alloc, story.config, clock, &sent, out),
+        },
+    }
+}
+
+fn push_sent<C: Clock>(
+    alloc: Global,
+    config: &Config,
+    clock: &C,
+    sent: &Sent,
+    out: &mut String,
+) -> Result<(), AllocError> {
+    if sent.is_delivered() {
+        return push_notice(alloc, config, clock, sent, out);
+    }
+    let object = sent_object(alloc, config, clock, "failed", sent)?;
+    object.push_line(out)
+}
+
+fn push_notice<C: Clock>(
+    alloc: Global,
+    config: &Config,
+    clock: &C,
+    sent: &Sent,
+    out: &mut String,
+) -> Result<(), AllocError> {
+    let notice = sent.notice;
+    let reasons = sent.begin.outlook.reasons.as_slice();
+    let Some(reason) = reasons.get(notice.integration as usize) else {
+        return Ok(());
+    };
+    let mut object = sent_object(alloc, config, clock, "notice", sent)?;
+    put_reason(reason, &mut object)?;
+    object.put("firing", sets_of(alloc, notice.firing.as_slice())?)?;
+    object.put("resolved", sets_of(alloc, notice.resolved.as_slice())?)?;
+    object.push_line(out)
+}
+
+/// What is told of every notice whose sending came to its end.
+fn sent_object<C: Clock>(
+    alloc: Global,
+    config: &Config,
+    clock: &C,
+    event: &str,
+    sent: &Sent,
+) -> Result<Object, AllocError> {
+    let notice = sent.notice;
+    let at = sent.report.ended;
+    let mut object = Object::new(alloc, config, clock, event, at, &notice.group)?;
+    object.put_integration(config, &notice.group, notice.integration as usize)?;
+    object.put_text("outcome", outcome_word(sent.outcome))?;
+    object.put_number("attempts", sent.report.attempts)?;
+    object.put_number("since", sent.begin.outlook.moment)?;
+    Ok(object)
+}
+
+fn outcome_word(outcome: Outcome) -> &'static str {
+    match outcome {
+        Outcome::Delivered => "delivered",
+        Outcome::Refused => "refused",
+        Outcome::Expired => "expired",
+        Outcome::Starved => "starved",
+    }
+}
+
+fn put_reason(reason: &Reason, object: &mut Object) -> Result<(), AllocError> {
+    match reason {
+        Reason::NotYet { from } => {
+            object.put_text("reason", "nothing new")?;
+            object.put_number("from", *from)
+        }
+        _ => object.put_text("reason", reason_words(reason)),
+    }
+}
+
+fn push_begun<C: Clock>(
+    alloc: Global,
+    story: &Story,
+    clock: &C,
+    begin: &ToldBegin,
+    out: &mut String,
+) -> Result<(), AllocError> {
+    let outlook = &begin.outlook;
+    if nothing_left(outlook.reasons.as_slice()) {
+        return push_left(alloc, story.config, clock, outlook, out);
+    }
+    push_muted(alloc, story.config, clock, outlook, out)?;
+    if outlook.reasons.len() == 0 {
+        return push_unasked(alloc, story.config, clock, outlook, out);
+    }
+    let notices = notices_at(story.history, begin.place);
+    push_quiet_lines(alloc, story.config, clock, outlook, notices, out)
+}
+
+fn push_left<C: Clock>(
+    alloc: Global,
+    config: &Config,
+    clock: &C,
+    outlook: &Outlook,
+    out: &mut String,
+) -> Result<(), AllocError> {
+    let mut object = begun_object(alloc, config, clock, "quiet", outlook)?;
+    object.put_text("reason", reason_words(&Reason::NothingLeft))?;
+    object.put("muted", muted_list(alloc, outlook.muted.as_slice())?)?;
+    object.push_line(out)
+}
+
+fn push_muted<C: Clock>(
+    alloc: Global,
+    config: &Config,
+    clock: &C,
+    outlook: &Outlook,
+    out: &mut String,
+) -> Result<(), AllocError> {
+    if outlook.muted.len() == 0 {
+        return Ok(());
+    }
+    let mut object = begun_object(alloc, config, clock, "muted", outlook)?;
+    object.put("muted", muted_list(alloc, outlook.muted.as_slice())?)?;
+    object.push_line(out)
+}
+
+fn push_unasked<C: Clock>(
+    alloc: Global,
+    config: &Config,
+    clock: &C,
+    outlook: &Outlook,
+    out: &mut String,
+) -> Result<(), AllocError> {
+    let mut object = begun_object(alloc, config, clock, "quiet", outlook)?;
+    object.put_receiver(config, &outlook.group)?;
+    object.put_text("reason", "no integrations")?;
+    object.push_line(out)
+}
+
+fn push_quiet_lines<C: Clock>(
+    alloc: Global,
+    config: &Config,
+    clock: &C,
+    outlook: &Outlook,
+    notices: &[Notice],
+    out: &mut String,
+) -> Result<(), AllocError> {
+    for (position, reason) in outlook.reasons.as_slice().iter().enumerate() {
+        if !reason.asks() || is_sent_nothing(notices, position) {
+            push_quiet(alloc, config, clock, outlook, position, reason, out)?;
+        }
+    }
+    Ok(())
+}
+
+fn push_quiet<C: Clock>(
+    alloc: Global,
+    config: &Config,
+    clock: &C,
+    outlook: &Outlook,
+    position: usize,
+    reason: &Reason,
+    out: &mut String,
+) -> Result<(), AllocError> {
+    let mut object = begun_object(alloc, config, clock, "quiet", outlook)?;
+    object.put_integration(config, &outlook.group, position)?;
+    if reason.asks() {
+        object.put_text("reason", "all resolved, which it isn't sent")?;
+    } else {
+        put_reason(reason, &mut object)?;
+    }
+    object.push_line(out)
+}
+
+fn begun_object<C: Clock>(
+    alloc: Global,
+    config: &Config,
+    clock: &C,
+    event: &str,
+    outlook: &Outlook,
+) -> Result<Object, AllocError> {
+    Object::new(alloc, config, clock, event, outlook.moment, &outlook.group)
+}

@@ -1,0 +1,94 @@
+//! The parts of lines.
+ghost use Rattle.std.specs.Prelude.{◌≡◌, ◌++◌, OnOk, string_bytes};
+ghost use Rattle.am_timeline.specs.Timeline.{attempts_text, front_text, reason_text, reason_words, repeat_text, retries_text};
+
+use crate::clock::{Clock, push_column, push_number};
+use am_board::reason::Reason;
+use std::alloc::AllocError;
+
+/// Adds the front of a line: a moment and a word.
+pub(crate) fn push_front<C: Clock>(
+    clock: &C,
+    at: u64,
+    word: &str,
+    out: &mut String,
+) -> Result<(), AllocError>
+    ensures { OnOk result (string_bytes out.new
+        ≡ string_bytes out.old ++ front_text (C.times clock.now) at word.now) }
+{
+    push_column(clock, at, out)?;
+    out.push_str(word)
+}
+
+pub(crate) fn push_retries<C: Clock>(
+    clock: &C,
+    attempts: u64,
+    since: u64,
+    out: &mut String,
+) -> Result<(), AllocError>
+    ensures { OnOk result (string_bytes out.new
+        ≡ string_bytes out.old ++ retries_text (C.times clock.now) attempts since) }
+{
+    if attempts == 1 {
+        return Ok(());
+    }
+    push_attempts(clock, attempts, since, out)
+}
+
+pub(crate) fn push_attempts<C: Clock>(
+    clock: &C,
+    attempts: u64,
+    since: u64,
+    out: &mut String,
+) -> Result<(), AllocError>
+    ensures { OnOk result (string_bytes out.new
+        ≡ string_bytes out.old ++ attempts_text (C.times clock.now) attempts since) }
+{
+    out.push_str(" after ")?;
+    push_number(attempts, out)?;
+    out.push_str(if attempts == 1 {
+        " attempt"
+    } else {
+        " attempts"
+    })?;
+    out.push_str(" since ")?;
+    clock.push_moment(since, out)
+}
+
+pub(crate) fn push_reason<C: Clock>(
+    clock: &C,
+    reason: &Reason,
+    out: &mut String,
+) -> Result<(), AllocError>
+    ensures { OnOk result (string_bytes out.new
+        ≡ string_bytes out.old ++ reason_text (C.times clock.now) reason.now) }
+{
+    out.push_str(reason_words(reason))?;
+    push_repeat(clock, reason, out)
+}
+
+pub(crate) fn reason_words(reason: &Reason) -> &'static str
+    ensures { result.now ≡ reason_words reason.now }
+{
+    match reason {
+        Reason::FirstNotice => "first notice",
+        Reason::NewAlert => "new alert",
+        Reason::AllResolved => "all resolved",
+        Reason::NewlyResolved => "newly resolved",
+        Reason::Repeat => "repeat",
+        Reason::NothingLeft => "nothing left",
+        Reason::NothingFiring => "nothing fires",
+        Reason::NotYet { .. } => "nothing new, repeat from ",
+    }
+}
+
+/// Adds from when on a notice is repeated that isn't yet.
+fn push_repeat<C: Clock>(clock: &C, reason: &Reason, out: &mut String) -> Result<(), AllocError>
+    ensures { OnOk result (string_bytes out.new
+        ≡ string_bytes out.old ++ repeat_text (C.times clock.now) reason.now) }
+{
+    match reason {
+        Reason::NotYet { from } => clock.push_moment(*from, out),
+        _ => Ok(()),
+    }
+}

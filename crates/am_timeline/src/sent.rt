@@ -1,0 +1,128 @@
+//! The notices whose sending came to an end.
+ghost use Rattle.std.specs.Prelude.{◌≡◌};
+ghost use Rattle.std.specs.Option.{option_copied};
+ghost use Rattle.am_model.specs.Ticket.{outcome_of};
+ghost use Rattle.am_timeline.specs.Story.{finished_with, is_delivered, outcome_after, outcomes_in, sent_by, sent_of};
+
+use crate::story::{Story, later_than, notice_for, notices_at};
+use am_board::notice::{Notice, Report};
+use am_board::record::{Call, Record};
+use am_rehearsal::event::{Event, ToldBegin};
+use am_retry::Outcome;
+use std::marker::Model;
+
+/// A notice whose sending came to its end.
+#[derive(Drop)]
+pub(crate) struct Sent<'s> {
+    /// The begin of its flush.
+    pub(crate) begin: &'s ToldBegin,
+    pub(crate) notice: &'s Notice,
+    /// What it came to, as the finish of its flush says.
+    pub(crate) outcome: Outcome,
+    pub(crate) report: Report,
+}
+
+impl<'s> Model for Sent<'s> {
+    ghost use Rattle.am_timeline.specs.Story.{SentData};
+
+    ghost Value = { SentData };
+
+    ghost view = { λ s.
+        record {
+          begin = s.begin.now;
+          notice = s.notice.now;
+          outcome = s.outcome;
+          report = s.report;
+        } };
+}
+
+impl<'s> Sent<'s> {
+    /// Whether it was delivered.
+    pub(crate) fn is_delivered(&self) -> bool
+        ensures { result ≡ is_delivered self.now.outcome }
+    {
+        match self.outcome {
+            Outcome::Delivered => true,
+            Outcome::Refused | Outcome::Expired | Outcome::Starved => false,
+        }
+    }
+}
+
+/// The notice whose sending came to its end by this, if there is one.
+pub(crate) fn sent_of<'s>(story: &Story<'s>, event: &Event) -> Option<Sent<'s>>
+    ensures { result ≡ sent_of story.now event.now }
+{
+    match event {
+        Event::Begun { begin: _ } => None,
+        Event::Sent { begin, report } => match story.begins.get(*begin) {
+            None => None,
+            Some(begin) => sent_by(story.history, *report, begin),
+        },
+    }
+}
+
+/// The notice of a begin that a report is on, if there is one.
+fn sent_by<'s>(history: &'s [Record], report: Report, begin: &'s ToldBegin) -> Option<Sent<'s>>
+    ensures { result ≡ sent_by history.now report begin.now }
+{
+    let notice = notice_for(
+        report.integration as usize,
+        notices_at(history, begin.place),
+    )?;
+    let outcome = outcome_after(history, begin.place, notice)?;
+    Some(Sent {
+        begin,
+        notice,
+        outcome,
+        report,
+    })
+}
+
+/// What a notice that was begun at a place came to, as the finish of its flush in the later records
+/// says.
+fn outcome_after(history: &[Record], place: usize, notice: &Notice) -> Option<Outcome>
+    ensures { result ≡ outcome_after history.now place notice.now }
+{
+    outcome_of(
+        outcomes_in(notice.ticket, later_than(history, place)),
+        notice.integration,
+    )
+}
+
+/// The outcomes that the flush of this number is finished with in these records; none where it isn't.
+fn outcomes_in(number: u64, later: &[Record]) -> &[(u32, Outcome)]
+    ensures { result.now ≡ outcomes_in number later.now }
+{
+    for record in later {
+        if let Some(outcomes) = finished_with(number, &record.call) {
+            return outcomes;
+        }
+    }
+    &[]
+}
+
+/// The outcomes that a call finishes the flush of this number with, if it does.
+fn finished_with(number: u64, call: &Call) -> Option<&[(u32, Outcome)]>
+    ensures { option_copied result ≡ finished_with number call.now }
+{
+    match call {
+        Call::Finish {
+            now: _,
+            number: finished,
+            outcomes,
+        } if *finished == number => Some(outcomes.as_slice()),
+        _ => None,
+    }
+}
+
+/// The outcome of an integration: that of the first pair that names it.
+fn outcome_of(outcomes: &[(u32, Outcome)], integration: u32) -> Option<Outcome>
+    ensures { result ≡ outcome_of outcomes.now integration }
+{
+    for pair in outcomes {
+        if pair.0 == integration {
+            return Some(pair.1);
+        }
+    }
+    None
+}

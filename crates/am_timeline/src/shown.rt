@@ -1,0 +1,102 @@
+//! Texts and label sets with nothing in them that a terminal would take for a command.
+ghost use Rattle.std.specs.Prelude.{◌≡◌, ◌++◌, ◌∷◌, [], ◌<◌, OnOk, codes, string_bytes};
+ghost use Rattle.std.specs.List.{flat_map, join_by};
+ghost use Rattle.am_timeline.specs.Shown.{char_shown, hex_digit, hex_text, label_shown, set_shown, text_shown};
+
+use am_alerts::labels::{Label, Labels};
+use std::alloc::AllocError;
+
+/// Adds a label set.
+pub(crate) fn push_set(labels: &Labels, out: &mut String) -> Result<(), AllocError>
+    ensures { OnOk result (string_bytes out.new ≡ string_bytes out.old ++ set_shown labels.now) }
+{
+    out.push_str("{")?;
+    push_labels(labels.pairs(), out)?;
+    out.push_str("}")
+}
+
+fn push_labels(labels: &[Label], out: &mut String) -> Result<(), AllocError>
+    ensures { OnOk result (string_bytes out.new
+        ≡ string_bytes out.old ++ join_by label_shown (codes ",") labels.now) }
+{
+    match labels {
+        [] => Ok(()),
+        [first, rest @ ..] => {
+            push_label(first, out)?;
+            push_more_labels(rest, out)
+        }
+    }
+}
+
+fn push_more_labels(labels: &[Label], out: &mut String) -> Result<(), AllocError>
+    ensures { OnOk result (string_bytes out.new
+        ≡ string_bytes out.old ++ flat_map (λ l. codes "," ++ label_shown l) labels.now) }
+{
+    for label in labels {
+        out.push_str(",")?;
+        push_label(label, out)?;
+    }
+    Ok(())
+}
+
+fn push_label(label: &Label, out: &mut String) -> Result<(), AllocError>
+    ensures { OnOk result (string_bytes out.new ≡ string_bytes out.old ++ label_shown label.now) }
+{
+    out.push_str(label.name.as_str())?;
+    out.push_str("=\"")?;
+    push_text(label.value.as_str(), out)?;
+    out.push_str("\"")
+}
+
+/// Adds a text: `\`, `"` and a line feed as `\\`, `\"` and `\n`, each other control character as its
+/// number, like `\u{1b}`.
+pub(crate) fn push_text(text: &str, out: &mut String) -> Result<(), AllocError>
+    ensures { OnOk result (string_bytes out.new ≡ string_bytes out.old ++ text_shown text.now) }
+{
+    for c in text.chars() {
+        push_char(c, out)?;
+    }
+    Ok(())
+}
+
+fn push_char(c: char, out: &mut String) -> Result<(), AllocError>
+    ensures { OnOk result (string_bytes out.new ≡ string_bytes out.old ++ char_shown c) }
+{
+    match c {
+        '\\' => out.push_str("\\\\"),
+        '"' => out.push_str("\\\""),
+        '\n' => out.push_str("\\n"),
+        '\0'..='\u{1f}' | '\u{7f}'..='\u{9f}' => push_control(c as u32 as u8, out),
+        _ => out.push(c),
+    }
+}
+
+fn push_control(number: u8, out: &mut String) -> Result<(), AllocError>
+    ensures { OnOk result (string_bytes out.new ≡ string_bytes out.old ++ codes "\\u{" ++ hex_text number ++ codes "}") }
+{
+    out.push_str("\\u{")?;
+    push_hex(number, out)?;
+    out.push_str("}")
+}
+
+/// Adds a number in hexadecimal digits.
+pub(crate) fn push_hex(number: u8, out: &mut String) -> Result<(), AllocError>
+    ensures { OnOk result (string_bytes out.new ≡ string_bytes out.old ++ hex_text number) }
+{
+    if number >= 16 {
+        push_hex_digit(number / 16, out)?;
+    }
+    push_hex_digit(number % 16, out)
+}
+
+fn push_hex_digit(digit: u8, out: &mut String) -> Result<(), AllocError>
+    requires { digit < 16 }
+    ensures { OnOk result (string_bytes out.new ≡ string_bytes out.old ++ hex_digit digit ∷ []) }
+{
+    let code = if digit < 10 {
+        b'0' + digit
+    } else {
+        b'a' + (digit - 10)
+    };
+    out.push(char::from(code))
+}

@@ -1,0 +1,179 @@
+//! What each receiver got in a rehearsal.
+ghost use Rattle.std.specs.Prelude.{◌≡◌, ◌≤◌, ◌++◌, IfOk, OnOk, codes, count_by, find, length, option_copied, reverse, string_bytes};
+ghost use Rattle.std.specs.List.{flat_map};
+ghost use Rattle.am_timeline.specs.Table.{count_text, counts_text, delivers, end_of, end_text, ends_text, fails, is_for, receiver_line};
+ghost use Rattle.am_timeline.specs.Table.{table_text};
+
+use crate::clock::{Clock, push_number};
+use crate::sent::{Sent, sent_of};
+use crate::shown::push_text;
+use crate::story::Story;
+use am_board::config::{Config, Receiver};
+use am_rehearsal::event::Event;
+use std::alloc::{AllocError, Global};
+
+/// An empty line, and a line for each receiver, in the configuration's order: how many notices it got,
+/// how many failed, and when it got the first and the last.
+pub fn table_text<C: Clock>(alloc: Global, story: &Story, clock: &C) -> Result<String, AllocError>
+    ensures { IfOk result (λ text. string_bytes text ≡ table_text story.now (C.times clock.now)) }
+{
+    let mut out = String::new(alloc);
+    out.push_str("\n")?;
+    push_receivers(story, clock, story.config.receivers.as_slice(), &mut out)?;
+    Ok(out)
+}
+
+fn push_receivers<C: Clock>(
+    story: &Story,
+    clock: &C,
+    receivers: &[Receiver],
+    out: &mut String,
+) -> Result<(), AllocError>
+    ensures { OnOk result (string_bytes out.new ≡ string_bytes out.old
+        ++ flat_map (receiver_line story.now (C.times clock.now)) receivers.now) }
+{
+    for receiver in receivers {
+        push_receiver(story, clock, receiver, out)?;
+    }
+    Ok(())
+}
+
+#[tactic(auto, unfolding(crate::specs::Table::receiver_line))]
+fn push_receiver<C: Clock>(
+    story: &Story,
+    clock: &C,
+    receiver: &Receiver,
+    out: &mut String,
+) -> Result<(), AllocError>
+    ensures { OnOk result (string_bytes out.new ≡ string_bytes out.old
+        ++ receiver_line story.now (C.times clock.now) receiver.now) }
+{
+    let name = receiver.name.as_str();
+    out.push_str("receiver ")?;
+    push_text(name, out)?;
+    out.push_str(": ")?;
+    push_counts(story, name, out)?;
+    push_ends(story, clock, name, out)?;
+    out.push_str("\n")
+}
+
+/// Adds how many notices a receiver got, and how many failed.
+#[tactic(auto, unfolding(crate::specs::Table::counts_text))]
+fn push_counts(story: &Story, name: &str, out: &mut String) -> Result<(), AllocError>
+    ensures { OnOk result (string_bytes out.new ≡ string_bytes out.old ++ counts_text story.now name.now) }
+{
+    push_count(count_delivered(story, name), " notice", out)?;
+    out.push_str(", ")?;
+    push_count(count_failed(story, name), " failure", out)
+}
+
+fn push_count(count: usize, word: &str, out: &mut String) -> Result<(), AllocError>
+    ensures { OnOk result (string_bytes out.new ≡ string_bytes out.old ++ count_text count word.now) }
+{
+    push_number(count as u64, out)?;
+    out.push_str(word)?;
+    if count != 1 {
+        out.push_str("s")?;
+    }
+    Ok(())
+}
+
+fn count_delivered(story: &Story, name: &str) -> usize
+    ensures { result ≡ count_by (delivers story.now name.now) story.now.events }
+{
+    let mut count: usize = 0;
+    for event in story.events {
+        if delivers(story, name, event) {
+            count += 1;
+        }
+    }
+    count
+}
+
+fn count_failed(story: &Story, name: &str) -> usize
+    ensures { result ≡ count_by (fails story.now name.now) story.now.events }
+{
+    let mut count: usize = 0;
+    for event in story.events {
+        if fails(story, name, event) {
+            count += 1;
+        }
+    }
+    count
+}
+
+/// Whether a notice for the receiver of this name was delivered by this.
+fn delivers(story: &Story, name: &str, event: &Event) -> bool
+    ensures { result ≡ delivers story.now name.now event.now }
+{
+    match sent_of(story, event) {
+        None => false,
+        Some(sent) => is_for(story.config, name, &sent) && sent.is_delivered(),
+    }
+}
+
+/// Whether the sending of a notice for the receiver of this name failed by this.
+fn fails(story: &Story, name: &str, event: &Event) -> bool
+    ensures { result ≡ fails story.now name.now event.now }
+{
+    match sent_of(story, event) {
+        None => false,
+        Some(sent) => is_for(story.config, name, &sent) && !sent.is_delivered(),
+    }
+}
+
+/// Whether a notice was for the receiver of this name.
+pub(crate) fn is_for(config: &Config, name: &str, sent: &Sent) -> bool
+    ensures { result ≡ is_for config.now name.now sent.now }
+{
+    let notice = sent.notice;
+    config.route_of(&notice.group).receiver.as_str() == name
+}
+
+/// Adds when a receiver got its first notice, and when its last.
+#[tactic(auto, unfolding(crate::specs::Table::ends_text))]
+fn push_ends<C: Clock>(
+    story: &Story,
+    clock: &C,
+    name: &str,
+    out: &mut String,
+) -> Result<(), AllocError>
+    ensures { OnOk result (string_bytes out.new
+        ≡ string_bytes out.old ++ ends_text story.now (C.times clock.now) name.now) }
+{
+    out.push_str(", first ")?;
+    push_end(clock, first_delivered(story, name), out)?;
+    out.push_str(", last ")?;
+    push_end(clock, last_delivered(story, name), out)
+}
+
+fn first_delivered<'s>(story: &Story<'s>, name: &str) -> Option<&'s Event>
+    ensures { option_copied result ≡ find (delivers story.now name.now) story.now.events }
+{
+    story
+        .events
+        .iter()
+        .find(|event| delivers(story, name, *event))
+}
+
+fn last_delivered<'s>(story: &Story<'s>, name: &str) -> Option<&'s Event>
+    ensures { option_copied result ≡ find (delivers story.now name.now) (reverse story.now.events) }
+{
+    story
+        .events
+        .iter()
+        .rev()
+        .find(|event| delivers(story, name, *event))
+}
+
+/// Adds the moment of an event, `none` where there is none.
+fn push_end<C: Clock>(clock: &C, event: Option<&Event>, out: &mut String) -> Result<(), AllocError>
+    ensures { OnOk result (string_bytes out.new
+        ≡ string_bytes out.old ++ end_text (C.times clock.now) (option_copied event.entry)) }
+{
+    match event {
+        None => out.push_str("none"),
+        Some(Event::Begun { .. }) => out.push_str("none"),
+        Some(Event::Sent { begin: _, report }) => clock.push_moment(report.ended, out),
+    }
+}

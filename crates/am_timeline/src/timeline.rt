@@ -1,0 +1,161 @@
+//! What happened in a rehearsal, a line for each event.
+ghost use Rattle.std.specs.Prelude.{◌≡◌, ◌++◌, IfOk, OnOk, string_bytes};
+ghost use Rattle.am_timeline.specs.Timeline.{delivered_line, delivered_text, event_lines, failed_line, notice_line, sent_line};
+ghost use Rattle.am_timeline.specs.Timeline.{timeline_text, told_text};
+
+use crate::alerts::push_alerts;
+use crate::begun::push_begun;
+use crate::clock::Clock;
+use crate::groups::push_target;
+use crate::line::{push_attempts, push_front, push_reason, push_retries};
+use crate::sent::{Sent, sent_of};
+use crate::story::Story;
+use am_board::config::Config;
+use am_board::notice::Notice;
+use am_board::reason::Reason;
+use am_rehearsal::event::Event;
+use am_retry::Outcome;
+use std::alloc::{AllocError, Global};
+
+/// The timeline of a rehearsal: the lines on all events, in their order.
+///
+/// A notice has the reason that was told of its integration before its begin was made, and what it
+/// came to as the finish of its flush says.
+pub fn timeline_text<C: Clock>(
+    alloc: Global,
+    story: &Story,
+    clock: &C,
+) -> Result<String, AllocError>
+    ensures { IfOk result (λ text. string_bytes text ≡ timeline_text story.now (C.times clock.now)) }
+{
+    let mut out = String::new(alloc);
+    for event in story.events {
+        push_event(story, clock, event, &mut out)?;
+    }
+    Ok(out)
+}
+
+/// Adds the lines on an event.
+fn push_event<C: Clock>(
+    story: &Story,
+    clock: &C,
+    event: &Event,
+    out: &mut String,
+) -> Result<(), AllocError>
+    ensures { OnOk result (string_bytes out.new
+        ≡ string_bytes out.old ++ event_lines story.now (C.times clock.now) event.now) }
+{
+    match event {
+        Event::Begun { begin } => match story.begins.get(*begin) {
+            None => Ok(()),
+            Some(begin) => push_begun(story, clock, begin, out),
+        },
+        Event::Sent { .. } => match sent_of(story, event) {
+            None => Ok(()),
+            Some(sent) => push_sent(story.config, clock, &sent, out),
+        },
+    }
+}
+
+/// Adds the line on a notice whose sending came to its end.
+fn push_sent<C: Clock>(
+    config: &Config,
+    clock: &C,
+    sent: &Sent,
+    out: &mut String,
+) -> Result<(), AllocError>
+    ensures { OnOk result (string_bytes out.new
+        ≡ string_bytes out.old ++ sent_line config.now (C.times clock.now) sent.now) }
+{
+    match sent.outcome {
+        Outcome::Delivered => push_notice(config, clock, sent, out),
+        Outcome::Refused => push_failed(config, clock, sent, " refused", out),
+        Outcome::Expired => push_failed(config, clock, sent, " expired", out),
+        Outcome::Starved => push_failed(config, clock, sent, " starved", out),
+    }
+}
+
+/// Adds the line on a notice that was delivered, with the reason that was told of its integration;
+/// nothing where none was.
+pub(crate) fn push_notice<C: Clock>(
+    config: &Config,
+    clock: &C,
+    sent: &Sent,
+    out: &mut String,
+) -> Result<(), AllocError>
+    ensures { OnOk result (string_bytes out.new
+        ≡ string_bytes out.old ++ notice_line config.now (C.times clock.now) sent.now) }
+{
+    let notice = sent.notice;
+    let reasons = sent.begin.outlook.reasons.as_slice();
+    match reasons.get(notice.integration as usize) {
+        None => Ok(()),
+        Some(reason) => push_delivered(config, clock, sent, reason, out),
+    }
+}
+
+fn push_delivered<C: Clock>(
+    config: &Config,
+    clock: &C,
+    sent: &Sent,
+    reason: &Reason,
+    out: &mut String,
+) -> Result<(), AllocError>
+    ensures { OnOk result (string_bytes out.new
+        ≡ string_bytes out.old ++ delivered_line config.now (C.times clock.now) sent.now reason.now) }
+{
+    push_delivery(config, clock, sent, out)?;
+    push_told(clock, reason, sent.notice, out)
+}
+
+/// Adds that a notice was delivered.
+fn push_delivery<C: Clock>(
+    config: &Config,
+    clock: &C,
+    sent: &Sent,
+    out: &mut String,
+) -> Result<(), AllocError>
+    ensures { OnOk result (string_bytes out.new
+        ≡ string_bytes out.old ++ delivered_text config.now (C.times clock.now) sent.now) }
+{
+    let notice = sent.notice;
+    push_front(clock, sent.report.ended, "notice  ", out)?;
+    push_target(config, &notice.group, notice.integration as usize, out)?;
+    out.push_str(" delivered")?;
+    push_retries(clock, sent.report.attempts, sent.begin.outlook.moment, out)
+}
+
+/// Adds why a notice was sent, and what it told.
+fn push_told<C: Clock>(
+    clock: &C,
+    reason: &Reason,
+    notice: &Notice,
+    out: &mut String,
+) -> Result<(), AllocError>
+    ensures { OnOk result (string_bytes out.new
+        ≡ string_bytes out.old ++ told_text (C.times clock.now) reason.now notice.now) }
+{
+    out.push_str(": ")?;
+    push_reason(clock, reason, out)?;
+    push_alerts("; firing ", notice.firing.as_slice(), out)?;
+    push_alerts("; resolved ", notice.resolved.as_slice(), out)?;
+    out.push_str("\n")
+}
+
+fn push_failed<C: Clock>(
+    config: &Config,
+    clock: &C,
+    sent: &Sent,
+    word: &str,
+    out: &mut String,
+) -> Result<(), AllocError>
+    ensures { OnOk result (string_bytes out.new
+        ≡ string_bytes out.old ++ failed_line config.now (C.times clock.now) sent.now word.now) }
+{
+    let notice = sent.notice;
+    push_front(clock, sent.report.ended, "failed  ", out)?;
+    push_target(config, &notice.group, notice.integration as usize, out)?;
+    out.push_str(word)?;
+    push_attempts(clock, sent.report.attempts, sent.begin.outlook.moment, out)?;
+    out.push_str("\n")
+}

@@ -1,0 +1,269 @@
+"""What `.ci/rehearsals` has done in Python: `rehearsals.py PROGRAM`."""
+import json
+import re
+import resource
+import subprocess
+import sys
+from pathlib import Path
+
+# What a run may take: seconds of a processor, and bytes.
+SECONDS = 20
+BYTES = 600 * 1024 * 1024
+PROGRAM = sys.argv[1]
+REHEARSALS = Path("examples/rehearsals")
+FAILED = []
+
+
+def tell(told, is_right, why=""):
+    print(f"ok      {told}" if is_right else f"differs {told}{why and ': '}{why}")
+    if not is_right:
+        FAILED.append(told)
+
+
+def limit():
+    resource.setrlimit(resource.RLIMIT_CPU, (SECONDS, SECONDS))
+    resource.setrlimit(resource.RLIMIT_AS, (BYTES, BYTES))
+
+
+def run(text):
+    """The status of a run, what it told, and its line on standard error."""
+    ran = subprocess.run([PROGRAM], input=text.encode(), capture_output=True, preexec_fn=limit)
+    return ran.returncode, ran.stdout.decode(), ran.stderr.decode().rstrip("\n")
+
+
+def stored(name):
+    return json.loads((REHEARSALS / f"{name}.json").read_text())
+
+
+# The stored outputs.
+
+def check_output(name):
+    """A rehearsal has its stored text and status; `notices` prints the text's notices alone."""
+    wanted = (REHEARSALS / f"{name}.txt").read_text()
+    status_file = REHEARSALS / f"{name}.status"
+    status = int(status_file.read_text()) if status_file.exists() else 0
+    got = run((REHEARSALS / f"{name}.json").read_text())
+    tell(f"{name}.json", got[:2] == (status, wanted), f"status {got[0]} {got[2]}")
+    if stored(name).get("output", "timeline") != "timeline":
+        return
+    lines = wanted.splitlines(keepends=True)
+    notices = "".join(line for line in lines if line[14:22] == "notice  ")
+    got = run(json.dumps({**stored(name), "output": "notices"}))
+    tell(f"{name}.json, notices", got[:2] == (status, notices), f"status {got[0]} {got[2]}")
+
+
+# The notices of a scenario and of its rehearsal.
+
+LABELS = r'\{(?:[a-zA-Z_0-9]+="(?:[^"\\]|\\.)*",?)*\}'
+REPORTED = re.compile(
+    rf"notice \d+ (\w+):({LABELS}) (\w+/\d+) (\w+) attempts=(\d+) firing=\[(.*)\] resolved=\[(.*)\]"
+)
+DELIVERED = re.compile(
+    rf".{{12}}  notice  (\w+)({LABELS}) -> \S+ (\w+/\d+) delivered(?: after (\d+) attempts since [^ ]+)?: "
+    rf"[^;]*(?:; firing (.*?))?(?:; resolved (.*))?"
+)
+LOST = re.compile(
+    rf".{{12}}  failed  (\w+)({LABELS}) -> \S+ (\w+/\d+) (\w+) after (\d+) attempts? since .*"
+)
+UNSENT = re.compile(
+    rf".{{12}}  quiet   (\w+)({LABELS}) -> \S+ (\w+/\d+): all resolved, which it isn't sent"
+)
+
+
+def sets(text):
+    return re.findall(LABELS, text or "")
+
+
+def reported(report):
+    """The notices of a scenario's report; of one that failed not what it was to tell."""
+    notices = []
+    for line in report.splitlines():
+        found = REPORTED.fullmatch(line)
+        if found:
+            route, labels, integration, outcome, attempts, firing, resolved = found.groups()
+            alerts = (sets(firing), sets(resolved)) if outcome == "delivered" else ([], [])
+            notices.append((route, labels, integration, outcome, int(attempts), *alerts))
+    return sorted(notices)
+
+
+def rehearsed(timeline):
+    """The notices of a rehearsal's timeline, in the same form."""
+    notices = []
+    for line in timeline.splitlines():
+        if found := DELIVERED.fullmatch(line):
+            route, labels, integration, attempts, firing, resolved = found.groups()
+            alerts = (sets(firing), sets(resolved))
+            notices.append((route, labels, integration, "delivered", int(attempts or 1), *alerts))
+        elif found := LOST.fullmatch(line):
+            route, labels, integration, outcome, attempts = found.groups()
+            notices.append((route, labels, integration, outcome, int(attempts), [], []))
+        elif found := UNSENT.fullmatch(line):
+            notices.append((*found.groups(), "nothing", 0, [], []))
+    return sorted(notices)
+
+
+def check_scenario(scenario):
+    timeline = (REHEARSALS / scenario.name).read_text()
+    report = scenario.read_text()
+    is_same = bool(reported(report)) and reported(report) == rehearsed(timeline)
+    tell(f"{scenario.stem}: the notices of the scenario and of the rehearsal", is_same)
+
+
+# Rehearsals that differ in one thing.
+
+def notices_of(rehearsal):
+    rehearsal = {member: it for member, it in rehearsal.items() if member != "expect"}
+    status, told, _ = run(json.dumps({**rehearsal, "output": "notices"}))
+    return told if status == 0 else None
+
+
+def check_differences():
+    hourly = stored("repeat-of-an-hour")
+    often = stored("repeat-of-an-hour")
+    often["config"]["route"]["repeat_interval"] = "5m"
+    told = [notices_of(hourly), notices_of(often)]
+    tell("repeat_interval alone changes the notices", None not in told and told[0] != told[1])
+    ruled = stored("cluster-down-with-rule")
+    unruled = stored("cluster-down-without-rule")
+    told = [notices_of(ruled), notices_of(unruled)]
+    del ruled["config"]["inhibit"]
+    tell("the two of cluster-down differ in the rule", ruled == unruled)
+    tell("the rule alone changes the notices", None not in told and told[0] != told[1])
+
+
+# Refusals.
+
+def repeated(text):
+    """A text with what `<x*3>` stands for."""
+    return re.sub(r"<(.)\*(\d+)>", lambda found: found[1] * int(found[2]), text)
+
+
+def key(value, step):
+    return int(step) if isinstance(value, list) else step
+
+
+def value_of(verb, text):
+    if verb not in ("many", "wide"):
+        return json.loads(repeated(text)) if text else None
+    count, item = text.split(" ", 1)
+    items = [json.loads(item.replace("#", str(number))) for number in range(int(count))]
+    return items if verb == "many" else {f"a{number}": it for number, it in enumerate(items)}
+
+
+def change(rehearsal, words):
+    """The rehearsal with a change made."""
+    verb, place, text = (words.split(" ", 2) + [""])[:3]
+    value = value_of(verb, text)
+    steps = [step.replace("~1", "/").replace("~0", "~") for step in repeated(place).split("/")[1:]]
+    if not steps:
+        return value
+    above = rehearsal
+    for step in steps[:-1]:
+        above = above[key(above, step)]
+    if verb == "drop":
+        del above[steps[-1]]
+    elif verb == "add":
+        above[steps[-1]].append(value)
+    else:
+        above[key(above, steps[-1])] = value
+    return rehearsal
+
+
+def check_refusals(table):
+    lines = [line for line in table.read_text().splitlines() if not line.startswith("#")]
+    end = lines.index("")
+    rows = [line for line in lines[end:] if line]
+    differ = 0
+    for row in rows:
+        changes, wanted = row.rsplit(" -> ", 1)
+        changed = json.loads("\n".join(lines[:end]))
+        for words in changes.split(" ; "):
+            changed = change(changed, words)
+        status, told, line = run(json.dumps(changed))
+        if wanted == "played":
+            is_right = status in (0, 5) and told != ""
+        else:
+            refused = f"am-rehearse: rehearsal refused at {repeated(wanted)}"
+            is_right = (status, told, line) == (2, "", refused)
+        if not is_right:
+            differ += 1
+            tell(row[:150], False, f"status {status} {line[:200]}")
+    tell(f"{len(rows)} refusals", differ == 0 and len(rows) > 200, f"{differ} differ")
+
+
+# Inputs that would take long, or much memory.
+
+def plain(**members):
+    """A rehearsal of one alert and one webhook."""
+    config = {
+        "receivers": [{"name": "team", "integrations": [{"kind": "hook"}]}],
+        "route": {"receiver": "team", "group_by": ["alertname"]},
+    }
+    return {"config": config, "until": "1m", "alerts": [{"labels": {"alertname": "A"}}], **members}
+
+
+def alerts(count):
+    return [{"labels": {"alertname": f"A{n % 4096}", "number": str(n)}} for n in range(count)]
+
+
+def padded(size):
+    return json.dumps(plain()).ljust(size)
+
+
+def check_hostile():
+    not_json = "am-rehearse: rehearsal refused: not JSON at line"
+    refused = "am-rehearse: rehearsal refused at"
+    endless = [{"receiver": "team"}]
+    for told, text, status, line in [
+        ("arrays 100,000 deep", "[" * 100_000, 2, not_json),
+        ("arrays 100,000 deep, closed", "[" * 100_000 + "]" * 100_000, 2, not_json),
+        ("objects 100,000 deep", '{"config":' * 100_000, 2, not_json),
+        ("16 MiB", padded(16_777_216), 0, ""),
+        ("16 MiB and a byte", padded(16_777_217), 1, "am-rehearse: input not readable"),
+        ("an end at 10^12", json.dumps(plain(until="1000000000000ms")), 2, f"{refused} /until: value"),
+        ("an end at 10^30", json.dumps(plain(until=f"{10**30}y")), 2, f"{refused} /until: value"),
+        ("a wait of 10^12", json.dumps(plain(maintain="1000000000000ms")), 0, ""),
+        ("a wait above it", json.dumps(plain(maintain="1000000000001ms")), 2, f"{refused} /maintain: value"),
+        ("100,000 alerts", json.dumps(plain(alerts=alerts(100_000))), 2, f"{refused} /alerts/65536: full"),
+        ("an outage without an end", json.dumps(plain(until="366d", outages=endless)), 0, ""),
+        ("maintenance each millisecond", json.dumps(plain(until="366d", maintain="1ms")), 2, f"{refused} /until: full"),
+    ]:
+        got = run(text)
+        is_right = got[0] == status and got[2].startswith(line) and (got[1] != "") == (status == 0)
+        tell(f"{told}: {status} {line}", is_right, f"status {got[0]} {got[2][:200]}")
+
+
+# The schema.
+
+def check_schema():
+    """Each example is as the schema says, where the module jsonschema is there; it is skipped where it isn't."""
+    schema = json.loads(Path("docs/rehearsal.schema.json").read_text())
+    try:
+        import jsonschema
+    except ImportError:
+        print("skipped the schema: there is no module jsonschema")
+        return
+    jsonschema.Draft202012Validator.check_schema(schema)
+    validator = jsonschema.Draft202012Validator(schema)
+    for example in sorted(REHEARSALS.glob("*.json")):
+        faults = [fault.message for fault in validator.iter_errors(stored(example.stem))]
+        tell(f"{example.name}, by the schema", not faults, "; ".join(faults)[:300])
+
+
+def main():
+    names = sorted(it.stem for it in REHEARSALS.glob("*.json"))
+    scenarios = sorted(Path("examples").glob("*.txt"))
+    for name in names:
+        check_output(name)
+    for scenario in scenarios:
+        check_scenario(scenario)
+    tell("as many rehearsals and scenarios as there were", len(names) >= 20 and len(scenarios) >= 9)
+    check_differences()
+    check_refusals(Path(".ci/rehearsal-refusals"))
+    check_hostile()
+    check_schema()
+    return 1 if FAILED else 0
+
+
+if __name__ == "__main__":
+    sys.exit(main())

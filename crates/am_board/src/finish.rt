@@ -22,9 +22,9 @@ use crate::group::{Group, GroupName, Member};
 use crate::groups::Groups;
 use crate::record::{Call, Finished, Record, Reply};
 use crate::state::State;
-use crate::ticket::outcome_of;
 use am_alerts::labels::Labels;
 use am_alerts::sequence::Sequence;
+use am_model::outcome::outcome_of;
 use am_nflog::{LogKey, NfLog};
 use am_retry::Outcome;
 

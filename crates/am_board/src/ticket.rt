@@ -8,6 +8,7 @@ ghost use Rattle.am_model.specs.Notice.{has_something_for as has_something};
 use crate::fault::ReportFault;
 use crate::group::GroupName;
 use crate::notice::{Notice, Report};
+use am_model::outcome::outcome_of;
 use am_retry::Outcome;
 use std::marker::Model;
 
@@ -113,18 +114,6 @@ impl Ticket {
             .push_reserved((report.integration, report.outcome));
         Ok(())
     }
-}
-
-/// The outcome of an integration: that of the first pair that names it.
-pub(crate) fn outcome_of(outcomes: &[(u32, Outcome)], integration: u32) -> Option<Outcome>
-    ensures { result ≡ first_outcome outcomes.now integration }
-{
-    for pair in outcomes {
-        if pair.0 == integration {
-            return Some(pair.1);
-        }
-    }
-    None
 }
 
 fn has_something_for(notices: &[Notice], integration: u32) -> bool

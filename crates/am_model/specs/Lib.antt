@@ -9,6 +9,7 @@ pub mod Laws
 pub mod Lists
 pub mod Note
 pub mod Notice
+pub mod Outcomes
 pub mod Records
 pub mod Replay
 pub mod State

@@ -7,6 +7,7 @@ pub mod fault;
 pub mod group;
 pub mod law;
 pub mod notice;
+pub mod outcome;
 pub mod outlook;
 pub mod reason;
 pub mod record;

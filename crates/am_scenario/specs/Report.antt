@@ -1,5 +1,5 @@
 -- The report: the text of a history.
-use Rattle.std.specs.Prelude.{◌≡◌, ℕ, Bool, ◌&&◌, ◌==◌, List, [], ◌∷◌, ◌++◌, length, codes, decimal, Option, Some, None, unwrap_or}
+use Rattle.std.specs.Prelude.{◌≡◌, ℕ, Bool, ◌&&◌, ◌==◌, List, [], ◌∷◌, ◌++◌, length, codes, decimal, Option, Some, None}
 use Rattle.std.specs.Prelude.{if◌then◌else◌}
 use Rattle.std.specs.List.{flat_map, join_by}
 use Rattle.am_alerts.specs.AlertData.{AlertData}
@@ -11,8 +11,6 @@ use Rattle.am_retry.specs.declared.outcome.Outcome.TheVariants.{Delivered, Refus
 use Rattle.am_model.specs.declared.config.Config.{Config}
 use Rattle.am_model.specs.declared.group.GroupName.{GroupName}
 use Rattle.am_model.specs.declared.notice.Report.{Report}
-use Rattle.am_model.specs.declared.record.Call.{Call}
-use Rattle.am_model.specs.declared.record.Call.TheVariants as call
 use Rattle.am_model.specs.declared.record.Record.{Record}
 use Rattle.am_model.specs.declared.views.GroupView.{GroupView}
 use Rattle.am_model.specs.declared.views.RowView.{RowView}
@@ -21,6 +19,7 @@ use Rattle.am_model.specs.Configured.{route_of, integrations_named}
 use Rattle.am_model.specs.Notice.{NoticeData, is_nothing}
 use Rattle.am_model.specs.look_back.Past.{notices_in}
 use Rattle.am_model.specs.Replay.{replay, IsLegal}
+use Rattle.am_model.specs.Outcomes.{outcomes_in}
 use Rattle.am_model.specs.Ticket.{outcome_of}
 use Rattle.am_model.specs.Views.{row_views, group_views}
 
@@ -93,20 +92,6 @@ group_line config g =
 -- the line on how many calls there were
 abbrev pub calls_line : ℕ → List ℕ
 calls_line calls = codes "calls " ++ decimal calls ++ codes "\n"
-
--- the outcomes that a call finishes the flush of this number with, if it does
-abbrev pub finished_with : ℕ → Call → Option (List (ℕ × Outcome))
-finished_with number (call.Insert now alert) = None
-finished_with number (call.Silence now id matchers start end) = None
-finished_with number (call.Begin now) = None
-finished_with number (call.Finish now finished outcomes) = if finished == number then Some outcomes else None
-finished_with number (call.Maintain now) = None
-finished_with number (call.Note now noted integration outcome) = None
-
--- the outcomes that the flush of this number is finished with in these records; none where it isn't
-abbrev pub outcomes_in : ℕ → List Record → List (ℕ × Outcome)
-outcomes_in number [] = []
-outcomes_in number (r ∷ rs) = unwrap_or (finished_with number r.call) (outcomes_in number rs)
 
 -- what the sending of a notice came to, as the finish of its flush in these records says
 abbrev pub outcome_in : NoticeData → List Record → Option Outcome

@@ -9,7 +9,8 @@ ghost use Rattle.am_model.specs.Replay.{IsLegal};
 ghost use Rattle.am_model.specs.Ticket.{outcome_of};
 ghost use Rattle.am_scenario.specs.Report.{labels_of, as_it_is, list_text, lists_text, group_text, integration_text, target_text};
 ghost use Rattle.am_scenario.specs.Report.{reported_text, outcome_text, notice_line, row_line, flushed_text, group_line, calls_line};
-ghost use Rattle.am_scenario.specs.Report.{finished_with, outcomes_in, attempts_on, line_on, notice_lines, report_text};
+ghost use Rattle.am_model.specs.Outcomes.{outcomes_in};
+ghost use Rattle.am_scenario.specs.Report.{attempts_on, line_on, notice_lines, report_text};
 
 use am_alerts::alert::Alert;
 use am_alerts::labels::Labels;
@@ -19,6 +20,7 @@ use am_board::notice::{Notice, Report};
 use am_board::record::{Call, Record, Reply};
 use am_board::views::{GroupView, RowView};
 use am_desk::Closed;
+use am_model::outcome::{outcome_of, outcomes_in};
 use am_retry::Outcome;
 use std::alloc::{AllocError, Global};
 
@@ -166,18 +168,6 @@ impl<'r> Sending<'r> {
     }
 }
 
-/// The outcomes that the flush of this number is finished with in these records; none where it isn't.
-fn outcomes_in(number: u64, later: &[Record]) -> &[(u32, Outcome)]
-    ensures { result.now ≡ outcomes_in number later.now }
-{
-    for record in later {
-        if let Some(outcomes) = finished_with(number, &record.call) {
-            return outcomes;
-        }
-    }
-    &[]
-}
-
 /// These reports from the first that is on the flush of this number.
 fn from_first_on(number: u64, reports: &[Report]) -> &[Report]
     ensures { (integration : ℕ) → attempts_on number integration result.now ≡ attempts_on number integration reports.now }
@@ -203,32 +193,6 @@ fn up_to_last_on(number: u64, reports: &[Report]) -> &[Report]
             _ => return rest,
         }
     }
-}
-
-/// The outcomes that a call finishes the flush of this number with, if it does.
-fn finished_with(number: u64, call: &Call) -> Option<&[(u32, Outcome)]>
-    ensures { option_copied result ≡ finished_with number call.now }
-{
-    match call {
-        Call::Finish {
-            now: _,
-            number: finished,
-            outcomes,
-        } if *finished == number => Some(outcomes.as_slice()),
-        _ => None,
-    }
-}
-
-/// The outcome of an integration: that of the first pair that names it.
-fn outcome_of(outcomes: &[(u32, Outcome)], integration: u32) -> Option<Outcome>
-    ensures { result ≡ outcome_of outcomes.now integration }
-{
-    for pair in outcomes {
-        if pair.0 == integration {
-            return Some(pair.1);
-        }
-    }
-    None
 }
 
 /// How many attempts the first of these reports on a notice tells.

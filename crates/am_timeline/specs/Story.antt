@@ -1,15 +1,14 @@
 -- Story: a rehearsal that was played, and what is told of the notices that were sent in it.
-use Rattle.std.specs.Prelude.{ℕ, ◌+◌, Bool, true, false, ◌==◌, List, [], drop, find, Option, Some, None, slice_get, unwrap_or, ◌∷◌, if◌then◌else◌}
+use Rattle.std.specs.Prelude.{ℕ, ◌+◌, Bool, true, false, ◌==◌, List, [], drop, find, Option, Some, None, slice_get}
 use Rattle.std.specs.Option.{option_and_then, option_map, option_map_or}
 use Rattle.am_retry.specs.declared.outcome.Outcome.{Outcome}
 use Rattle.am_retry.specs.declared.outcome.Outcome.TheVariants.{Delivered, Refused, Expired, Starved}
 use Rattle.am_model.specs.declared.config.Config.{Config}
 use Rattle.am_model.specs.declared.notice.Report.{Report}
-use Rattle.am_model.specs.declared.record.Call.{Call}
-use Rattle.am_model.specs.declared.record.Call.TheVariants as call
 use Rattle.am_model.specs.declared.record.Record.{Record}
 use Rattle.am_model.specs.look_back.Past.{notices_in}
 use Rattle.am_model.specs.Notice.{NoticeData}
+use Rattle.am_model.specs.Outcomes.{outcomes_in}
 use Rattle.am_model.specs.Ticket.{outcome_of}
 use Rattle.am_rehearsal.specs.declared.event.Event.{Event}
 use Rattle.am_rehearsal.specs.declared.event.Event.TheVariants.{Begun, Sent}
@@ -36,20 +35,6 @@ notices_at history place = option_map_or (λ r. notices_in r.reply) (slice_get h
 -- the notice for an integration, if there is one
 abbrev pub notice_for : ℕ → List NoticeData → Option NoticeData
 notice_for integration notices = find (λ n. n.integration == integration) notices
-
--- the outcomes that a call finishes the flush of this number with, if it does
-abbrev pub finished_with : ℕ → Call → Option (List (ℕ × Outcome))
-finished_with number (call.Insert now alert) = None
-finished_with number (call.Silence now id matchers start end) = None
-finished_with number (call.Begin now) = None
-finished_with number (call.Finish now finished outcomes) = if finished == number then Some outcomes else None
-finished_with number (call.Maintain now) = None
-finished_with number (call.Note now noted integration outcome) = None
-
--- the outcomes that the flush of this number is finished with in these records; none where it isn't
-abbrev pub outcomes_in : ℕ → List Record → List (ℕ × Outcome)
-outcomes_in number [] = []
-outcomes_in number (r ∷ rs) = unwrap_or (finished_with number r.call) (outcomes_in number rs)
 
 -- what a notice that was begun at a place came to, as the finish of its flush in the later records says
 abbrev pub outcome_after : List Record → ℕ → NoticeData → Option Outcome

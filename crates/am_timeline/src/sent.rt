@@ -1,12 +1,11 @@
 //! The notices whose sending came to an end.
 ghost use Rattle.std.specs.Prelude.{◌≡◌};
-ghost use Rattle.std.specs.Option.{option_copied};
-ghost use Rattle.am_model.specs.Ticket.{outcome_of};
-ghost use Rattle.am_timeline.specs.Story.{finished_with, is_delivered, outcome_after, outcomes_in, sent_by, sent_of};
+ghost use Rattle.am_timeline.specs.Story.{is_delivered, outcome_after, sent_by, sent_of};
 
 use crate::story::{Story, later_than, notice_for, notices_at};
 use am_board::notice::{Notice, Report};
-use am_board::record::{Call, Record};
+use am_board::record::Record;
+use am_model::outcome::{outcome_of, outcomes_in};
 use am_rehearsal::event::{Event, ToldBegin};
 use am_retry::Outcome;
 use std::marker::Model;
@@ -87,42 +86,4 @@ fn outcome_after(history: &[Record], place: usize, notice: &Notice) -> Option<Ou
         outcomes_in(notice.ticket, later_than(history, place)),
         notice.integration,
     )
-}
-
-/// The outcomes that the flush of this number is finished with in these records; none where it isn't.
-fn outcomes_in(number: u64, later: &[Record]) -> &[(u32, Outcome)]
-    ensures { result.now ≡ outcomes_in number later.now }
-{
-    for record in later {
-        if let Some(outcomes) = finished_with(number, &record.call) {
-            return outcomes;
-        }
-    }
-    &[]
-}
-
-/// The outcomes that a call finishes the flush of this number with, if it does.
-fn finished_with(number: u64, call: &Call) -> Option<&[(u32, Outcome)]>
-    ensures { option_copied result ≡ finished_with number call.now }
-{
-    match call {
-        Call::Finish {
-            now: _,
-            number: finished,
-            outcomes,
-        } if *finished == number => Some(outcomes.as_slice()),
-        _ => None,
-    }
-}
-
-/// The outcome of an integration: that of the first pair that names it.
-fn outcome_of(outcomes: &[(u32, Outcome)], integration: u32) -> Option<Outcome>
-    ensures { result ≡ outcome_of outcomes.now integration }
-{
-    for pair in outcomes {
-        if pair.0 == integration {
-            return Some(pair.1);
-        }
-    }
-    None
 }

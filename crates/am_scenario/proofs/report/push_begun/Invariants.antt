@@ -1,6 +1,7 @@
 use Rattle.std.proofs.Common.{◌≡◌, ◌++◌, ℕ, string_bytes, take}
 use Rattle.std.specs.List.{flat_map}
-use Rattle.am_scenario.specs.Report.{line_on, outcomes_in, attempts_on}
+use Rattle.am_model.specs.Outcomes.{outcomes_in}
+use Rattle.am_scenario.specs.Report.{line_on, attempts_on}
 use Rattle.am_scenario.proofs.report.push_begun.Given as goal
 
 -- the lines so far were added, and what came of the flush is what its finish and the reports tell

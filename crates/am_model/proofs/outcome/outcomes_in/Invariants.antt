@@ -1,6 +1,6 @@
 use Rattle.std.proofs.Common.{◌≡◌, drop}
-use Rattle.am_timeline.specs.Story.{outcomes_in}
-use Rattle.am_timeline.proofs.sent.outcomes_in.Given as goal
+use Rattle.am_model.specs.Outcomes.{outcomes_in}
+use Rattle.am_model.proofs.outcome.outcomes_in.Given as goal
 
 -- none of the records so far finishes the flush
 abbrev pub invariant-loop-record : goal.invariant-loop-record

@@ -1,0 +1,6 @@
+pub mod Forests
+pub mod Layings
+pub mod Negations
+pub mod Steps
+pub mod Flattening
+pub mod NotRefused

@@ -1,0 +1,10 @@
+use Rattle.std.proofs.Common.{◌≡◌, ◌++◌, drop}
+use Rattle.am_tree.specs.Flat.{laid}
+use Rattle.am_tree.specs.Forest.{forest}
+use Rattle.am_tree.proofs.flat.+lay.Given as goal
+
+-- the entries so far, and those of the nodes from here on
+abbrev pub invariant-lay-loop-i : goal.invariant-lay-loop-i
+invariant-lay-loop-i l =
+    l.list.items ++ laid l.under_open l.prefix.items l.above (forest (drop l.i l.nodes))
+    ≡ l.initial.list.items ++ laid l.under_open l.held l.above (forest l.nodes)

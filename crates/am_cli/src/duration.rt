@@ -1,5 +1,5 @@
 //! Durations.
-ghost use Rattle.std.specs.Prelude.{◌≡◌, Ok, MatchOption};
+ghost use Rattle.std.specs.Prelude.{◌≡◌, ◌<◌, Ok, IfOk, MatchOption};
 ghost use Rattle.std.specs.Result.{result_ok};
 ghost use Rattle.serde_json.specs.Find.{get_member};
 ghost use Rattle.serde_json.specs.View.{members_view, view};
@@ -24,8 +24,9 @@ pub fn duration_or(object: &Object<'_, '_>, name: &str, absent: u64) -> Result<u
 /// A duration that isn't zero, in milliseconds, or what it is if the member isn't there. `Value` for
 /// zero too.
 pub fn interval_or(object: &Object<'_, '_>, name: &str, absent: u64) -> Result<u64, InputFault>
-    ensures { MatchOption (get_member name.now (members_view object.now.members)) (result ≡ Ok absent)
+    ensures value { MatchOption (get_member name.now (members_view object.now.members)) (result ≡ Ok absent)
         (λ member. result_ok result ≡ interval_in member) }
+    ensures some { 0 < absent → IfOk result (λ interval. 0 < interval) }
 {
     match object.optional(name) {
         None => Ok(absent),
@@ -44,9 +45,10 @@ pub fn duration(reader: &Reader<'_, '_>) -> Result<u64, InputFault>
     }
 }
 
-/// Reads a duration that isn't zero.
-fn interval(reader: &Reader<'_, '_>) -> Result<u64, InputFault>
-    ensures { result_ok result ≡ interval_in (view reader.now.value) }
+/// Reads a duration that isn't zero, in milliseconds. `Value` for zero too.
+pub fn interval(reader: &Reader<'_, '_>) -> Result<u64, InputFault>
+    ensures value { result_ok result ≡ interval_in (view reader.now.value) }
+    ensures some { IfOk result (λ interval. 0 < interval) }
 {
     match duration(reader)? {
         0 => Err(reader.refuse(Word::Value)),

@@ -16,6 +16,8 @@ pub enum Word {
     Unknown,
     /// A call of the board was refused for want of room.
     Full,
+    /// It has a meaning, which nothing here has.
+    Unsupported,
 }
 
 /// Why nothing is made of the bytes of an input.
@@ -63,6 +65,7 @@ impl fmt::Display for Word {
             Word::Value => "value",
             Word::Unknown => "unknown",
             Word::Full => "full",
+            Word::Unsupported => "unsupported",
         })
     }
 }

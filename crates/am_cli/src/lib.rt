@@ -8,7 +8,7 @@ pub mod duration;
 pub mod fault;
 pub mod labels;
 mod matcher;
-mod matcher_text;
+pub mod matcher_text;
 pub mod place;
 pub mod reader;
 mod refusal;

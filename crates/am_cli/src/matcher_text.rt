@@ -6,21 +6,21 @@ use std::alloc::{AllocError, Global};
 /// The parts of a matcher that is written as one text, or `None` where the text is no matcher's. Whether
 /// the name has the form of a label name isn't looked at.
 ///
-/// A name, an operator and a value, with blanks around each. The value stands in quotes, or it has no
+/// A name, an operator and a value, with ASCII blanks around each. The value stands in quotes, or it has no
 /// quote in it and no comma, which would begin another matcher. In both forms `\"`, `\\` and `\n` stand
 /// for a quote, a backslash and a line feed, and another backslash for itself; none stands at the end.
-pub(crate) fn parts_of_text(alloc: Global, text: &str) -> Result<Option<MatcherParts>, AllocError> {
+pub fn parts_of_text(alloc: Global, text: &str) -> Result<Option<MatcherParts>, AllocError> {
     let Some((name, op, written)) = split(text) else {
         return Ok(None);
     };
-    let Some(inner) = without_quotes(written.trim()) else {
+    let Some(inner) = without_quotes(written.trim_ascii()) else {
         return Ok(None);
     };
     let Some(value) = unescaped(alloc, inner)? else {
         return Ok(None);
     };
     Ok(Some(MatcherParts {
-        name: Text::new(alloc, name.trim())?,
+        name: Text::new(alloc, name.trim_ascii())?,
         op,
         value: Text::from(value),
     }))

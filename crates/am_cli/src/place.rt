@@ -27,11 +27,17 @@ impl<'a> Place<'a> {
     pub fn refuse(&self, alloc: Global, word: Word) -> InputFault
         ensures { IsRefusedBy word result }
     {
-        let mut place = String::new(alloc);
-        match self.push_text(&mut place) {
-            Ok(()) => InputFault::Refused { place, word },
+        match self.text(alloc) {
+            Ok(place) => InputFault::Refused { place, word },
             Err(_) => InputFault::NoMemory,
         }
+    }
+
+    /// The place as a JSON pointer.
+    pub fn text(&self, alloc: Global) -> Result<String, AllocError> {
+        let mut place = String::new(alloc);
+        self.push_text(&mut place)?;
+        Ok(place)
     }
 
     fn push_text(&self, out: &mut String) -> Result<(), AllocError> {

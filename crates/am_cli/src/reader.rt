@@ -281,7 +281,8 @@ impl<'v, 'p> Reader<'v, 'p> {
         }
     }
 
-    fn array(&self) -> Result<&'v [Value], InputFault>
+    /// The values in an array, or `Kind`.
+    pub fn array(&self) -> Result<&'v [Value], InputFault>
         ensures items { option_map (λ s. items_view s.now) (result_ok result) ≡ as_array (view self.now.value) }
         ensures refused { IfErr result (IsRefusedBy Word.Kind) }
     {
@@ -291,7 +292,11 @@ impl<'v, 'p> Reader<'v, 'p> {
         }
     }
 
-    fn item<'q>(&'q self, index: usize, value: &'v Value) -> Reader<'v, 'q> {
+    /// The reader of this value, which is the item at an index of the array here.
+    pub fn item<'q>(&'q self, index: usize, value: &'v Value) -> Reader<'v, 'q>
+        ensures value { result.value ≡ value.now }
+        ensures manner { result.manner ≡ self.now.manner }
+    {
         Reader {
             alloc: self.alloc,
             value,
@@ -347,7 +352,15 @@ impl<'v> Object<'v, '_> {
         }
     }
 
-    fn member<'q>(&'q self, name: &'q str, value: &'v Value) -> Reader<'v, 'q>
+    /// All members, by name.
+    pub fn members(&self) -> &'v Map<String, Value>
+        ensures { result.now.entries ≡ self.now.members }
+    {
+        self.members
+    }
+
+    /// The reader of this value, which is the member of a name of the object here.
+    pub fn member<'q>(&'q self, name: &'q str, value: &'v Value) -> Reader<'v, 'q>
         ensures value { result.value ≡ value.now }
         ensures manner { result.manner ≡ self.now.manner }
     {
@@ -450,7 +463,8 @@ fn unnamed<'m>(members: &'m Map<String, Value>, names: &[&str]) -> Option<&'m St
     members.keys().find(|name| !is_one_of(names, name.as_str()))
 }
 
-fn is_one_of(names: &[&str], name: &str) -> bool
+/// Whether a name is one of these.
+pub fn is_one_of(names: &[&str], name: &str) -> bool
     ensures { result ≡ is_one_of names.now name.now }
 {
     names.iter().any(|known| *known == name)

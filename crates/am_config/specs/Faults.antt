@@ -1,0 +1,25 @@
+-- The faults of an input.
+use Rattle.std.specs.Prelude.{◌≡◌, ◌<◌, ◌++◌, List, [], ◌∷◌, length, Option, Some, None, Result, Ok, Err, if◌then◌else◌, nat_lt}
+use Rattle.am_cli.specs.declared.fault.InputFault.{InputFault}
+use Rattle.am_cli.specs.declared.fault.InputFault.TheVariants.{NotJson, Refused, NoMemory}
+use Rattle.am_config.specs.declared.faults.Fault.{Fault}
+use Rattle.am_config.specs.declared.faults.Refusal.{Refusal}
+use Rattle.am_config.specs.declared.faults.Refusal.TheVariants.{One, All}
+use Rattle.am_config.specs.declared.faults.TheConstants.{MAX_FAULTS}
+
+-- the faults with a refused value's behind them, unless there are a hundred
+abbrev pub with_fault : List Fault → InputFault → List Fault
+with_fault faults (NotJson line column) = faults
+with_fault faults (Refused place word) =
+    if nat_lt (length faults) MAX_FAULTS then faults ++ (record { place = place; word = word }) ∷ [] else faults
+with_fault faults NoMemory = faults
+
+-- what was read is kept, with no further fault, or else its fault
+abbrev pub IsKept : {T : Type 0} → List Fault → List Fault → Result T InputFault → Option T → Type 0
+IsKept before after (Ok read) kept = (after ≡ before) × (kept ≡ Some read)
+IsKept before after (Err fault) kept = (after ≡ with_fault before fault) × (kept ≡ None)
+
+-- a refusal tells a fault at least
+abbrev pub Tells : Refusal → Type 0
+Tells (One fault) = Unit {0}
+Tells (All faults) = 0 < length faults

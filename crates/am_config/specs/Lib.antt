@@ -1,0 +1,3 @@
+pub mod Dropped
+pub mod Faults
+pub mod Laid

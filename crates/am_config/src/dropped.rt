@@ -1,0 +1,59 @@
+//! What of a configuration is dropped.
+use std::fmt;
+
+/// What Alertmanager's configuration says beside what is read of it. Nothing of it changes which notice
+/// is sent when, and to whom.
+#[derive(Clone, Copy, Debug, PartialEq, Eq)]
+pub struct Dropped {
+    /// What holds for all integrations.
+    pub global: bool,
+    /// Files of templates.
+    pub templates: bool,
+    /// Times that no route names.
+    pub time_intervals: bool,
+    /// What integrations are set to, beside `send_resolved`.
+    pub settings: bool,
+}
+
+impl Dropped {
+    ghost use Rattle.std.specs.Prelude.{◌≡◌, ◌↔◌, IsFalse};
+    ghost use Rattle.am_config.specs.Dropped.{nothing};
+
+    /// Nothing is dropped.
+    pub fn nothing() -> Dropped
+        ensures { result ≡ nothing }
+    {
+        Dropped {
+            global: false,
+            templates: false,
+            time_intervals: false,
+            settings: false,
+        }
+    }
+
+    /// Whether something is dropped.
+    pub fn is_something(&self) -> bool
+        ensures { IsFalse result ↔ (self.now ≡ nothing) }
+    {
+        self.global || self.templates || self.time_intervals || self.settings
+    }
+}
+
+impl fmt::Display for Dropped {
+    fn fmt<W: fmt::Write>(&self, f: &mut fmt::Formatter<W>) -> fmt::Result {
+        let mut separator = "";
+        for (is_dropped, name) in [
+            (self.global, "global"),
+            (self.templates, "templates"),
+            (self.time_intervals, "time intervals"),
+            (self.settings, "settings of integrations"),
+        ] {
+            if is_dropped {
+                f.write_str(separator)?;
+                f.write_str(name)?;
+                separator = ", ";
+            }
+        }
+        Ok(())
+    }
+}

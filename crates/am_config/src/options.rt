@@ -1,0 +1,109 @@
+//! What a route says that those below it take from it.
+use crate::faults::Faults;
+use crate::inhibit::label_name;
+use crate::route::Routing;
+use crate::said::{duration_said, interval_said, said, text_said};
+use am_alerts::limits::MAX_NAMES;
+use am_alerts::route::GroupBy;
+use am_alerts::sequence::Sequence;
+use am_alerts::text::Text;
+use am_cli::fault::{InputFault, Word};
+use am_cli::reader::{Object, Reader};
+use am_tree::tree::Options;
+use serde_json::Value;
+
+/// Stands in `group_by` for all labels.
+const ALL_LABELS: &str = "...";
+
+/// Reads what a route says of its receiver, its groups and its times.
+pub(crate) fn read_options(
+    faults: &mut Faults,
+    routing: &Routing<'_>,
+    route: &Object<'_, '_>,
+) -> Result<Options, InputFault> {
+    let receiver = read_receiver(faults, routing, route)?;
+    let group_by = read_group_by(faults, route)?;
+    let group_wait = duration_said(faults, route, "group_wait")?;
+    let group_interval = interval_said(faults, route, "group_interval")?;
+    let repeat_interval = interval_said(faults, route, "repeat_interval")?;
+    Ok(Options {
+        receiver,
+        group_by,
+        group_wait,
+        group_interval,
+        repeat_interval,
+    })
+}
+
+/// Reads the name of a receiver, which is refused where there is none of the name. The empty text says
+/// none.
+fn read_receiver(
+    faults: &mut Faults,
+    routing: &Routing<'_>,
+    route: &Object<'_, '_>,
+) -> Result<Option<Text>, InputFault> {
+    let Some(name) = text_said(faults, route, "receiver")? else {
+        return Ok(None);
+    };
+    if !routing.has_receiver(name) {
+        faults.kept(refuse_receiver(route))?;
+    }
+    Ok(Some(Text::new(route.alloc(), name)?))
+}
+
+fn refuse_receiver(route: &Object<'_, '_>) -> Result<(), InputFault> {
+    Err(route.required("receiver")?.refuse(Word::Value))
+}
+
+/// Reads the labels by which a route groups. `...` stands for all of them, and with no other. An empty
+/// array says nothing.
+fn read_group_by(
+    faults: &mut Faults,
+    route: &Object<'_, '_>,
+) -> Result<Option<GroupBy>, InputFault> {
+    let Some(member) = said(route, "group_by") else {
+        return Ok(None);
+    };
+    let Some(items) = faults.kept(member.array())? else {
+        return Ok(None);
+    };
+    if items.is_empty() {
+        return Ok(None);
+    }
+    if items.iter().all(is_all_labels) {
+        return Ok(Some(GroupBy::All));
+    }
+    if items.len() > MAX_NAMES || items.iter().any(is_all_labels) {
+        faults.push(member.refuse(Word::Value))?;
+        return Ok(None);
+    }
+    let names = read_names(faults, &member, items)?;
+    Ok(Some(GroupBy::Names(Sequence::from(names))))
+}
+
+fn is_all_labels(item: &Value) -> bool {
+    match item.as_str() {
+        None => false,
+        Some(text) => text == ALL_LABELS,
+    }
+}
+
+/// Reads names of labels, each of which stands once.
+fn read_names<'v>(
+    faults: &mut Faults,
+    member: &Reader<'v, '_>,
+    items: &'v [Value],
+) -> Result<Vec<Text>, InputFault> {
+    let mut names = Vec::new(member.alloc());
+    for (index, value) in items.iter().enumerate() {
+        let item = member.item(index, value);
+        if let Some(name) = faults.kept(label_name(&item))? {
+            if names.contains(&name) {
+                faults.push(item.refuse(Word::Value))?;
+            } else {
+                names.push(name)?;
+            }
+        }
+    }
+    Ok(names)
+}

@@ -1,0 +1,273 @@
+//! Receivers and their integrations.
+use crate::dropped::Dropped;
+use crate::faults::Faults;
+use crate::said::{flag_or, required, said};
+use am_alerts::sequence::Sequence;
+use am_alerts::text::Text;
+use am_cli::fault::{InputFault, Word};
+use am_cli::reader::{Object, Reader};
+use am_model::config::{Integration, MAX_INTEGRATIONS, MAX_RECEIVERS, Receiver};
+
+/// One kind of integrations.
+#[derive(Clone, Copy)]
+struct Kind {
+    /// The member of a receiver that lists them.
+    list: &'static str,
+    name: &'static str,
+    /// What `send_resolved` is where it isn't said.
+    send_resolved: bool,
+}
+
+/// The kinds, in the order that a receiver's integrations have.
+const KINDS: [Kind; 18] = [
+    Kind {
+        list: "webhook_configs",
+        name: "webhook",
+        send_resolved: true,
+    },
+    Kind {
+        list: "email_configs",
+        name: "email",
+        send_resolved: false,
+    },
+    Kind {
+        list: "pagerduty_configs",
+        name: "pagerduty",
+        send_resolved: true,
+    },
+    Kind {
+        list: "opsgenie_configs",
+        name: "opsgenie",
+        send_resolved: true,
+    },
+    Kind {
+        list: "wechat_configs",
+        name: "wechat",
+        send_resolved: false,
+    },
+    Kind {
+        list: "slack_configs",
+        name: "slack",
+        send_resolved: false,
+    },
+    Kind {
+        list: "victorops_configs",
+        name: "victorops",
+        send_resolved: true,
+    },
+    Kind {
+        list: "pushover_configs",
+        name: "pushover",
+        send_resolved: true,
+    },
+    Kind {
+        list: "sns_configs",
+        name: "sns",
+        send_resolved: true,
+    },
+    Kind {
+        list: "telegram_configs",
+        name: "telegram",
+        send_resolved: true,
+    },
+    Kind {
+        list: "discord_configs",
+        name: "discord",
+        send_resolved: true,
+    },
+    Kind {
+        list: "webex_configs",
+        name: "webex",
+        send_resolved: true,
+    },
+    Kind {
+        list: "msteams_configs",
+        name: "msteams",
+        send_resolved: true,
+    },
+    Kind {
+        list: "msteamsv2_configs",
+        name: "msteamsv2",
+        send_resolved: true,
+    },
+    Kind {
+        list: "jira_configs",
+        name: "jira",
+        send_resolved: true,
+    },
+    Kind {
+        list: "rocketchat_configs",
+        name: "rocketchat",
+        send_resolved: false,
+    },
+    Kind {
+        list: "mattermost_configs",
+        name: "mattermost",
+        send_resolved: true,
+    },
+    Kind {
+        list: "incidentio_configs",
+        name: "incidentio",
+        send_resolved: true,
+    },
+];
+
+/// The members of a receiver.
+const MEMBERS: [&str; 19] = [
+    "name",
+    "webhook_configs",
+    "email_configs",
+    "pagerduty_configs",
+    "opsgenie_configs",
+    "wechat_configs",
+    "slack_configs",
+    "victorops_configs",
+    "pushover_configs",
+    "sns_configs",
+    "telegram_configs",
+    "discord_configs",
+    "webex_configs",
+    "msteams_configs",
+    "msteamsv2_configs",
+    "jira_configs",
+    "rocketchat_configs",
+    "mattermost_configs",
+    "incidentio_configs",
+];
+
+/// The names of all receivers, if they can be told.
+pub(crate) fn receiver_names<'v>(top: &Object<'v, '_>) -> Result<Option<Vec<&'v str>>, InputFault> {
+    let mut names = Vec::new(top.alloc());
+    let Some(member) = said(top, "receivers") else {
+        return Ok(Some(names));
+    };
+    let Ok(items) = member.array() else {
+        return Ok(None);
+    };
+    for (index, value) in items.iter().enumerate() {
+        match name_in(&member.item(index, value)) {
+            None => return Ok(None),
+            Some(name) => names.push(name)?,
+        }
+    }
+    Ok(Some(names))
+}
+
+fn name_in<'v>(reader: &Reader<'v, '_>) -> Option<&'v str> {
+    let receiver = reader.object().ok()?;
+    let name = said(&receiver, "name")?;
+    name.text().ok()
+}
+
+/// Reads the receivers. More than 64 are refused unread.
+pub(crate) fn read_receivers(
+    faults: &mut Faults,
+    dropped: &mut Dropped,
+    top: &Object<'_, '_>,
+) -> Result<Vec<Receiver>, InputFault> {
+    let mut receivers = Vec::new(top.alloc());
+    let Some(member) = said(top, "receivers") else {
+        return Ok(receivers);
+    };
+    let Some(items) = faults.kept(member.array())? else {
+        return Ok(receivers);
+    };
+    if items.len() > MAX_RECEIVERS {
+        faults.push(member.refuse(Word::Value))?;
+        return Ok(receivers);
+    }
+    for (index, value) in items.iter().enumerate() {
+        let item = member.item(index, value);
+        if let Some(receiver) = read_receiver(faults, dropped, receivers.as_slice(), &item)? {
+            receivers.push(receiver)?;
+        }
+    }
+    Ok(receivers)
+}
+
+/// Reads a receiver that comes behind these.
+fn read_receiver(
+    faults: &mut Faults,
+    dropped: &mut Dropped,
+    before: &[Receiver],
+    reader: &Reader<'_, '_>,
+) -> Result<Option<Receiver>, InputFault> {
+    let Some(receiver) = faults.kept(reader.object())? else {
+        return Ok(None);
+    };
+    faults.only(&receiver, &MEMBERS)?;
+    let name = faults.kept(read_name(before, &receiver))?;
+    let integrations = read_integrations(faults, dropped, &receiver)?;
+    if integrations.len() > MAX_INTEGRATIONS {
+        faults.push(reader.refuse(Word::Value))?;
+    }
+    Ok(name.map(|name| Receiver {
+        name,
+        integrations: Sequence::from(integrations),
+    }))
+}
+
+/// Reads the name of a receiver; one that stands before it, or none, is refused.
+fn read_name(before: &[Receiver], receiver: &Object<'_, '_>) -> Result<Text, InputFault> {
+    let member = required(receiver, "name")?;
+    let name = member.text()?;
+    if name.is_empty() || before.iter().any(|receiver| receiver.name.as_str() == name) {
+        return Err(member.refuse(Word::Value));
+    }
+    Ok(Text::new(receiver.alloc(), name)?)
+}
+
+fn read_integrations(
+    faults: &mut Faults,
+    dropped: &mut Dropped,
+    receiver: &Object<'_, '_>,
+) -> Result<Vec<Integration>, InputFault> {
+    let mut integrations = Vec::new(receiver.alloc());
+    for kind in &KINDS {
+        read_list(faults, dropped, receiver, kind, &mut integrations)?;
+    }
+    Ok(integrations)
+}
+
+/// Adds a receiver's integrations of one kind.
+fn read_list(
+    faults: &mut Faults,
+    dropped: &mut Dropped,
+    receiver: &Object<'_, '_>,
+    kind: &Kind,
+    integrations: &mut Vec<Integration>,
+) -> Result<(), InputFault> {
+    let Some(member) = said(receiver, kind.list) else {
+        return Ok(());
+    };
+    let Some(items) = faults.kept(member.array())? else {
+        return Ok(());
+    };
+    for (index, value) in items.iter().enumerate() {
+        let item = member.item(index, value);
+        if let Some(settings) = faults.kept(item.object())? {
+            integrations.push(read_integration(faults, dropped, &settings, kind)?)?;
+        }
+    }
+    Ok(())
+}
+
+fn read_integration(
+    faults: &mut Faults,
+    dropped: &mut Dropped,
+    settings: &Object<'_, '_>,
+    kind: &Kind,
+) -> Result<Integration, InputFault> {
+    for name in settings.members().keys() {
+        if name.as_str() != SEND_RESOLVED {
+            dropped.settings = true;
+        }
+    }
+    Ok(Integration {
+        kind: Text::new(settings.alloc(), kind.name)?,
+        send_resolved: flag_or(faults, settings, SEND_RESOLVED, kind.send_resolved)?,
+    })
+}
+
+/// The one member of an integration's settings that is read.
+const SEND_RESOLVED: &str = "send_resolved";

@@ -1,0 +1,352 @@
+//! The tree of routes.
+ghost use Rattle.std.specs.Prelude.{◌<◌, IfOk, IsTrue};
+
+use crate::faults::Faults;
+use crate::laid::Laid;
+use crate::matchers::{MatcherMembers, read_matchers};
+use crate::names::RouteNames;
+use crate::options::read_options;
+use crate::receiver::receiver_names;
+use crate::said::{flag_or, has_items, has_members, required, said};
+use am_alerts::limits::MAX_CHILDREN;
+use am_alerts::matcher::Matcher;
+use am_alerts::route::{GroupBy, Route, Routes};
+use am_alerts::sequence::Sequence;
+use am_alerts::text::Text;
+use am_cli::fault::{InputFault, Word};
+use am_cli::reader::{Object, Reader};
+use am_tree::tree::{Cause, FlatFault, Node, Options, Refusal, Rule, Tree};
+use std::alloc::Global;
+
+/// The members of a route, the root among them.
+const MEMBERS: [&str; 12] = [
+    "receiver",
+    "group_by",
+    "group_wait",
+    "group_interval",
+    "repeat_interval",
+    "matchers",
+    "match",
+    "match_re",
+    "continue",
+    "mute_time_intervals",
+    "active_time_intervals",
+    "routes",
+];
+
+/// The members that hold a route's matchers.
+const MATCHERS: MatcherMembers = MatcherMembers {
+    equal: "match",
+    like: "match_re",
+    texts: "matchers",
+};
+
+/// How long a new group waits until it is flushed: 30 seconds, in milliseconds.
+const GROUP_WAIT: u64 = 30_000;
+
+/// How long a group waits from flush to flush: 5 minutes, in milliseconds.
+const GROUP_INTERVAL: u64 = 300_000;
+
+/// When a notice without news is repeated: after 4 hours, in milliseconds.
+const REPEAT_INTERVAL: u64 = 14_400_000;
+
+/// What is known of the routes that were read.
+#[derive(Drop)]
+pub(crate) struct Routing<'v> {
+    /// The names of the receivers, if they can be told.
+    pub(crate) receivers: Option<Vec<&'v str>>,
+    names: RouteNames,
+    /// The places of the routes below the root, each behind those below it.
+    places: Vec<String>,
+    /// How many routes below the root were begun.
+    begun: usize,
+    /// Whether there were more.
+    is_full: bool,
+    /// Whether nothing was refused that decides which routes a label set has.
+    is_whole: bool,
+}
+
+impl<'v> Routing<'v> {
+    pub(crate) fn new(top: &Object<'v, '_>) -> Result<Routing<'v>, InputFault> {
+        Ok(Routing {
+            receivers: receiver_names(top)?,
+            names: RouteNames::of_root(top.alloc())?,
+            places: Vec::new(top.alloc()),
+            begun: 0,
+            is_full: false,
+            is_whole: true,
+        })
+    }
+
+    /// Whether there is a receiver of this name, or none can be told.
+    pub(crate) fn has_receiver(&self, name: &str) -> bool {
+        match &self.receivers {
+            None => true,
+            Some(names) => names.iter().any(|known| *known == name),
+        }
+    }
+
+    /// Counts another route, under which so many levels may be, itself the first. One that is behind the
+    /// sixty-third isn't read, and the first such is refused.
+    fn begins(
+        &mut self,
+        faults: &mut Faults,
+        reader: &Reader<'_, '_>,
+        levels: usize,
+    ) -> Result<bool, InputFault>
+        ensures { IfOk result (λ begins. IsTrue begins → 0 < levels) }
+    {
+        if self.begun < MAX_CHILDREN && levels > 0 {
+            self.begun += 1;
+            return Ok(true);
+        }
+        if !self.is_full {
+            self.is_full = true;
+            self.is_whole = false;
+            faults.push(reader.refuse(Word::Value))?;
+        }
+        Ok(false)
+    }
+}
+
+/// Reads the tree of routes.
+pub(crate) fn read_tree(
+    faults: &mut Faults,
+    routing: &mut Routing<'_>,
+    top: &Object<'_, '_>,
+) -> Result<Option<Tree>, InputFault> {
+    let Some(reader) = faults.kept(required(top, "route"))? else {
+        return Ok(None);
+    };
+    let Some(route) = faults.kept(reader.object())? else {
+        return Ok(None);
+    };
+    faults.only(&route, &MEMBERS)?;
+    let options = read_options(faults, routing, &route)?;
+    refuse_root(faults, &route, &options)?;
+    refuse_times(faults, &route)?;
+    let root = root_of(top.alloc(), options)?;
+    let routes = read_routes(
+        faults,
+        routing,
+        &route,
+        root.receiver.as_str(),
+        MAX_CHILDREN,
+    )?;
+    Ok(Some(Tree { root, routes }))
+}
+
+/// Refuses what a root may not say, and one without a receiver.
+fn refuse_root(
+    faults: &mut Faults,
+    root: &Object<'_, '_>,
+    options: &Options,
+) -> Result<(), InputFault> {
+    if options.receiver.is_none() {
+        refuse_receiver(faults, root)?;
+    }
+    if has_items(faults, root, MATCHERS.texts)? {
+        refuse_member(faults, root, MATCHERS.texts, Word::Value)?;
+    }
+    for name in [MATCHERS.equal, MATCHERS.like] {
+        if has_members(faults, root, name)? {
+            refuse_member(faults, root, name, Word::Value)?;
+        }
+    }
+    if flag_or(faults, root, "continue", false)? {
+        refuse_member(faults, root, "continue", Word::Value)?;
+    }
+    Ok(())
+}
+
+/// Refuses a root that says no receiver, unless what it says is refused already.
+fn refuse_receiver(faults: &mut Faults, root: &Object<'_, '_>) -> Result<(), InputFault> {
+    match required(root, "receiver") {
+        Err(missing) => faults.push(missing),
+        Ok(member) if member.text().is_ok_and(|text| text.is_empty()) => {
+            faults.push(member.refuse(Word::Value))
+        }
+        Ok(_) => Ok(()),
+    }
+}
+
+fn refuse_member(
+    faults: &mut Faults,
+    object: &Object<'_, '_>,
+    name: &str,
+    word: Word,
+) -> Result<(), InputFault> {
+    match object.optional(name) {
+        None => Ok(()),
+        Some(member) => faults.push(member.refuse(word)),
+    }
+}
+
+/// Refuses times at which a route is muted, or active alone.
+fn refuse_times(faults: &mut Faults, route: &Object<'_, '_>) -> Result<(), InputFault> {
+    for name in ["mute_time_intervals", "active_time_intervals"] {
+        if has_items(faults, route, name)? {
+            refuse_member(faults, route, name, Word::Unsupported)?;
+        }
+    }
+    Ok(())
+}
+
+/// The root: what it doesn't say is Alertmanager's default.
+fn root_of(alloc: Global, options: Options) -> Result<Route, InputFault> {
+    let Options {
+        receiver,
+        group_by,
+        group_wait,
+        group_interval,
+        repeat_interval,
+    } = options;
+    Ok(Route {
+        name: Text::new(alloc, "root")?,
+        receiver: match receiver {
+            Some(receiver) => receiver,
+            None => Text::new(alloc, "")?,
+        },
+        group_by: group_by.unwrap_or(GroupBy::Names(Sequence::empty(alloc))),
+        group_wait: group_wait.unwrap_or(GROUP_WAIT),
+        group_interval: group_interval.unwrap_or(GROUP_INTERVAL),
+        repeat_interval: repeat_interval.unwrap_or(REPEAT_INTERVAL),
+    })
+}
+
+/// Reads the routes below a route with this receiver, under which so many levels may be.
+#[cycle(routes)]
+fn read_routes(
+    faults: &mut Faults,
+    routing: &mut Routing<'_>,
+    route: &Object<'_, '_>,
+    receiver: &str,
+    levels: usize,
+) -> Result<Vec<Node>, InputFault> {
+    let mut routes = Vec::new(route.alloc());
+    let Some(member) = said(route, "routes") else {
+        return Ok(routes);
+    };
+    let Some(items) = faults.kept(member.array())? else {
+        routing.is_whole = false;
+        return Ok(routes);
+    };
+    for (index, value) in items.iter().enumerate() {
+        let item = member.item(index, value);
+        if routing.begins(faults, &item, levels)? {
+            if let Some(node) = read_node(faults, routing, &item, receiver, levels - 1)? {
+                routes.push(node)?;
+            }
+        }
+    }
+    Ok(routes)
+}
+
+/// Reads a route, and those below it, that stands below a route with this receiver.
+#[cycle(routes)]
+fn read_node(
+    faults: &mut Faults,
+    routing: &mut Routing<'_>,
+    reader: &Reader<'_, '_>,
+    above: &str,
+    levels: usize,
+) -> Result<Option<Node>, InputFault> {
+    let Some(route) = faults.kept(reader.object())? else {
+        routing.is_whole = false;
+        return Ok(None);
+    };
+    faults.only(&route, &MEMBERS)?;
+    let options = read_options(faults, routing, &route)?;
+    let (matchers, goes_on) = read_search(faults, routing, &route)?;
+    refuse_times(faults, &route)?;
+    let receiver = match &options.receiver {
+        None => Text::new(route.alloc(), above)?,
+        Some(receiver) => receiver.copy(route.alloc())?,
+    };
+    let name = routing.names.give(route.alloc(), receiver.as_str())?;
+    let routes = read_routes(faults, routing, &route, receiver.as_str(), levels)?;
+    routing.places.push(reader.place().text(route.alloc())?)?;
+    Ok(Some(Node {
+        rule: Rule {
+            name,
+            options,
+            matchers: Sequence::from(matchers),
+            goes_on,
+        },
+        routes,
+    }))
+}
+
+/// Reads what decides whether a route matches, and whether the search goes on behind it.
+fn read_search(
+    faults: &mut Faults,
+    routing: &mut Routing<'_>,
+    route: &Object<'_, '_>,
+) -> Result<(Vec<Matcher>, bool), InputFault> {
+    let before = faults.len();
+    let matchers = read_matchers(faults, route, &MATCHERS)?;
+    let goes_on = flag_or(faults, route, "continue", false)?;
+    if faults.len() > before {
+        routing.is_whole = false;
+    }
+    Ok((matchers, goes_on))
+}
+
+/// Lays a tree flat. Where that can't be done each route at which it can't is refused.
+pub(crate) fn lay_flat(
+    alloc: Global,
+    faults: &mut Faults,
+    routing: &Routing<'_>,
+    tree: Tree,
+) -> Result<Option<Laid>, InputFault> {
+    if !routing.is_whole {
+        return Ok(None);
+    }
+    match tree.lay_flat(alloc) {
+        Ok(children) => {
+            let Tree {
+                root,
+                routes: below,
+            } = tree;
+            match Routes::new(root, children) {
+                Ok(routes) => Ok(Some(Laid { routes, below })),
+                Err(_) => Ok(None),
+            }
+        }
+        Err(FlatFault::Refused(refusals)) => {
+            refuse_routes(alloc, faults, routing, refusals.as_slice())?;
+            Ok(None)
+        }
+        Err(FlatFault::Unfit(_)) => Ok(None),
+        Err(FlatFault::NoMemory) => Err(InputFault::NoMemory),
+    }
+}
+
+fn refuse_routes(
+    alloc: Global,
+    faults: &mut Faults,
+    routing: &Routing<'_>,
+    refusals: &[Refusal],
+) -> Result<(), InputFault> {
+    for refusal in refusals {
+        refuse_route(alloc, faults, routing, *refusal)?;
+    }
+    Ok(())
+}
+
+fn refuse_route(
+    alloc: Global,
+    faults: &mut Faults,
+    routing: &Routing<'_>,
+    refusal: Refusal,
+) -> Result<(), InputFault> {
+    let word = match refusal.cause {
+        Cause::Continue => Word::Unsupported,
+        Cause::TooManyRoutes | Cause::TooManyMatchers => Word::Value,
+    };
+    let place = match routing.places.get(refusal.route.saturating_sub(1)) {
+        None => String::new(alloc),
+        Some(place) => place.clone()?,
+    };
+    faults.push(InputFault::Refused { place, word })
+}

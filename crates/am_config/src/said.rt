@@ -1,0 +1,101 @@
+//! Members that say something.
+use crate::faults::Faults;
+use am_cli::duration::{duration, interval};
+use am_cli::fault::{InputFault, Word};
+use am_cli::reader::{Object, Reader};
+
+/// A member that says something: `null` says nothing.
+pub(crate) fn said<'v, 'q>(object: &'q Object<'v, '_>, name: &'q str) -> Option<Reader<'v, 'q>> {
+    match object.optional(name) {
+        Some(member) if !member.is_null() => Some(member),
+        _ => None,
+    }
+}
+
+/// A member that has to say something, or `Missing`.
+pub(crate) fn required<'v, 'q>(
+    object: &'q Object<'v, '_>,
+    name: &'q str,
+) -> Result<Reader<'v, 'q>, InputFault> {
+    let member = object.required(name)?;
+    if member.is_null() {
+        return Err(member.refuse(Word::Missing));
+    }
+    Ok(member)
+}
+
+/// A text that is said and isn't empty.
+pub(crate) fn text_said<'v>(
+    faults: &mut Faults,
+    object: &Object<'v, '_>,
+    name: &str,
+) -> Result<Option<&'v str>, InputFault> {
+    let Some(member) = said(object, name) else {
+        return Ok(None);
+    };
+    let text = faults.kept(member.text())?;
+    Ok(text.filter(|text| !text.is_empty()))
+}
+
+/// A flag, or what it is where it isn't said.
+pub(crate) fn flag_or(
+    faults: &mut Faults,
+    object: &Object<'_, '_>,
+    name: &str,
+    unsaid: bool,
+) -> Result<bool, InputFault> {
+    match said(object, name) {
+        None => Ok(unsaid),
+        Some(member) => Ok(faults.kept(member.flag())?.unwrap_or(unsaid)),
+    }
+}
+
+/// A duration that is said, in milliseconds.
+pub(crate) fn duration_said(
+    faults: &mut Faults,
+    object: &Object<'_, '_>,
+    name: &str,
+) -> Result<Option<u64>, InputFault> {
+    match said(object, name) {
+        None => Ok(None),
+        Some(member) => faults.kept(duration(&member)),
+    }
+}
+
+/// A duration that is said, in milliseconds; zero is refused.
+pub(crate) fn interval_said(
+    faults: &mut Faults,
+    object: &Object<'_, '_>,
+    name: &str,
+) -> Result<Option<u64>, InputFault> {
+    match said(object, name) {
+        None => Ok(None),
+        Some(member) => faults.kept(interval(&member)),
+    }
+}
+
+/// Whether an array that is said has an item. Another kind is refused.
+pub(crate) fn has_items(
+    faults: &mut Faults,
+    object: &Object<'_, '_>,
+    name: &str,
+) -> Result<bool, InputFault> {
+    let Some(member) = said(object, name) else {
+        return Ok(false);
+    };
+    let items = faults.kept(member.array())?;
+    Ok(items.is_some_and(|items| !items.is_empty()))
+}
+
+/// Whether an object that is said has a member. Another kind is refused.
+pub(crate) fn has_members(
+    faults: &mut Faults,
+    object: &Object<'_, '_>,
+    name: &str,
+) -> Result<bool, InputFault> {
+    let Some(member) = said(object, name) else {
+        return Ok(false);
+    };
+    let members = faults.kept(member.object())?;
+    Ok(members.is_some_and(|object| !object.members().is_empty()))
+}

@@ -1,2 +1,4 @@
+pub mod Doing
+pub mod Planning
 pub mod Standing
 pub mod Telling

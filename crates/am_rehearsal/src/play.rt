@@ -2,8 +2,9 @@
 //!
 //! At one moment the ends of sendings come first, then alerts and silences, then maintenance, then
 //! the begins. All of it are calls of a board: nothing is decided here but when they are made.
-ghost use Rattle.std.specs.Prelude.{◌≡◌, ◌<◌, ◌≤◌, IfOk, IfSome, length, vec_len, vec_capacity};
+ghost use Rattle.std.specs.Prelude.{◌≡◌, ◌<◌, ◌≤◌, ◌∷◌, [], IfOk, IfSome, IsSome, None, length, vec_len, vec_capacity};
 ghost use Rattle.am_alerts.specs.declared.limits.TheConstants.{MAX_MOMENT};
+ghost use Rattle.am_rehearsal.specs.Planned.{acted, call_of, doings, nothing_done, planned, with_acts};
 ghost use Rattle.am_rehearsal.specs.Told.{told};
 ghost use Rattle.am_rehearsal.specs.declared.limits.TheConstants.{BOARD_ID, MAX_UNTIL};
 
@@ -40,12 +41,17 @@ pub enum PlayFault {
     Full,
 }
 
-/// Plays a rehearsal. What is planned after its end isn't played; what is being sent at its end is
-/// sent to its own end.
+/// Plays a rehearsal. What is being sent at its end is sent to its own end.
 ///
-/// The reasons that are told of each begin are those that looking back over the history before it
-/// finds.
+/// The inserts and silences of the history are those that are planned, in their order and at their
+/// moments, up to the first plan that is after the end. The reasons that are told of each begin are
+/// those that looking back over the history before it finds. The board is one of the id `BOARD_ID`, of
+/// which `Board::history` tells that its history is legal.
 pub fn play(alloc: Global, rehearsal: Rehearsal) -> Result<Played, PlayFault>
+    ensures configured { IfOk result (λ played. played.board.config ≡ rehearsal.config) }
+    ensures ours { IfOk result (λ played. played.board.id ≡ BOARD_ID) }
+    ensures planned { IfOk result (λ played.
+        acted played.board.history ≡ planned rehearsal.until rehearsal.plans.items) }
     ensures told { IfOk result (λ played. played.begins.items ≡ told played.board.config played.board.history) }
 {
     let Rehearsal {
@@ -56,16 +62,7 @@ pub fn play(alloc: Global, rehearsal: Rehearsal) -> Result<Played, PlayFault>
         outages,
     } = rehearsal;
     let mut course = Course::open(alloc, config, outages.as_slice(), maintain)?;
-    for (index, plan) in plans.into_iter().enumerate() {
-        if plan.at > until {
-            break;
-        }
-        // Nothing comes between two plans of one moment.
-        if plan.at > course.clock {
-            course.run_before(plan.at);
-        }
-        course.act(index, plan);
-    }
+    course.run_plans(plans, until);
     course.run_before(until + 1);
     course.end_all();
     course.close()
@@ -108,7 +105,9 @@ impl<'o> Course<'o> {
         config: Config,
         outages: &'o [Outage],
         maintain: u64,
-    ) -> Result<Course<'o>, PlayFault> {
+    ) -> Result<Course<'o>, PlayFault>
+        ensures { IfOk result (λ course. doings course.board.board ≡ nothing_done config) }
+    {
         Ok(Course {
             alloc,
             board: ToldBoard::new(alloc, config)?,
@@ -123,10 +122,30 @@ impl<'o> Course<'o> {
         })
     }
 
+    /// Does what is planned up to the end, and plays what comes before it.
+    fn run_plans(&mut self, plans: Vec<Plan>, until: u64)
+        requires { until ≤ MAX_UNTIL }
+        ensures { self.new.trouble ≡ None → (self.old.trouble ≡ None)
+            × (doings self.new.board.board ≡ with_acts (doings self.old.board.board) (planned until plans.items)) }
+    {
+        for (index, plan) in plans.into_iter().enumerate() {
+            if plan.at > until {
+                return;
+            }
+            // Nothing comes between two plans of one moment.
+            if plan.at > self.clock {
+                self.run_before(plan.at);
+            }
+            self.act(index, plan);
+        }
+    }
+
     /// Plays what comes before what is planned at `at`: all that is before that moment, and the ends of
     /// sendings at it.
     fn run_before(&mut self, at: u64)
         requires { at ≤ MAX_MOMENT }
+        ensures doings { doings self.new.board.board ≡ doings self.old.board.board }
+        ensures trouble { self.new.trouble ≡ None → self.old.trouble ≡ None }
     {
         for _ in 0..u64::MAX {
             if self.trouble.is_some() {
@@ -143,7 +162,10 @@ impl<'o> Course<'o> {
     }
 
     /// Plays the ends of what is being sent, and nothing else.
-    fn end_all(&mut self) {
+    fn end_all(&mut self)
+        ensures doings { doings self.new.board.board ≡ doings self.old.board.board }
+        ensures trouble { self.new.trouble ≡ None → self.old.trouble ≡ None }
+    {
         for _ in 0..u64::MAX {
             match first_end(self.sendings.as_slice()) {
                 Some(at) if self.trouble.is_none() => self.tell_ends(at),
@@ -187,7 +209,10 @@ impl<'o> Course<'o> {
     }
 
     /// Does what is planned, which is the plan at this place.
-    fn act(&mut self, index: usize, plan: Plan) {
+    fn act(&mut self, index: usize, plan: Plan)
+        ensures { self.new.trouble ≡ None → (self.old.trouble ≡ None)
+            × (doings self.new.board.board ≡ with_acts (doings self.old.board.board) (call_of plan.at plan.act ∷ [])) }
+    {
         if self.trouble.is_some() {
             return;
         }
@@ -202,7 +227,9 @@ impl<'o> Course<'o> {
         }
     }
 
-    fn make_maintenance(&mut self, at: u64) {
+    fn make_maintenance(&mut self, at: u64)
+        ensures { doings self.new.board.board ≡ doings self.old.board.board }
+    {
         self.clock = at;
         self.next_maintenance = at.saturating_add(self.maintain);
         if let Err(fault) = self.board.maintain(self.alloc, at) {
@@ -211,7 +238,10 @@ impl<'o> Course<'o> {
     }
 
     /// Ends the rehearsal with want of memory, or with this.
-    fn refuse(&mut self, fault: Fault, otherwise: PlayFault) {
+    fn refuse(&mut self, fault: Fault, otherwise: PlayFault)
+        ensures board { self.new.board ≡ self.old.board }
+        ensures trouble { IsSome self.new.trouble }
+    {
         self.trouble = Some(match fault {
             Fault::NoMemory => PlayFault::NoMemory,
             _ => otherwise,
@@ -221,6 +251,7 @@ impl<'o> Course<'o> {
     /// Begins flushes until no group is due, or as many are open as may be.
     fn begin_all(&mut self, at: u64)
         requires { at ≤ MAX_MOMENT }
+        ensures { doings self.new.board.board ≡ doings self.old.board.board }
     {
         self.clock = at;
         // Each begin leaves a record: the history is full before this ends.
@@ -234,6 +265,7 @@ impl<'o> Course<'o> {
     /// Begins a flush. Answers whether there may be more to begin.
     fn begin(&mut self, at: u64) -> bool
         requires { at ≤ MAX_MOMENT }
+        ensures { doings self.new.board.board ≡ doings self.old.board.board }
     {
         if self.sendings.reserve(1).is_err() || self.events.reserve(1).is_err() {
             self.trouble = Some(PlayFault::NoMemory);
@@ -267,6 +299,7 @@ impl<'o> Course<'o> {
     fn send(&mut self, begin: usize, own: OwnTicket, at: u64)
         requires moment { at ≤ MAX_MOMENT }
         requires room { vec_len self.old.sendings < vec_capacity self.old.sendings }
+        ensures { doings self.new.board.board ≡ doings self.old.board.board }
     {
         let mut courier = OutageCourier::new(self.board.config(), self.outages);
         let ends = match ends_of(self.alloc, &mut courier, own.ticket(), at) {
@@ -281,25 +314,28 @@ impl<'o> Course<'o> {
 
     /// Tells the board of the ends of sendings that have come at `at`, and finishes the flushes of
     /// which all have.
-    fn tell_ends(&mut self, at: u64) {
+    fn tell_ends(&mut self, at: u64)
+        ensures { doings self.new.board.board ≡ doings self.old.board.board }
+    {
         self.clock = at;
-        for sending in self.sendings.iter_mut() {
-            if let Err(fault) = tell_ends_of(
-                self.alloc,
-                &mut self.board,
-                &mut self.events,
-                sending,
-                at,
-            ) {
-                self.trouble = Some(fault);
-                return;
-            }
+        let told = tell_all(
+            self.alloc,
+            &mut self.board,
+            &mut self.events,
+            self.sendings.as_mut_slice(),
+            at,
+        );
+        if let Err(fault) = told {
+            self.trouble = Some(fault);
+            return;
         }
         self.finish_over(at);
     }
 
     /// Finishes the flushes of which all notices have come to their ends.
-    fn finish_over(&mut self, at: u64) {
+    fn finish_over(&mut self, at: u64)
+        ensures { doings self.new.board.board ≡ doings self.old.board.board }
+    {
         while let Some(place) = first_over(self.sendings.as_slice()) {
             let sending = self.sendings.remove(place);
             self.is_blocked = false;
@@ -311,7 +347,9 @@ impl<'o> Course<'o> {
 
     /// Finishes the flushes that are open, as they are.
     fn finish_all(&mut self)
-        ensures { vec_len self.new.sendings ≡ 0 }
+        ensures none { vec_len self.new.sendings ≡ 0 }
+        ensures doings { doings self.new.board.board ≡ doings self.old.board.board }
+        ensures trouble { self.new.trouble ≡ None → self.old.trouble ≡ None }
     {
         while !self.sendings.is_empty() {
             let sending = self.sendings.remove(0);
@@ -324,7 +362,10 @@ impl<'o> Course<'o> {
     /// What was played. Where it wasn't played to its end, the flushes that are open are finished as
     /// they are.
     fn close(mut self) -> Result<Played, PlayFault>
-        ensures { IfOk result (λ played. played.begins.items ≡ told played.board.config played.board.history) }
+        ensures trouble { IfOk result (λ _. self.entry.trouble ≡ None) }
+        ensures doings { IfOk result (λ played. doings played.board ≡ doings self.entry.board.board) }
+        ensures ours { IfOk result (λ played. played.board.id ≡ BOARD_ID) }
+        ensures told { IfOk result (λ played. played.begins.items ≡ told played.board.config played.board.history) }
     {
         self.finish_all();
         let Course {
@@ -355,7 +396,9 @@ impl<'o> Course<'o> {
 }
 
 /// Finishes a flush. Answers whether it was open.
-fn finish(board: &mut ToldBoard, sending: Sending, at: u64) -> bool {
+fn finish(board: &mut ToldBoard, sending: Sending, at: u64) -> bool
+    ensures { doings board.new.board ≡ doings board.old.board }
+{
     let Sending {
         own,
         begin: _,
@@ -384,6 +427,22 @@ fn first_end(sendings: &[Sending]) -> Option<u64> {
     first
 }
 
+/// Tells the board of the ends of these sendings that have come at `at`.
+fn tell_all(
+    alloc: Global,
+    board: &mut ToldBoard,
+    events: &mut Vec<Event>,
+    sendings: &mut [Sending],
+    at: u64,
+) -> Result<(), PlayFault>
+    ensures { doings board.new.board ≡ doings board.old.board }
+{
+    for sending in sendings.iter_mut() {
+        tell_ends_of(alloc, board, events, sending, at)?;
+    }
+    Ok(())
+}
+
 /// Tells the board of the ends of a sending that have come at `at`.
 fn tell_ends_of(
     alloc: Global,
@@ -391,7 +450,9 @@ fn tell_ends_of(
     events: &mut Vec<Event>,
     sending: &mut Sending,
     at: u64,
-) -> Result<(), PlayFault> {
+) -> Result<(), PlayFault>
+    ensures { doings board.new.board ≡ doings board.old.board }
+{
     for place in 0..sending.ends.len() {
         let end = sending.ends[place];
         if !end.is_told && end.at <= at {
@@ -411,7 +472,8 @@ fn tell_end(
     place: usize,
     end: End,
 ) -> Result<(), PlayFault>
-    ensures { sending.new.ends ≡ sending.old.ends }
+    ensures ends { sending.new.ends ≡ sending.old.ends }
+    ensures doings { doings board.new.board ≡ doings board.old.board }
 {
     if let Some(report) = end.report {
         events.push(Event::Sent {

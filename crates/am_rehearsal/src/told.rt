@@ -1,6 +1,9 @@
 //! A board of which is kept what each of its begins was to do, and why.
-ghost use Rattle.std.specs.Prelude.{◌≡◌, ◌≤◌, ◌+◌, ◌++◌, vec_len, vec_capacity};
+ghost use Rattle.std.specs.Prelude.{◌≡◌, ◌≤◌, ◌+◌, ◌++◌, ◌∷◌, [], IfOk, vec_len, vec_capacity};
 ghost use Rattle.am_board.specs.History.{reply_of, IsFresh};
+ghost use Rattle.am_model.specs.Records.{call_of_silence};
+ghost use Rattle.am_model.specs.declared.record.Call.TheVariants.{Insert};
+ghost use Rattle.am_rehearsal.specs.Planned.{doings, nothing_done, with_acts};
 ghost use Rattle.am_rehearsal.specs.Told.{takes_group, told, told_where};
 ghost use Rattle.am_rehearsal.specs.declared.limits.TheConstants.{BOARD_ID};
 
@@ -58,7 +61,9 @@ impl OwnTicket {
 
 impl ToldBoard {
     /// A board of this configuration, with nothing in it.
-    pub(crate) fn new(alloc: Global, config: Config) -> Result<ToldBoard, BoardFault> {
+    pub(crate) fn new(alloc: Global, config: Config) -> Result<ToldBoard, BoardFault>
+        ensures { IfOk result (λ opened. doings opened.board ≡ nothing_done config) }
+    {
         let board = Board::new(alloc, config, BOARD_ID)?;
         Ok(ToldBoard {
             board,
@@ -68,7 +73,9 @@ impl ToldBoard {
 
     /// The board, and what its begins were to do.
     pub(crate) fn into_parts(self) -> (Board, Vec<ToldBegin>)
-        ensures { result.1.items ≡ told result.0.config result.0.history }
+        ensures board { result.0 ≡ self.board }
+        ensures ours { result.0.id ≡ BOARD_ID }
+        ensures told { result.1.items ≡ told result.0.config result.0.history }
     {
         let ToldBoard { board, begins } = self;
         (board, begins)
@@ -88,22 +95,23 @@ impl ToldBoard {
         self.board.next_due()
     }
 
-    pub(crate) fn insert(&mut self, alloc: Global, now: u64, alert: Alert) -> Result<(), Fault> {
+    pub(crate) fn insert(&mut self, alloc: Global, now: u64, alert: Alert) -> Result<(), Fault>
+        ensures { IfOk result (λ _. doings self.new.board ≡ with_acts (doings self.old.board) (Insert now alert ∷ [])) }
+    {
         let _inserted = self.board.insert(alloc, PASS, now, alert)?;
         Ok(())
     }
 
-    pub(crate) fn silence(
-        &mut self,
-        alloc: Global,
-        now: u64,
-        silence: Silence,
-    ) -> Result<(), Fault> {
+    pub(crate) fn silence(&mut self, alloc: Global, now: u64, silence: Silence) -> Result<(), Fault>
+        ensures { IfOk result (λ _. doings self.new.board ≡ with_acts (doings self.old.board) (call_of_silence now silence ∷ [])) }
+    {
         let _silenced = self.board.silence(alloc, PASS, now, silence)?;
         Ok(())
     }
 
-    pub(crate) fn maintain(&mut self, alloc: Global, now: u64) -> Result<(), Fault> {
+    pub(crate) fn maintain(&mut self, alloc: Global, now: u64) -> Result<(), Fault>
+        ensures { doings self.new.board ≡ doings self.old.board }
+    {
         let _maintained = self.board.maintain(alloc, PASS, now)?;
         Ok(())
     }
@@ -115,13 +123,17 @@ impl ToldBoard {
         own: &OwnTicket,
         place: usize,
         now: u64,
-    ) -> Result<(), NoteFault> {
+    ) -> Result<(), NoteFault>
+        ensures { doings self.new.board ≡ doings self.old.board }
+    {
         let _noted = self.board.note(alloc, PASS, &own.ticket, place, now)?;
         Ok(())
     }
 
     /// Finishes a flush. Answers whether it was open.
-    pub(crate) fn finish(&mut self, own: OwnTicket, now: u64) -> bool {
+    pub(crate) fn finish(&mut self, own: OwnTicket, now: u64) -> bool
+        ensures { doings self.new.board ≡ doings self.old.board }
+    {
         let OwnTicket { ticket } = own;
         match self.board.finish(PASS, ticket, now) {
             Ok(_finished) => true,
@@ -131,7 +143,9 @@ impl ToldBoard {
     }
 
     /// Takes the group that is due first, and keeps what is to be done with it.
-    pub(crate) fn begin(&mut self, alloc: Global, now: u64) -> Result<Taken, Fault> {
+    pub(crate) fn begin(&mut self, alloc: Global, now: u64) -> Result<Taken, Fault>
+        ensures { doings self.new.board ≡ doings self.old.board }
+    {
         self.begins.reserve(1)?;
         let place = self.board.history().len();
         let outlook = self.board.outlook(alloc, now)?;

@@ -1,5 +1,10 @@
-use Rattle.std.proofs.Common.{vec_len}
+use Rattle.am_rehearsal.specs.Planned.{doings}
+use Rattle.std.proofs.Common.{◌≡◌, vec_len}
 use Rattle.am_rehearsal.proofs.play.Course.finish_over.Given as goal
 
 abbrev pub decreases-loop-place : goal.decreases-loop-place
 decreases-loop-place l = vec_len l.self.sendings
+
+-- nothing that is planned is done
+abbrev pub invariant-loop-place : goal.invariant-loop-place
+invariant-loop-place l = doings l.self.board.board ≡ doings l.initial.self.board.board

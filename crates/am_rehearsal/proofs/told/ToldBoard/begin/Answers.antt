@@ -1,4 +1,4 @@
-use Rattle.std.proofs.Common.{ap, ◌∙◌, ◌++◌, List, length}
+use Rattle.std.proofs.Common.{refl, ap, ◌∙◌, ◌++◌, List, length}
 use Rattle.am_board.specs.History.{reply_of}
 use Rattle.am_model.specs.declared.record.Call.TheVariants.{Begin}
 use Rattle.am_model.specs.declared.record.Record.{Record}
@@ -7,6 +7,7 @@ use Rattle.am_rehearsal.specs.Told.{takes_group, told_where}
 use Rattle.am_rehearsal.specs.declared.event.ToldBegin.{ToldBegin}
 use Rattle.am_rehearsal.specs.declared.limits.TheConstants.{BOARD_ID}
 use Rattle.am_rehearsal.proofs.Standing.{stands_told}
+use Rattle.am_rehearsal.proofs.Doing.{doings-same}
 use Rattle.am_rehearsal.proofs.told.ToldBoard.begin.Goals as goal
 
 pub invariant_of-self-2 : goal.invariant_of-self-2
@@ -22,3 +23,7 @@ invariant_of-self-2 c =
     stands_told BOARD_ID was.begins.items was.board c.begin.new.self (was.ours, was.told) (entry 0 (Begin c.args.now) (reply_of c.in-Ok.begun)) is_to_do
     c.in_ok-outlook.ensures c.in-Ok.ensures.recorded c.tell.new.begins.items told in
     record { ours = stands.0; told = stands.1 }
+
+pub returns : goal.returns
+returns c =
+    doings-same c.args.self.now.board c.begin.new.self (entry 0 (Begin c.args.now) (reply_of c.in-Ok.begun), refl, c.in-Ok.ensures.recorded)

@@ -5,6 +5,7 @@ use Rattle.am_model.specs.declared.record.Reply.TheVariants.{Finished}
 use Rattle.am_model.specs.Records.{entry}
 use Rattle.am_rehearsal.specs.declared.limits.TheConstants.{BOARD_ID}
 use Rattle.am_rehearsal.proofs.Standing.{stands_over}
+use Rattle.am_rehearsal.proofs.Doing.{doings-same}
 use Rattle.am_rehearsal.proofs.told.ToldBoard.finish.Goals as goal
 
 pub invariant_of-self : goal.invariant_of-self
@@ -16,3 +17,8 @@ invariant_of-self c =
     (IfOk-weaker c.finish.result _ _ (λ finished recorded. (entry 0 (Finish c.args.now ticket.number ticket.outcomes) (Finished finished), refl, recorded)) c.finish.ensures.recorded)
     c.finish.ensures.refused in
     record { ours = stands.0; told = stands.1 }
+
+pub returns-in-Ok : goal.returns-in-Ok
+returns-in-Ok c =
+    let ticket = c.args.own.ticket in
+    doings-same c.args.self.now.board c.finish.new.self (entry 0 (Finish c.args.now ticket.number ticket.outcomes) (Finished c.in-Ok._finished), refl, c.in-Ok.ensures.recorded)

@@ -5,6 +5,7 @@ use Rattle.am_model.specs.declared.record.Reply.TheVariants.{Inserted}
 use Rattle.am_model.specs.Records.{entry}
 use Rattle.am_rehearsal.specs.declared.limits.TheConstants.{BOARD_ID}
 use Rattle.am_rehearsal.proofs.Standing.{stands_over}
+use Rattle.am_rehearsal.proofs.Doing.{doings-more}
 use Rattle.am_rehearsal.proofs.told.ToldBoard.insert.Goals as goal
 
 pub invariant_of-self : goal.invariant_of-self
@@ -15,3 +16,7 @@ invariant_of-self c =
     (IfOk-weaker c.insert.result _ _ (λ inserted recorded. (entry 0 (Insert c.args.now c.args.alert) (Inserted inserted), refl, recorded)) c.insert.ensures.recorded)
     c.insert.ensures.refused in
     record { ours = stands.0; told = stands.1 }
+
+pub returns : goal.returns
+returns c =
+    doings-more c.args.self.now.board c.insert.new.self (entry 0 (Insert c.args.now c.args.alert) (Inserted c.in_ok-_inserted._inserted)) refl c.in_ok-_inserted.ensures.recorded

@@ -5,6 +5,7 @@ use Rattle.am_model.specs.declared.record.Reply.TheVariants.{Maintained}
 use Rattle.am_model.specs.Records.{entry}
 use Rattle.am_rehearsal.specs.declared.limits.TheConstants.{BOARD_ID}
 use Rattle.am_rehearsal.proofs.Standing.{stands_over}
+use Rattle.am_rehearsal.proofs.Doing.{doings-same}
 use Rattle.am_rehearsal.proofs.told.ToldBoard.maintain.Goals as goal
 
 pub invariant_of-self : goal.invariant_of-self
@@ -15,3 +16,7 @@ invariant_of-self c =
     (IfOk-weaker c.maintain.result _ _ (λ maintained recorded. (entry 0 (Maintain c.args.now) (Maintained maintained), refl, recorded)) c.maintain.ensures.recorded)
     c.maintain.ensures.refused in
     record { ours = stands.0; told = stands.1 }
+
+pub returns : goal.returns
+returns c =
+    doings-same c.args.self.now.board c.maintain.new.self (entry 0 (Maintain c.args.now) (Maintained c.in_ok-_maintained._maintained), refl, c.in_ok-_maintained.ensures.recorded)

@@ -2,6 +2,9 @@ use Rattle.std.proofs.Common.{ap, ◌∙◌, sym}
 use Rattle.am_board.specs.History.{BoardData}
 use Rattle.am_board.proofs.keeping.Staying.{unless_value}
 use Rattle.am_rehearsal.specs.Told.{told}
+use Rattle.am_rehearsal.specs.Planned.{doings}
+use Rattle.am_rehearsal.specs.declared.limits.TheConstants.{BOARD_ID}
+use Rattle.am_rehearsal.proofs.Doing.{doings-opening}
 use Rattle.am_rehearsal.proofs.told.ToldBoard.new.Goals as goal
 
 pub invariant_of-result : goal.invariant_of-result
@@ -11,3 +14,6 @@ invariant_of-result c =
       ours = ap (λ (b : BoardData). b.id) opened;
       told = c.new-2.ensures.items ∙ sym (ap (λ (b : BoardData). told b.config b.history) opened);
     }
+
+pub returns : goal.returns
+returns c = ap doings (unless_value _ _ _ c.in_ok-board.ensures) ∙ doings-opening c.args.config BOARD_ID

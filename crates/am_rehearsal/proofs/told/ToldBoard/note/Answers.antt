@@ -4,6 +4,8 @@ use Rattle.am_model.specs.declared.record.Record.{Record}
 use Rattle.am_rehearsal.specs.Told.{takes_group}
 use Rattle.am_rehearsal.specs.declared.limits.TheConstants.{BOARD_ID}
 use Rattle.am_rehearsal.proofs.Standing.{stands_over}
+use Rattle.am_rehearsal.specs.Planned.{act_of}
+use Rattle.am_rehearsal.proofs.Doing.{doings-same}
 use Rattle.am_rehearsal.proofs.told.ToldBoard.note.Goals as goal
 
 pub invariant_of-self : goal.invariant_of-self
@@ -14,3 +16,8 @@ invariant_of-self c =
     (on_ok_weaker c.note.result (λ noted. (noted.0, ap (λ (r : Record). takes_group r.reply) noted.1.2, noted.2)) c.note.ensures.noted)
     c.note.ensures.refused in
     record { ours = stands.0; told = stands.1 }
+
+pub returns : goal.returns
+returns c =
+    let noted = c.in_ok-_noted.ensures.noted in
+    doings-same c.args.self.now.board c.note.new.self (noted.0, ap (λ (r : Record). act_of r.call) noted.1.2, noted.2)

@@ -4,6 +4,7 @@ use Rattle.am_model.specs.declared.record.Reply.TheVariants.{Silenced}
 use Rattle.am_model.specs.Records.{entry, call_of_silence}
 use Rattle.am_rehearsal.specs.declared.limits.TheConstants.{BOARD_ID}
 use Rattle.am_rehearsal.proofs.Standing.{stands_over}
+use Rattle.am_rehearsal.proofs.Doing.{doings-more}
 use Rattle.am_rehearsal.proofs.told.ToldBoard.silence.Goals as goal
 
 pub invariant_of-self : goal.invariant_of-self
@@ -14,3 +15,7 @@ invariant_of-self c =
     (IfOk-weaker c.silence.result _ _ (λ silenced recorded. (entry 0 (call_of_silence c.args.now c.args.silence) (Silenced silenced), refl, recorded)) c.silence.ensures.recorded)
     c.silence.ensures.refused in
     record { ours = stands.0; told = stands.1 }
+
+pub returns : goal.returns
+returns c =
+    doings-more c.args.self.now.board c.silence.new.self (entry 0 (call_of_silence c.args.now c.args.silence) (Silenced c.in_ok-_silenced._silenced)) refl c.in_ok-_silenced.ensures.recorded

@@ -169,7 +169,8 @@ def change(rehearsal, words):
     return rehearsal
 
 
-def check_refusals(table):
+def check_refusals(table, least):
+    """Each row of a table, of which there are at least so many, is refused by just the lines that it says."""
     lines = [line for line in table.read_text().splitlines() if not line.startswith("#")]
     end = lines.index("")
     rows = [line for line in lines[end:] if line]
@@ -183,12 +184,48 @@ def check_refusals(table):
         if wanted == "played":
             is_right = status in (0, 5) and told != ""
         else:
-            refused = f"am-rehearse: rehearsal refused at {repeated(wanted)}"
+            refused = "\n".join(f"am-rehearse: rehearsal refused at {at}" for at in repeated(wanted).split(" | "))
             is_right = (status, told, line) == (2, "", refused)
         if not is_right:
             differ += 1
             tell(row[:150], False, f"status {status} {line[:200]}")
-    tell(f"{len(rows)} refusals", differ == 0 and len(rows) > 200, f"{differ} differ")
+    tell(f"{len(rows)} rows of {table.name}", differ == 0 and len(rows) >= least, f"{differ} differ")
+
+
+# What is dropped of Alertmanager's configuration, and how many faults are told.
+
+def theirs(**members):
+    """A rehearsal with a configuration of Alertmanager's that has these members."""
+    config = {"route": {"receiver": "team"}, "receivers": [{"name": "team"}], **members}
+    return {"alertmanager": config, "until": "1m", "alerts": [{"labels": {"alertname": "A"}}]}
+
+
+def mailed(**settings):
+    return [{"name": "team", "email_configs": [settings]}]
+
+
+def check_dropped():
+    for members, dropped in [
+        ({}, ""),
+        ({"global": {}, "templates": [], "time_intervals": [], "receivers": mailed(send_resolved=True)}, ""),
+        ({"global": {"resolve_timeout": "5m"}}, "global"),
+        ({"templates": ["x"]}, "templates"),
+        ({"time_intervals": [{"name": "x"}]}, "time intervals"),
+        ({"mute_time_intervals": [{"name": "x"}]}, "time intervals"),
+        ({"receivers": mailed(send_resolved=True, to="x")}, "settings of integrations"),
+        ({"global": {"resolve_timeout": "5m"}, "receivers": mailed(to="x")}, "global, settings of integrations"),
+    ]:
+        status, told, line = run(json.dumps(theirs(**members)))
+        wanted = f"am-rehearse: dropped: {dropped}" if dropped else ""
+        tell(f"dropped: {dropped or 'nothing'}", (status, line) == (0, wanted) and told != "", line)
+
+
+def check_many_faults():
+    """Of more than a hundred faults the first hundred are told."""
+    unknown = {f"x{number:03}": 1 for number in range(101)}
+    status, told, line = run(json.dumps(theirs(**unknown)))
+    wanted = [f"am-rehearse: rehearsal refused at /alertmanager/x{number:03}: unknown" for number in range(100)]
+    tell("a hundred faults", (status, told, line.split("\n")) == (2, "", wanted), line[-200:])
 
 
 # Inputs that would take long, or much memory.
@@ -226,6 +263,8 @@ def check_hostile():
         ("a wait above it", json.dumps(plain(maintain="1000000000001ms")), 2, f"{refused} /maintain: value"),
         ("100,000 alerts", json.dumps(plain(alerts=alerts(100_000))), 2, f"{refused} /alerts/65536: full"),
         ("an outage without an end", json.dumps(plain(until="366d", outages=endless)), 0, ""),
+        ("300,000 routes", json.dumps(theirs(route={"receiver": "team", "routes": [{}] * 300_000})), 2,
+         f"{refused} /alertmanager/route/routes/63: value"),
         ("maintenance each millisecond", json.dumps(plain(until="366d", maintain="1ms")), 2, f"{refused} /until: full"),
     ]:
         got = run(text)
@@ -259,7 +298,10 @@ def main():
         check_scenario(scenario)
     tell("as many rehearsals and scenarios as there were", len(names) >= 20 and len(scenarios) >= 9)
     check_differences()
-    check_refusals(Path(".ci/rehearsal-refusals"))
+    check_refusals(Path(".ci/rehearsal-refusals"), 200)
+    check_refusals(Path(".ci/alertmanager-refusals"), 100)
+    check_dropped()
+    check_many_faults()
     check_hostile()
     check_schema()
     return 1 if FAILED else 0

@@ -4,6 +4,8 @@ use Rattle.am_cli.specs.declared.fault.InputFault.{InputFault}
 use Rattle.am_cli.specs.declared.fault.InputFault.TheVariants as input
 use Rattle.am_cli.specs.declared.transfer.ReadFault.{ReadFault}
 use Rattle.am_cli.specs.declared.transfer.ReadFault.TheVariants as read
+use Rattle.am_config.specs.declared.faults.Refusal.{Refusal}
+use Rattle.am_config.specs.declared.faults.Refusal.TheVariants as refusal
 use Rattle.am_rehearse.specs.declared.fault.RehearseFault.{RehearseFault}
 use Rattle.am_rehearse.specs.declared.fault.RehearseFault.TheVariants as rehearse
 
@@ -12,6 +14,11 @@ abbrev pub fault_of_input : InputFault → RehearseFault
 fault_of_input (input.NotJson line column) = rehearse.NotJson line column
 fault_of_input (input.Refused place word) = rehearse.Refused place word
 fault_of_input input.NoMemory = rehearse.NoMemory
+
+-- one of Alertmanager's configuration is one of an input, or all faults
+abbrev pub fault_of_refusal : Refusal → RehearseFault
+fault_of_refusal (refusal.One fault) = fault_of_input fault
+fault_of_refusal (refusal.All faults) = rehearse.AllRefused faults
 
 -- and so is one of reading it
 abbrev pub fault_of_read : ReadFault → RehearseFault
@@ -23,6 +30,7 @@ abbrev pub status_of : RehearseFault → ℕ
 status_of rehearse.Unreadable = 1
 status_of (rehearse.NotJson line column) = 2
 status_of (rehearse.Refused place word) = 2
+status_of (rehearse.AllRefused faults) = 2
 status_of rehearse.NoMemory = 3
 status_of rehearse.Unwritable = 4
 status_of rehearse.Unmet = 5

@@ -1,6 +1,7 @@
 //! Why a rehearsal ends without its timeline, or with an expectation that isn't met.
 use am_cli::fault::{InputFault, Word};
 use am_cli::transfer::{ReadFault, Unwritable};
+use am_config::faults::{Faults, Refusal};
 use thiserror::Error;
 
 /// Why the program ends with a status that isn't 0.
@@ -15,6 +16,9 @@ pub enum RehearseFault {
     /// The rehearsal is refused; the place is a JSON pointer.
     #[error("am-rehearse: rehearsal refused at {place}: {word}")]
     Refused { place: String, word: Word },
+    /// Alertmanager's configuration is refused for these faults.
+    #[error("am-rehearse: rehearsal refused")]
+    AllRefused { faults: Faults },
     /// Memory was refused.
     #[error("am-rehearse: no memory")]
     NoMemory,
@@ -36,7 +40,9 @@ impl RehearseFault {
     {
         match self {
             RehearseFault::Unreadable => 1,
-            RehearseFault::NotJson { .. } | RehearseFault::Refused { .. } => 2,
+            RehearseFault::NotJson { .. }
+            | RehearseFault::Refused { .. }
+            | RehearseFault::AllRefused { .. } => 2,
             RehearseFault::NoMemory => 3,
             RehearseFault::Unwritable => 4,
             RehearseFault::Unmet => 5,
@@ -55,6 +61,20 @@ impl From<InputFault> for RehearseFault {
             InputFault::NotJson { line, column } => RehearseFault::NotJson { line, column },
             InputFault::Refused { place, word } => RehearseFault::Refused { place, word },
             InputFault::NoMemory => RehearseFault::NoMemory,
+        }
+    }
+}
+
+impl From<Refusal> for RehearseFault {
+    ghost use Rattle.std.specs.Prelude.{◌≡◌};
+    ghost use Rattle.am_rehearse.specs.Faults.{fault_of_refusal};
+
+    ghost from_gives = { λ refusal fault. fault ≡ fault_of_refusal refusal };
+
+    fn from(refusal: Refusal) -> RehearseFault {
+        match refusal {
+            Refusal::One(fault) => RehearseFault::from(fault),
+            Refusal::All(faults) => RehearseFault::AllRefused { faults },
         }
     }
 }

@@ -1,18 +1,24 @@
 //! What a rehearsal is made of, and how it is read.
-ghost use Rattle.std.specs.Prelude.{◌≤◌, IfOk};
+ghost use Rattle.std.specs.Prelude.{◌≡◌, ◌≤◌, IfOk, Some, codes};
+ghost use Rattle.std.specs.Result.{result_ok};
+ghost use Rattle.serde_json.specs.Find.{get_member};
+ghost use Rattle.serde_json.specs.View.{members_view, view};
 ghost use Rattle.am_rehearsal.specs.declared.limits.TheConstants.{MAX_UNTIL};
+ghost use Rattle.am_rehearse.specs.Tale.{asked_in, output_in};
 
 use crate::input::alert::AlertItem;
+use crate::input::configured::read_configured;
 use crate::input::expectation::ExpectationItem;
 use crate::input::outage::OutageItem;
 use crate::input::silence::SilenceItem;
 use crate::input::target::check;
 use am_board::config::Config;
-use am_cli::config::read_config;
-use am_cli::duration::duration;
+use am_cli::duration::{duration, interval_or};
 use am_cli::fault::{InputFault, Word};
 use am_cli::place::Place;
 use am_cli::reader::{Object, Reader};
+use am_config::dropped::Dropped;
+use am_config::faults::Refusal;
 use am_rehearsal::MAX_UNTIL;
 use am_rehearsal::rehearsal::{Outage, Rehearsal};
 use am_timeline::dated::Dated;
@@ -21,6 +27,7 @@ use serde_json::Value;
 use std::alloc::Global;
 
 mod alert;
+mod configured;
 mod expectation;
 mod moment;
 mod origin;
@@ -36,8 +43,17 @@ pub use origin::Origin;
 const MAINTAIN: u64 = 900_000;
 
 /// The members of a rehearsal.
-const MEMBERS: [&str; 9] = [
-    "config", "start", "until", "alerts", "silences", "maintain", "outages", "expect", "output",
+const MEMBERS: [&str; 10] = [
+    "config",
+    "alertmanager",
+    "start",
+    "until",
+    "alerts",
+    "silences",
+    "maintain",
+    "outages",
+    "expect",
+    "output",
 ];
 
 /// A rehearsal as it was read, and what is to be printed of it.
@@ -50,6 +66,8 @@ pub struct Input {
     pub start: Option<Dated>,
     pub expectations: Vec<Expectation>,
     pub output: Output,
+    /// What of Alertmanager's configuration is dropped.
+    pub dropped: Dropped,
 }
 
 /// What is printed.
@@ -63,21 +81,32 @@ pub enum Output {
     Json,
 }
 
-/// Reads a whole rehearsal. The first fault in the order of reading is answered.
-pub fn read_input(alloc: Global, value: &Value) -> Result<Input, InputFault> {
+/// Reads a whole rehearsal. The first fault in the order of reading is answered; of Alertmanager's
+/// configuration all faults.
+pub fn read_input(alloc: Global, value: &Value) -> Result<Input, Refusal>
+    ensures { IfOk result (λ input. asked_in (view value.now) ≡ Some input.output) }
+{
     let reader = Reader::strict(alloc, value);
     let top = reader.object()?;
     top.only(&MEMBERS)?;
-    let config = read_config(&top.required("config")?)?;
-    let start = moment::start(&top)?;
-    let until = read_until(&top)?;
+    let (config, dropped) = read_configured(&top)?;
+    read_planned(&top, config, dropped).map_err(Refusal::One)
+}
+
+/// Reads what is planned against a configuration.
+fn read_planned(top: &Object<'_, '_>, config: Config, dropped: Dropped) -> Result<Input, InputFault>
+    ensures { IfOk result (λ input.
+        output_in (get_member (codes "output") (members_view top.now.members)) ≡ Some input.output) }
+{
+    let start = moment::start(top)?;
+    let until = read_until(top)?;
     let alerts = top.list_or_none::<AlertItem>("alerts")?;
     let silences = top.list_or_none::<SilenceItem>("silences")?;
-    let maintain = read_maintain(&top)?;
-    let outages = read_outages(&top, &config)?;
-    let expectations = read_expectations(&top, &config, until)?;
-    let output = read_output(&top)?;
-    let (plans, origins) = planned::in_order(alloc, alerts, silences)?;
+    let maintain = interval_or(top, "maintain", MAINTAIN)?;
+    let outages = read_outages(top, &config)?;
+    let expectations = read_expectations(top, &config, until)?;
+    let output = read_output(top)?;
+    let (plans, origins) = planned::in_order(top.alloc(), alerts, silences)?;
     let rehearsal = Rehearsal {
         config,
         until,
@@ -91,6 +120,7 @@ pub fn read_input(alloc: Global, value: &Value) -> Result<Input, InputFault> {
         start,
         expectations,
         output,
+        dropped,
     })
 }
 
@@ -104,19 +134,6 @@ fn read_until(top: &Object<'_, '_>) -> Result<u64, InputFault>
         return Err(member.refuse(Word::Value));
     }
     Ok(until)
-}
-
-/// How often maintenance is made; `Value` for zero.
-fn read_maintain(top: &Object<'_, '_>) -> Result<u64, InputFault>
-    ensures { IfOk result (λ maintain. 1 ≤ maintain) }
-{
-    match top.optional("maintain") {
-        None => Ok(MAINTAIN),
-        Some(member) => match duration(&member)? {
-            0 => Err(member.refuse(Word::Value)),
-            maintain => Ok(maintain),
-        },
-    }
 }
 
 fn read_outages(top: &Object<'_, '_>, config: &Config) -> Result<Vec<Outage>, InputFault> {
@@ -166,7 +183,9 @@ fn read_expectations(
 }
 
 /// What is printed; the timeline, where it isn't said.
-fn read_output(top: &Object<'_, '_>) -> Result<Output, InputFault> {
+fn read_output(top: &Object<'_, '_>) -> Result<Output, InputFault>
+    ensures { result_ok result ≡ output_in (get_member (codes "output") (members_view top.now.members)) }
+{
     let Some(member) = top.optional("output") else {
         return Ok(Output::Timeline);
     };

@@ -1,6 +1,14 @@
 //! The run of a rehearsal, from its bytes to what it tells.
-ghost use Rattle.std.specs.Prelude.{◌≡◌, ◌≢◌, ◌≤◌, ◌<◌, ◌+◌, ◌⊎◌, ◌↔◌, length, IfErr, OnOk};
+ghost use Rattle.std.specs.Prelude.{◌≡◌, ◌≢◌, ◌≤◌, ◌<◌, ◌+◌, ◌++◌, ◌⊎◌, ◌↔◌, Some, false, true, length, string_bytes};
+ghost use Rattle.std.specs.Prelude.{IfErr, IfOk, OnOk, option_and_then};
+ghost use Rattle.std.specs.List.{list_all};
 ghost use Rattle.am_cli.specs.declared.transfer.TheConstants.{MAX_INPUT};
+ghost use Rattle.am_rehearsal.specs.Told.{told};
+ghost use Rattle.am_rehearsal.specs.declared.limits.TheConstants.{BOARD_ID};
+ghost use Rattle.am_rehearse.specs.Tale.{IsAnswered, IsPrinted, IsTaleOf, IsToldOf, judged};
+ghost use Rattle.am_timeline.specs.Expectation.{is_met};
+ghost use Rattle.am_timeline.specs.Table.{table_text};
+ghost use Rattle.am_timeline.specs.Timeline.{timeline_text};
 
 use crate::fault::RehearseFault;
 use crate::input::{Input, Origin, Output, read_input};
@@ -9,6 +17,8 @@ use am_cli::fault::{InputFault, Word};
 use am_cli::place::Place;
 use am_cli::reader::parse;
 use am_cli::transfer::{MAX_INPUT, read_all, write_all};
+use am_config::dropped::Dropped;
+use am_config::faults::Refusal;
 use am_rehearsal::play::{PlayFault, Played, play};
 use am_timeline::clock::{Clock, Counted};
 use am_timeline::expectation::Expectation;
@@ -28,14 +38,18 @@ struct Told {
     is_met: bool,
 }
 
-/// Reads a rehearsal from the source, plays it and writes what it tells to the sink.
+/// Reads a rehearsal from the source, plays it and writes what it tells to the sink: on `Ok` and on
+/// `Unmet`, once and whole, the output that the input asks for, of a legal history. It is `Ok` where
+/// every expectation of it is met, and `Unmet` where one isn't. What the JSON tells isn't said.
 ///
+/// `dropped` is what of Alertmanager's configuration is dropped, once the rehearsal was read.
 /// It is made whole before its first byte is written: on every fault but `Unwritable` and `Unmet` the
-/// sink wasn't asked. On `Unmet` it was written whole.
+/// sink wasn't asked.
 pub fn run_rehearsal<S: Source, K: Sink>(
     alloc: Global,
     source: &mut S,
     sink: &mut K,
+    dropped: &mut Dropped,
 ) -> Result<(), RehearseFault>
     ensures asked { S.asked source.new ≤ S.asked source.old + (MAX_INPUT + 1) }
     ensures unreadable { (result ≡ Err RehearseFault.Unreadable)
@@ -46,9 +60,13 @@ pub fn run_rehearsal<S: Source, K: Sink>(
     ensures unwritten { IfErr result (λ fault.
         fault ≢ RehearseFault.Unwritable → fault ≢ RehearseFault.Unmet → sink.new ≡ sink.old) }
     ensures ended { OnOk result (S.ended source.new ≡ S.ended source.old + 1) }
+    ensures met { OnOk result
+        (IsAnswered true (S.given source.old) (S.given source.new) (K.taken sink.old) (K.taken sink.new)) }
+    ensures unmet { IfErr result (λ fault. fault ≡ RehearseFault.Unmet →
+        IsAnswered false (S.given source.old) (S.given source.new) (K.taken sink.old) (K.taken sink.new)) }
 {
     let input = read_all(alloc, source)?;
-    let told = told_of(alloc, input.as_slice())?;
+    let told = told_of(alloc, input.as_slice(), dropped)?;
     write_all(sink, told.text.as_bytes())?;
     if told.is_met {
         Ok(())
@@ -72,20 +90,26 @@ fn refused(alloc: Global, fault: PlayFault, origins: &[Origin]) -> InputFault {
 }
 
 /// What is printed of the rehearsal that these bytes are.
-fn told_of(alloc: Global, input: &[u8]) -> Result<Told, InputFault> {
+fn told_of(alloc: Global, input: &[u8], dropped: &mut Dropped) -> Result<Told, Refusal>
+    ensures { IfOk result (λ told. IsToldOf input.now told.is_met (string_bytes told.text)) }
+{
     let value = parse(alloc, input)?;
     let input = read_input(alloc, &value)?;
-    tell(alloc, input)
+    *dropped = input.dropped;
+    Ok(tell(alloc, input)?)
 }
 
 /// Plays a rehearsal, and tells what is asked for.
-fn tell(alloc: Global, input: Input) -> Result<Told, InputFault> {
+fn tell(alloc: Global, input: Input) -> Result<Told, InputFault>
+    ensures { IfOk result (λ told. IsTaleOf input.output told.is_met (string_bytes told.text)) }
+{
     let Input {
         rehearsal,
         origins,
         start,
         expectations,
         output,
+        dropped: _,
     } = input;
     let played = match play(alloc, rehearsal) {
         Ok(played) => played,
@@ -105,22 +129,47 @@ fn tell_by<C: Clock>(
     clock: &C,
     expectations: &[Expectation],
     output: Output,
-) -> Result<Told, InputFault> {
+) -> Result<Told, InputFault>
+    requires ours { played.now.board.id ≡ BOARD_ID }
+    requires told { played.now.begins.items ≡ told played.now.board.config played.now.board.history }
+    ensures { IfOk result (λ told. IsTaleOf output told.is_met (string_bytes told.text)) }
+{
     let story = Story::new(
         played.board.config(),
         played.board.history(),
         played.begins.as_slice(),
         played.events.as_slice(),
     );
-    let text = match output {
-        Output::Timeline => timeline(alloc, &story, clock, expectations)?,
-        Output::Notices => notices_text(alloc, &story, clock)?,
-        Output::Json => json_text(alloc, &story, clock)?,
-    };
-    let is_met = expectations
-        .iter()
-        .all(|expectation| expectation.is_met(&story));
+    let text = printed(alloc, &story, clock, expectations, output)?;
+    let is_met = are_met(&story, expectations);
     Ok(Told { text, is_met })
+}
+
+/// Whether every expectation is met.
+fn are_met(story: &Story<'_>, expectations: &[Expectation]) -> bool
+    ensures { result ≡ list_all (is_met story.now) expectations.now }
+{
+    expectations
+        .iter()
+        .all(|expectation| expectation.is_met(story))
+}
+
+/// The output of a story that is asked for.
+fn printed<C: Clock>(
+    alloc: Global,
+    story: &Story<'_>,
+    clock: &C,
+    expectations: &[Expectation],
+    output: Output,
+) -> Result<String, AllocError>
+    ensures { IfOk result (λ text.
+        IsPrinted output story.now (C.times clock.now) expectations.now (string_bytes text)) }
+{
+    match output {
+        Output::Timeline => timeline(alloc, story, clock, expectations),
+        Output::Notices => notices_text(alloc, story, clock),
+        Output::Json => json_text(alloc, story, clock),
+    }
 }
 
 /// The timeline, the table of the receivers and what became of the expectations.
@@ -129,14 +178,32 @@ fn timeline<C: Clock>(
     story: &Story<'_>,
     clock: &C,
     expectations: &[Expectation],
-) -> Result<String, AllocError> {
+) -> Result<String, AllocError>
+    ensures { IfOk result (λ text. string_bytes text ≡ timeline_text story.now (C.times clock.now)
+        ++ table_text story.now (C.times clock.now) ++ judged story.now (C.times clock.now) expectations.now) }
+{
     let mut text = timeline_text(alloc, story, clock)?;
     let table = table_text(alloc, story, clock)?;
     text.push_str(table.as_str())?;
-    if !expectations.is_empty() {
-        let judgement = judgement_text(alloc, story, clock, expectations)?;
-        text.push_str("\n")?;
-        text.push_str(judgement.as_str())?;
-    }
+    push_judged(alloc, story, clock, expectations, &mut text)?;
     Ok(text)
+}
+
+/// Adds what became of the expectations, behind an empty line, if there are any.
+fn push_judged<C: Clock>(
+    alloc: Global,
+    story: &Story<'_>,
+    clock: &C,
+    expectations: &[Expectation],
+    text: &mut String,
+) -> Result<(), AllocError>
+    ensures { OnOk result (string_bytes text.new
+        ≡ string_bytes text.old ++ judged story.now (C.times clock.now) expectations.now) }
+{
+    if expectations.is_empty() {
+        return Ok(());
+    }
+    let judgement = judgement_text(alloc, story, clock, expectations)?;
+    text.push_str("\n")?;
+    text.push_str(judgement.as_str())
 }

@@ -14,6 +14,7 @@ mod devices;
 mod phases;
 mod records;
 mod refused;
+mod rehearsals;
 mod runs;
 
 /// The scenario of the first notice.

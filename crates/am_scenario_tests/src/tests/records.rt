@@ -94,7 +94,7 @@ fn push_record(record: &Record, text: &mut String) -> Result<(), AllocError> {
     text.push_str("\n")
 }
 
-fn push_call(call: &Call, text: &mut String) -> Result<(), AllocError> {
+pub fn push_call(call: &Call, text: &mut String) -> Result<(), AllocError> {
     match call {
         Call::Insert { now, alert } => {
             write!(text, "insert at {now}")?;
@@ -146,7 +146,7 @@ fn push_matchers(matchers: &[MatcherParts], text: &mut String) -> Result<(), All
     Ok(())
 }
 
-fn push_reply(reply: &Reply, text: &mut String) -> Result<(), AllocError> {
+pub fn push_reply(reply: &Reply, text: &mut String) -> Result<(), AllocError> {
     match reply {
         Reply::Inserted(told) => write!(text, "{told:?}"),
         Reply::Silenced(told) => write!(text, "{told:?}"),

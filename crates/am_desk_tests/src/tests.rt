@@ -29,36 +29,49 @@ use std::sync::Wait;
 
 /// The base configuration with these limits: one route by alertname, and the integration `hook/0`.
 fn config(alloc: Global, limits: Limits) -> Result<Config, AllocError> {
-    let mut grouping = Vec::new(alloc);
-    grouping.push(Text::new(alloc, "alertname")?)?;
+    Ok(Config {
+        routes: routes(alloc)?,
+        receivers: receivers(alloc)?,
+        rules: Sequence::empty(alloc),
+        retention: 432_000_000,
+        limits,
+    })
+}
+
+fn routes(alloc: Global) -> Result<Routes, AllocError> {
     let root = Route {
         name: Text::new(alloc, "root")?,
         receiver: Text::new(alloc, "team")?,
-        group_by: GroupBy::Names(Sequence::from(grouping)),
+        group_by: by_alertname(alloc)?,
         group_wait: 30_000,
         group_interval: 300_000,
         repeat_interval: 14_400_000,
     };
+    Routes::new(root, Vec::new(alloc)).map_err(|_| AllocError)
+}
+
+fn by_alertname(alloc: Global) -> Result<GroupBy, AllocError> {
+    let mut names = Vec::new(alloc);
+    names.push(Text::new(alloc, "alertname")?)?;
+    Ok(GroupBy::Names(Sequence::from(names)))
+}
+
+fn receivers(alloc: Global) -> Result<Sequence<Receiver>, AllocError> {
+    let mut receivers = Vec::new(alloc);
+    receivers.push(Receiver {
+        name: Text::new(alloc, "team")?,
+        integrations: hook(alloc)?,
+    })?;
+    Ok(Sequence::from(receivers))
+}
+
+fn hook(alloc: Global) -> Result<Sequence<Integration>, AllocError> {
     let mut integrations = Vec::new(alloc);
     integrations.push(Integration {
         kind: Text::new(alloc, "hook")?,
         send_resolved: true,
     })?;
-    let mut receivers = Vec::new(alloc);
-    receivers.push(Receiver {
-        name: Text::new(alloc, "team")?,
-        integrations: Sequence::from(integrations),
-    })?;
-    let Ok(routes) = Routes::new(root, Vec::new(alloc)) else {
-        return Err(AllocError);
-    };
-    Ok(Config {
-        routes,
-        receivers: Sequence::from(receivers),
-        rules: Sequence::empty(alloc),
-        retention: 432_000_000,
-        limits,
-    })
+    Ok(Sequence::from(integrations))
 }
 
 /// An alert with these labels that fires from 0 on.
@@ -79,17 +92,18 @@ fn alert(rt: &impl Abort, alloc: Global, pairs: &[(&str, &str)]) -> Alert {
 
 /// A silence of the alert A with this id, which ends just after 30,000.
 fn silence_of(alloc: Global, id: u64) -> Result<Silence, AllocError> {
+    let mut matchers = Vec::new(alloc);
+    matchers.push(is_named_a(alloc)?)?;
+    Silence::new(id, matchers, 0, 30_001).map_err(|_| AllocError)
+}
+
+fn is_named_a(alloc: Global) -> Result<Matcher, AllocError> {
     let parts = MatcherParts {
         name: Text::new(alloc, "alertname")?,
         op: Operator::Equal,
         value: Text::new(alloc, "A")?,
     };
-    let mut matchers = Vec::new(alloc);
-    match Matcher::new(alloc, parts) {
-        Ok(matcher) => matchers.push(matcher)?,
-        Err(_) => return Err(AllocError),
-    }
-    Silence::new(id, matchers, 0, 30_001).map_err(|_| AllocError)
+    Matcher::new(alloc, parts).map_err(|_| AllocError)
 }
 
 /// A desk of this configuration and blank, with its passes.

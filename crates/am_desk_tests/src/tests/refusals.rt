@@ -6,7 +6,7 @@ ghost use Rattle.am_desk.specs.Terms.{terms};
 use super::{config, labelled, silence_of};
 use am_board::config::{Config, Limits};
 use am_board::fault::Fault;
-use am_desk::{Blank, Brand, Desk, Name};
+use am_desk::{Blank, Brand, Desk, Name, Pass};
 use std::alloc::{AllocError, Global};
 use std::process::Abort;
 use std::sync::Wait;
@@ -43,22 +43,53 @@ fn limits_on<N: Name, R: Wait + Abort>(
     let Ok((desk, mut passes)) = Desk::<N>::open(alloc, config, blank) else {
         return Err(AllocError);
     };
-    let mut pass = passes.pop().ok_or(AllocError)?;
-    let first = labelled(alloc, &[("alertname", "A")])?;
-    let second = labelled(alloc, &[("alertname", "B")])?;
-    let (one, two) = (silence_of(alloc, 1)?, silence_of(alloc, 2)?);
-    if desk.insert(rt, alloc, &mut pass, 0, first).is_err() {
+    match passes.pop() {
+        Some(mut pass) => limits_of(rt, alloc, &desk, &mut pass),
+        None => Err(AllocError),
+    }
+}
+
+fn limits_of<N: Name, R: Wait + Abort>(
+    rt: &R,
+    alloc: Global,
+    desk: &Desk<N>,
+    pass: &mut Pass<N>,
+) -> Result<(), AllocError> {
+    if insert(rt, alloc, desk, pass, "A")?.is_some()
+        || silence(rt, alloc, desk, pass, 1)?.is_some()
+    {
         return Err(AllocError);
     }
-    if desk.silence(rt, alloc, &mut pass, 0, one).is_err() {
-        return Err(AllocError);
-    }
-    let refused = desk.insert(rt, alloc, &mut pass, 0, second);
-    assert_eq!(rt; refused.err(), Some(Fault::TooManyNames));
-    let refused = desk.silence(rt, alloc, &mut pass, 0, two);
-    assert_eq!(rt; refused.err(), Some(Fault::TooManySilences));
+    let refused = insert(rt, alloc, desk, pass, "B")?;
+    assert_eq!(rt; refused, Some(Fault::TooManyNames));
+    let refused = silence(rt, alloc, desk, pass, 2)?;
+    assert_eq!(rt; refused, Some(Fault::TooManySilences));
     assert_eq!(rt; pass.calls(), 2);
     Ok(())
+}
+
+/// Why an alert of this name isn't inserted, if it isn't.
+fn insert<N: Name, R: Wait>(
+    rt: &R,
+    alloc: Global,
+    desk: &Desk<N>,
+    pass: &mut Pass<N>,
+    name: &str,
+) -> Result<Option<Fault>, AllocError> {
+    let alert = labelled(alloc, &[("alertname", name)])?;
+    Ok(desk.insert(rt, alloc, pass, 0, alert).err())
+}
+
+/// Why the silence with this id isn't made, if it isn't.
+fn silence<N: Name, R: Wait>(
+    rt: &R,
+    alloc: Global,
+    desk: &Desk<N>,
+    pass: &mut Pass<N>,
+    id: u64,
+) -> Result<Option<Fault>, AllocError> {
+    let silence = silence_of(alloc, id)?;
+    Ok(desk.silence(rt, alloc, pass, 0, silence).err())
 }
 
 /// A desk whose history has room for one record.
@@ -85,18 +116,26 @@ fn full_on<N: Name, R: Wait + Abort>(
     let Ok((desk, mut passes)) = Desk::<N>::open(alloc, config, blank) else {
         return Err(AllocError);
     };
-    let mut pass = passes.pop().ok_or(AllocError)?;
-    let first = labelled(alloc, &[("alertname", "A")])?;
-    let second = labelled(alloc, &[("alertname", "B")])?;
-    let silence = silence_of(alloc, 1)?;
-    if desk.insert(rt, alloc, &mut pass, 0, first).is_err() {
+    match passes.pop() {
+        Some(mut pass) => history_of(rt, alloc, &desk, &mut pass),
+        None => Err(AllocError),
+    }
+}
+
+fn history_of<N: Name, R: Wait + Abort>(
+    rt: &R,
+    alloc: Global,
+    desk: &Desk<N>,
+    pass: &mut Pass<N>,
+) -> Result<(), AllocError> {
+    if insert(rt, alloc, desk, pass, "A")?.is_some() {
         return Err(AllocError);
     }
     let full = Some(Fault::HistoryFull);
-    assert_eq!(rt; desk.insert(rt, alloc, &mut pass, 0, second).err(), full);
-    assert_eq!(rt; desk.silence(rt, alloc, &mut pass, 0, silence).err(), full);
-    assert_eq!(rt; desk.maintain(rt, alloc, &mut pass, 0).err(), full);
-    match desk.begin(rt, alloc, &mut pass, 30_000) {
+    assert_eq!(rt; insert(rt, alloc, desk, pass, "B")?, full);
+    assert_eq!(rt; silence(rt, alloc, desk, pass, 1)?, full);
+    assert_eq!(rt; desk.maintain(rt, alloc, pass, 0).err(), full);
+    match desk.begin(rt, alloc, pass, 30_000) {
         Err(fault) => assert_eq!(rt; Some(fault), full),
         Ok(_begun) => panic!(rt; "there is no room"),
     }

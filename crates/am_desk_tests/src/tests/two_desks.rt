@@ -24,10 +24,10 @@ fn two_desks(rt: HostRuntime) -> Result<(), Fail> {
     for count in [0, 17] {
         assert!(rt; matches!(Blank::new(alloc, 7, count), Err(BlankFault::BadCount)));
     }
-    let config_of_seven = config(alloc, Limits::default())?;
-    let config_of_eight = config(alloc, Limits::default())?;
     let seven = Blank::new(alloc, 7, 1)?;
     let eight = Blank::new(alloc, 8, 1)?;
+    let config_of_seven = config(alloc, Limits::default())?;
+    let config_of_eight = config(alloc, Limits::default())?;
     two_desks_on::<Brand, Brand, _>(&rt, alloc, config_of_seven, seven, config_of_eight, eight);
     Ok(())
 }
@@ -44,21 +44,47 @@ fn two_desks_on<N: Name, M: Name, R: Wait + Abort>(
     requires other { (other_blank ≡ M.plan) × (terms other_config other_blank.id ≡ M.terms) }
 {
     let (seven, mut sevens) = open::<N>(rt, alloc, config, blank);
-    let (eight, mut eights) = open::<M>(rt, alloc, other_config, other_blank);
     let mut seventh = take(rt, &mut sevens);
-    let mut eighth = take(rt, &mut eights);
     let mut told = Replies::new(alloc);
-    let mut told_by_eight = Replies::new(alloc);
     insert(rt, alloc, &seven, &mut seventh, "A", &mut told);
-    insert(rt, alloc, &eight, &mut eighth, "A", &mut told_by_eight);
-    let ticket = begin(rt, alloc, &seven, &mut seventh, 30_000, &mut told);
-    let noted = note(rt, alloc, &eight, &mut eighth, ticket.ticket(), 30_000);
-    assert_eq!(rt; noted, Some(NoteFault::Foreign));
-    let ticket = refuse_foreign(rt, &eight, &mut eighth, ticket.into_ticket());
-    put(rt, &mut eights, eighth);
-    told_by_eight.is_of(rt, alloc, &close(rt, eight, eights));
+    let own = begin(rt, alloc, &seven, &mut seventh, 30_000, &mut told);
+    let ticket = try_on_eight::<M, R>(rt, alloc, other_config, other_blank, own.into_ticket());
     let own = refuse_reports(rt, alloc, &seven, &mut seventh, ticket);
     put(rt, &mut sevens, seventh);
+    close_at_last(rt, alloc, seven, sevens, own, told);
+}
+
+/// The life of a desk that meets another's ticket, which it hands back.
+fn try_on_eight<M: Name, R: Wait + Abort>(
+    rt: &R,
+    alloc: Global,
+    config: Config,
+    blank: Blank,
+    ticket: Ticket,
+) -> Ticket
+    requires { (blank ≡ M.plan) × (terms config blank.id ≡ M.terms) }
+{
+    let (eight, mut eights) = open::<M>(rt, alloc, config, blank);
+    let mut eighth = take(rt, &mut eights);
+    let mut told = Replies::new(alloc);
+    insert(rt, alloc, &eight, &mut eighth, "A", &mut told);
+    let noted = note(rt, alloc, &eight, &mut eighth, &ticket, 30_000);
+    assert_eq!(rt; noted, Some(NoteFault::Foreign));
+    let ticket = refuse_foreign(rt, &eight, &mut eighth, ticket);
+    put(rt, &mut eights, eighth);
+    told.is_of(rt, alloc, &close(rt, eight, eights));
+    ticket
+}
+
+/// Closes the desk 7, which is refused while its flush is open, and while a pass is missing.
+fn close_at_last<N: Name, R: Wait + Abort>(
+    rt: &R,
+    alloc: Global,
+    seven: Desk<N>,
+    sevens: Vec<Pass<N>>,
+    own: OwnTicket<N>,
+    mut told: Replies,
+) {
     let (seven, mut sevens) = not_closed(rt, seven, sevens, CloseCause::OpenFlush(1));
     let mut seventh = take(rt, &mut sevens);
     assert_eq!(rt;
@@ -130,10 +156,10 @@ fn refuse_reports<N: Name, R: Wait + Abort>(
 #[test]
 fn one_id(rt: HostRuntime) -> Result<(), Fail> {
     let alloc = rt.alloc();
-    let first_config = config(alloc, Limits::default())?;
-    let second_config = config(alloc, Limits::default())?;
     let first = Blank::new(alloc, 7, 1)?;
     let second = Blank::new(alloc, 7, 1)?;
+    let first_config = config(alloc, Limits::default())?;
+    let second_config = config(alloc, Limits::default())?;
     one_id_on::<Brand, Brand, _>(&rt, alloc, first_config, first, second_config, second);
     Ok(())
 }
@@ -151,15 +177,28 @@ fn one_id_on<N: Name, M: Name, R: Wait + Abort>(
     requires other { (other_blank ≡ M.plan) × (terms other_config other_blank.id ≡ M.terms) }
 {
     let (first, mut firsts) = open::<N>(rt, alloc, config, blank);
-    let (second, mut seconds) = open::<M>(rt, alloc, other_config, other_blank);
     let mut one = take(rt, &mut firsts);
-    let mut two = take(rt, &mut seconds);
     let mut told = Replies::new(alloc);
     insert(rt, alloc, &first, &mut one, "A", &mut told);
-    let ticket = begin(rt, alloc, &first, &mut one, 30_000, &mut told);
-    let noted = note(rt, alloc, &second, &mut two, ticket.ticket(), 30_000);
+    let own = begin(rt, alloc, &first, &mut one, 30_000, &mut told);
+    refuse_what_is_not_open::<M, R>(rt, alloc, other_config, other_blank, own.into_ticket());
+}
+
+/// The life of a desk that meets the ticket of another with its id.
+fn refuse_what_is_not_open<M: Name, R: Wait + Abort>(
+    rt: &R,
+    alloc: Global,
+    config: Config,
+    blank: Blank,
+    ticket: Ticket,
+)
+    requires { (blank ≡ M.plan) × (terms config blank.id ≡ M.terms) }
+{
+    let (second, mut seconds) = open::<M>(rt, alloc, config, blank);
+    let mut two = take(rt, &mut seconds);
+    let noted = note(rt, alloc, &second, &mut two, &ticket, 30_000);
     assert_eq!(rt; noted, Some(NoteFault::NotOpen));
-    match second.finish(rt, &mut two, ticket.into_ticket(), 30_000) {
+    match second.finish(rt, &mut two, ticket, 30_000) {
         Err(FinishFault::NotOpen) => {}
         Err(FinishFault::Foreign(_ticket)) => panic!(rt; "the ids are one"),
         Ok(_) => panic!(rt; "it isn't open"),

@@ -1,8 +1,8 @@
 -- The flat routes of a label set are the tree's.
-use Rattle.std.proofs.Common.{◌≡◌, ◌⊎◌, inl, inr, ℕ, ◌+◌, Bool, true, false, not, ◌&&◌, List, [], ◌∷◌, ◌++◌, map, refl, sym, ap, ◌∙◌, arith}
+use Rattle.std.proofs.Common.{◌≡◌, ◌⊎◌, inl, inr, ℕ, ◌+◌, Bool, true, false, not, ◌&&◌, ◌||◌, List, [], ◌∷◌, ◌++◌, map, refl, sym, ap, ◌∙◌, arith}
 use Rattle.std.specs.Prelude.{is_some, if◌then◌else◌}
 use Rattle.std.specs.List.{list_all}
-use Rattle.std.proofs.lemmas.Bool.{and_parts, false≢true, not-false, not-true}
+use Rattle.std.proofs.lemmas.Bool.{and_parts, false≢true}
 use Rattle.std.proofs.lemmas.List.{append-nil}
 use Rattle.std.proofs.lemmas.List.Folds.{list_all-append}
 use Rattle.am_alerts.specs.Matcher.{match_all}
@@ -11,13 +11,15 @@ use Rattle.am_alerts.specs.declared.labels.Label.{Label}
 use Rattle.am_alerts.specs.declared.matcher.MatcherParts.{MatcherParts}
 use Rattle.am_alerts.specs.declared.route.Child.{Child}
 use Rattle.am_alerts.specs.declared.route.Route.{Route}
-use Rattle.am_tree.specs.Flat.{laid, entry, are_closed, is_opened, is_needed, is_grown, held_after}
-use Rattle.am_tree.specs.Forest.{Forest, bare, grow, count, matching, or_self, settled}
+use Rattle.am_tree.specs.Flat.{laid, entry, held_after}
+use Rattle.am_tree.specs.Forest.{Forest, bare, grow, count, matching, settled}
 use Rattle.am_tree.specs.Negation.{lone, negation, negations}
+use Rattle.am_tree.specs.Open.{are_closed, goes_past, is_grown, is_needed, is_opened}
 use Rattle.am_tree.specs.declared.flat.Entry.{Entry}
 use Rattle.am_tree.specs.declared.tree.Rule.{Rule}
-use Rattle.am_tree.proofs.Negations.{have_negations, is_empty, match_all-append, match_all-negation, match_all-negations}
-use Rattle.am_tree.proofs.Steps.{first_some, tree_finds, is_left, open_step, closed_branch, closed_step, top_step}
+use Rattle.am_tree.proofs.Negations.{have_negations, is_empty, goes_by, goes_by-closed, found-ended}
+use Rattle.am_tree.proofs.Negations.{match_all-append, match_all-negation, match_all-negations, match_all-negations-by}
+use Rattle.am_tree.proofs.Steps.{behind, goes_here, tree_finds, is_left, open_step, shut_step}
 
 abbrev pub children : List Entry → List Child
 children es = map (λ e. e.child) es
@@ -32,10 +34,6 @@ children-parts : (es : List Entry) (e : Entry) (fs : List Entry) (rest : List Ch
 children-parts [] e fs rest = refl
 children-parts (x ∷ es) e fs rest = ap (λ cs. x.child ∷ cs) (children-parts es e fs rest)
 
-children-split : (es : List Entry) (e : Entry) (fs : List Entry) → children ((es ++ e ∷ []) ++ fs) ≡ children es ++ (e.child ∷ children fs)
-children-split [] e fs = refl
-children-split (x ∷ es) e fs = ap (λ cs. x.child ∷ cs) (children-split es e fs)
-
 are_said-parts : (es : List Entry) (e : Entry) (fs : List Entry) → are_said ((es ++ e ∷ []) ++ fs) ≡ true → (are_said es ≡ true) × (not e.unsaid ≡ true) × (are_said fs ≡ true)
 are_said-parts es e fs said =
     let p : Entry → Bool = λ x. not x.unsaid in
@@ -47,13 +45,21 @@ not_twice : (b : Bool) → not (not b) ≡ true → b ≡ true
 not_twice true e = refl
 not_twice false e = absurd (false≢true e)
 
--- below an open route, each route has a negation
-have_negations-said : (f : Forest) (held : List MatcherParts) (above : Route) → are_said (laid true held above f) ≡ true → have_negations f ≡ true
-have_negations-said bare held above said = refl
-have_negations-said (grow r below after) held above said =
-    let parts = are_said-parts (laid true (held ++ r.matchers) (settled above r) below) (entry true true held above r below) (laid true (held_after true held r) above after) said in
-    ap (λ b. b && have_negations after) (not_twice (is_some (lone r.matchers)) parts.1)
-    ∙ have_negations-said after (held_after true held r) above parts.2
+-- an open route that the one above it has to leave out has a negation
+said_open : (opened some : Bool) → not (opened && not some) ≡ true → (not opened || some) ≡ true
+said_open true true said = refl
+said_open true false said = said
+said_open false some said = refl
+
+-- below a route, each open route has a negation
+have_negations-said : (f : Forest) (past : Bool) (held : List MatcherParts) (above : Route) → are_said (laid true past held above f) ≡ true → have_negations past f ≡ true
+have_negations-said bare past held above said = refl
+have_negations-said (grow r below after) past held above said =
+    let opened = is_opened past r below in
+    let inner = goes_past past r in
+    let parts = are_said-parts (laid true inner (held ++ r.matchers) (settled above r) below) (entry inner (is_needed true opened r after) held above r below) (laid true past (held_after opened held r) above after) said in
+    ap (λ b. b && have_negations past after) (said_open opened (is_some (lone r.matchers)) parts.1)
+    ∙ have_negations-said after past (held_after opened held r) above parts.2
 
 either : (b : Bool) (xs : List ℕ) → xs ≡ (if b then xs else xs)
 either true xs = refl
@@ -81,13 +87,13 @@ match_all-asked labels held ms ns none e =
 
 -- ---- routes that are laid so that the search goes on
 
--- what an open route's entries find, then those after it
+-- what the entries of a route with `continue`, or below one, find, then those after it
 module _ (labels : List Label) (k : ℕ) (held : List MatcherParts) (above : Route) (r : Rule) (below : Forest) (needed : Bool) (rest later : List ℕ) (tail : List Child) where
   open_route :
-      ((cs : List Child) → matching_from k (children (laid true (held ++ r.matchers) (settled above r) below) ++ cs) labels ≡ (if match_all (held ++ r.matchers) labels then matching k below labels else []) ++ matching_from (k + count below) cs labels)
-      → have_negations below ≡ true
+      ((cs : List Child) → matching_from k (children (laid true true (held ++ r.matchers) (settled above r) below) ++ cs) labels ≡ (if match_all (held ++ r.matchers) labels then matching k below labels else []) ++ matching_from (k + count below) cs labels)
+      → have_negations true below ≡ true
       → matching_from (k + count below + 1) tail labels ≡ (if match_all held labels && is_left (match_all r.matchers labels) r.goes_on then later else []) ++ rest
-      → matching_from k (children (laid true (held ++ r.matchers) (settled above r) below) ++ ((entry true needed held above r below).child ∷ tail)) labels
+      → matching_from k (children (laid true true (held ++ r.matchers) (settled above r) below) ++ ((entry true needed held above r below).child ∷ tail)) labels
       ≡ (if match_all held labels then tree_finds (match_all r.matchers labels) r.goes_on (k + count below) (matching k below labels) later else []) ++ rest
   open_route lays have tails =
       let h = match_all held labels in
@@ -97,20 +103,20 @@ module _ (labels : List Label) (k : ℕ) (held : List MatcherParts) (above : Rou
       let tail_found = (if h && is_left m r.goes_on then later else []) ++ rest in
       lays ((entry true needed held above r below).child ∷ tail)
       ∙ ap (λ b. (if b then found else []) ++ matching_from self ((entry true needed held above r below).child ∷ tail) labels) (match_all-append held r.matchers labels)
-      ∙ ap (λ b. (if h && m then found else []) ++ (if b then self ∷ matching_from (self + 1) tail labels else matching_from (self + 1) tail labels)) (match_all-asked labels held r.matchers (negations below) (is_empty found) (match_all-negations below k labels have))
+      ∙ ap (λ b. (if h && m then found else []) ++ (if b then self ∷ matching_from (self + 1) tail labels else matching_from (self + 1) tail labels)) (match_all-asked labels held r.matchers (negations true below) (is_empty found) (match_all-negations below k labels have))
       ∙ ap (λ t. (if h && m then found else []) ++ (if h && m && is_empty found then self ∷ t else t)) tails
       ∙ open_step h m r.goes_on self found later rest
 
--- the entries of an open forest find what it finds where the matchers above match, and the search goes on behind them
-pub open_lays : (f : Forest) (labels : List Label) (k : ℕ) (held : List MatcherParts) (above : Route) (cs : List Child) → are_said (laid true held above f) ≡ true → matching_from k (children (laid true held above f) ++ cs) labels ≡ (if match_all held labels then matching k f labels else []) ++ matching_from (k + count f) cs labels
+-- the entries of a forest below a `continue` find what it finds where the matchers above match, and the search goes on behind them
+pub open_lays : (f : Forest) (labels : List Label) (k : ℕ) (held : List MatcherParts) (above : Route) (cs : List Child) → are_said (laid true true held above f) ≡ true → matching_from k (children (laid true true held above f) ++ cs) labels ≡ (if match_all held labels then matching k f labels else []) ++ matching_from (k + count f) cs labels
 open_lays bare labels k held above cs said =
     let place : k ≡ k + 0 = omega arith in
     ap (λ p. matching_from p cs labels) place ∙ ap (λ xs. xs ++ matching_from (k + 0) cs labels) (either (match_all held labels) [])
 open_lays (grow r below after) labels k held above cs said =
-    let es = laid true (held ++ r.matchers) (settled above r) below in
+    let es = laid true true (held ++ r.matchers) (settled above r) below in
     let e = entry true true held above r below in
     let held' = held_after true held r in
-    let fs = laid true held' above after in
+    let fs = laid true true held' above after in
     let self = k + count below in
     let parts = are_said-parts es e fs said in
     let rest = matching_from (k + count (grow r below after)) cs labels in
@@ -121,135 +127,202 @@ open_lays (grow r below after) labels k held above cs said =
     ∙ ap (λ b. (if b then later else []) ++ matching_from (self + 1 + count after) cs labels) (match_all-left labels held r (λ _. not_twice (is_some (lone r.matchers)) parts.1))
     ∙ ap (λ p. (if match_all held labels && is_left (match_all r.matchers labels) r.goes_on then later else []) ++ matching_from p cs labels) place in
     ap (λ xs. matching_from k xs labels) (children-parts es e fs cs)
-    ∙ open_route labels k held above r below true rest later (children fs ++ cs) (λ xs. open_lays below labels k (held ++ r.matchers) (settled above r) xs parts.0) (have_negations-said below (held ++ r.matchers) (settled above r) parts.0) tails
+    ∙ open_route labels k held above r below true rest later (children fs ++ cs) (λ xs. open_lays below labels k (held ++ r.matchers) (settled above r) xs parts.0) (have_negations-said below true (held ++ r.matchers) (settled above r) parts.0) tails
 
--- ---- routes that are laid so that they end the search
+-- ---- routes below no `continue`
 
--- what a closed route's entries find, or those after it
-module _ (labels : List Label) (k : ℕ) (held : List MatcherParts) (above : Route) (r : Rule) (below : Forest) (needed : Bool) (tail : List Child) where
-  closed_route :
-      ((cs : List Child) → matching_from k (children (laid false (held ++ r.matchers) (settled above r) below) ++ cs) labels ≡ (if match_all (held ++ r.matchers) labels then first_some (matching k below labels) (matching_from (k + count below) cs labels) else matching_from (k + count below) cs labels))
-      → matching_from k (children (laid false (held ++ r.matchers) (settled above r) below) ++ ((entry false needed held above r below).child ∷ tail)) labels
-      ≡ (if match_all held labels then (if match_all r.matchers labels then or_self (k + count below) (matching k below labels) else matching_from (k + count below + 1) tail labels) else matching_from (k + count below + 1) tail labels)
-  closed_route lays =
+-- what the entries of a route without `continue` find, then those after it
+module _ (labels : List Label) (k : ℕ) (held : List MatcherParts) (above : Route) (r : Rule) (below : Forest) (needed gone : Bool) (later rest : List ℕ) (tail : List Child) where
+  shut_route :
+      ((cs : List Child) → matching_from k (children (laid true false (held ++ r.matchers) (settled above r) below) ++ cs) labels ≡ behind (match_all (held ++ r.matchers) labels) (goes_by k below labels) (matching k below labels) (matching_from (k + count below) cs labels))
+      → have_negations false below ≡ true
+      → (match_all held labels ≡ false → matching_from (k + count below + 1) tail labels ≡ rest)
+      → (match_all held labels ≡ true → match_all r.matchers labels ≡ false → matching_from (k + count below + 1) tail labels ≡ later ++ (if gone then rest else []))
+      → (match_all held labels ≡ true → match_all r.matchers labels ≡ true → goes_by k below labels ≡ true → is_empty (matching k below labels) ≡ false → matching_from (k + count below + 1) tail labels ≡ rest)
+      → r.goes_on ≡ false
+      → matching_from k (children (laid true false (held ++ r.matchers) (settled above r) below) ++ ((entry false needed held above r below).child ∷ tail)) labels
+      ≡ behind (match_all held labels) (goes_here (match_all r.matchers labels) r.goes_on (goes_by k below labels) gone (matching k below labels)) (tree_finds (match_all r.matchers labels) r.goes_on (k + count below) (matching k below labels) later) rest
+  shut_route lays have unheld unmatched matched off =
       let h = match_all held labels in
       let m = match_all r.matchers labels in
       let self = k + count below in
       let found = matching k below labels in
+      let by = goes_by k below labels in
+      let q = match_all (negations false below) labels in
       let tail_found = matching_from (self + 1) tail labels in
-      let asked-is : match_all (held ++ r.matchers ++ []) labels ≡ (h && m) =
-      ap (λ ms. match_all ms labels) (append-nil (held ++ r.matchers)) ∙ match_all-append held r.matchers labels in
       lays ((entry false needed held above r below).child ∷ tail)
-      ∙ ap (λ b. if b then first_some found (matching_from self ((entry false needed held above r below).child ∷ tail) labels) else matching_from self ((entry false needed held above r below).child ∷ tail) labels) (match_all-append held r.matchers labels)
-      ∙ ap (λ b. if h && m then first_some found (if b then self ∷ [] else tail_found) else (if b then self ∷ [] else tail_found)) asked-is
-      ∙ closed_branch h m self found tail_found
+      ∙ ap (λ b. behind b by found (matching_from self ((entry false needed held above r below).child ∷ tail) labels)) (match_all-append held r.matchers labels)
+      ∙ ap (λ b. behind (h && m) by found (if b then self ∷ [] else tail_found)) (match_all-asked labels held r.matchers (negations false below) q refl)
+      ∙ shut_step h m by q gone self found later rest tail_found (λ e. match_all-negations-by below k labels have e) (λ e. found-ended below k labels e) unheld unmatched matched
+      ∙ ap (λ g. behind h (goes_here m g by gone found) (tree_finds m g self found later) rest) (sym off)
 
--- a closed route isn't laid open
-closed-opened : (r : Rule) (below : Forest) → (not r.goes_on && are_closed below) ≡ true → is_opened false r below ≡ false
-closed-opened r below closed = ap not closed
+-- what the entries of a forest below no `continue` find, then these children
+abbrev Finds : List Label → ℕ → Forest → Bool → List Child → List ℕ
+Finds labels k f matched cs = behind matched (goes_by k f labels) (matching k f labels) (matching_from (k + count f) cs labels)
 
--- what the entries of a closed route and those after it find
-closed-parts : (labels : List Label) (k : ℕ) (held : List MatcherParts) (above : Route) (r : Rule) (below : Forest) (opened needed : Bool) (fs : List Entry) (cs : List Child) (found : List ℕ) → opened ≡ false → matching_from k (children ((laid false (held ++ r.matchers) (settled above r) below ++ entry false needed held above r below ∷ []) ++ fs) ++ cs) labels ≡ found → matching_from k (children ((laid opened (held ++ r.matchers) (settled above r) below ++ entry opened needed held above r below ∷ []) ++ fs) ++ cs) labels ≡ found
-closed-parts labels k held above r below opened needed fs cs found e is =
-    ap (λ o. matching_from k (children ((laid o (held ++ r.matchers) (settled above r) below ++ entry o needed held above r below ∷ []) ++ fs) ++ cs) labels) e ∙ is
+abbrev LowLays : Bool → Forest → Type 0
+LowLays lower f =
+    (labels : List Label) (k : ℕ) (held : List MatcherParts) (above : Route) (cs : List Child) → are_said (laid lower false held above f) ≡ true → matching_from k (children (laid lower false held above f) ++ cs) labels ≡ Finds labels k f (match_all held labels) cs
 
-held-closed : (labels : List Label) (held : List MatcherParts) (r : Rule) (opened : Bool) → opened ≡ false → match_all (held_after opened held r) labels ≡ match_all held labels
-held-closed labels held r opened e =
-    ap (λ o. match_all (held_after o held r) labels) e ∙ ap (λ ms. match_all ms labels) (append-nil held)
+-- the entry that tells what a needed negation asks for is said, or there is nothing after it
+negation_or_bare : (lower on : Bool) (ms : List MatcherParts) (after : Forest) → not ((if lower then true else (not on && is_grown after)) && not (is_some (lone ms))) ≡ true → on ≡ false → (is_some (lone ms) ≡ true) ⊎ (after ≡ bare)
+negation_or_bare true on ms after said off = inl (not_twice (is_some (lone ms)) said)
+negation_or_bare false true ms after said off = absurd (false≢true (sym off))
+negation_or_bare false false ms bare said off = inr refl
+negation_or_bare false false ms (grow r below after) said off = inl (not_twice (is_some (lone ms)) said)
 
--- the entries of a closed forest find what it finds where the matchers above match, and else the search goes on behind them
-pub closed_lays : (f : Forest) (labels : List Label) (k : ℕ) (held : List MatcherParts) (above : Route) (cs : List Child) → are_closed f ≡ true → matching_from k (children (laid false held above f) ++ cs) labels ≡ (if match_all held labels then first_some (matching k f labels) (matching_from (k + count f) cs labels) else matching_from (k + count f) cs labels)
-closed_lays bare labels k held above cs closed =
+-- behind no route it is all the same what matched
+behind-bare : (a b : Bool) (rest : List ℕ) → behind a true [] rest ≡ behind b true [] rest
+behind-bare true true rest = refl
+behind-bare true false rest = refl
+behind-bare false true rest = refl
+behind-bare false false rest = refl
+
+never_left : (opened on : Bool) → on ≡ true → (opened && not on) ≡ false
+never_left true true on = refl
+never_left true false on = absurd (false≢true on)
+never_left false other on = refl
+
+still_held : (held matched on : Bool) → on ≡ true → held ≡ (held && is_left matched on)
+still_held true matched true on = refl
+still_held true matched false on = absurd (false≢true on)
+still_held false matched other on = refl
+
+on_by : (matched on by later : Bool) (found : List ℕ) → on ≡ true → later ≡ goes_here matched on by later found
+on_by true true by later found on = refl
+on_by true false by later found on = absurd (false≢true on)
+on_by false other by later found on = refl
+
+or_off : (on closed : Bool) → not (not on && closed) ≡ false → closed ≡ true
+or_off true closed e = absurd (false≢true (sym e))
+or_off false true e = refl
+or_off false false e = absurd (false≢true (sym e))
+
+unheld : (opened held matched : Bool) → held ≡ false → (if opened then held && not matched else held) ≡ false
+unheld true held matched e = ap (λ b. b && not matched) e
+unheld false held matched e = e
+
+unmatched : (opened held matched : Bool) → held ≡ true → matched ≡ false → (if opened then held && not matched else held) ≡ true
+unmatched true held matched e f = ap (λ b. b && not matched) e ∙ ap not f
+unmatched false held matched e f = e
+
+left : (opened none held matched : Bool) → held ≡ true → matched ≡ true → none ≡ false → (opened ≡ false → none ≡ true) → (if opened then held && not matched else held) ≡ false
+left true none held matched e f some shut = ap (λ b. b && not matched) e ∙ ap not f
+left false none held matched e f some shut = absurd (false≢true (sym some ∙ shut refl))
+
+-- a route below no `continue`
+module _ (lower : Bool) (labels : List Label) (k : ℕ) (held : List MatcherParts) (above : Route) (r : Rule) (below after : Forest) (cs : List Child) (lows : LowLays true below) (lates : LowLays lower after) where
+  abbrev self_is : ℕ
+  self_is = k + count below
+
+  abbrev held_is : Bool
+  held_is = match_all held labels
+
+  abbrev own_is : Bool
+  own_is = match_all r.matchers labels
+
+  abbrev rest_is : List ℕ
+  rest_is = matching_from (k + count (grow r below after)) cs labels
+
+  -- what is found after the route, by whether what it asks for matches
+  abbrev later_is : Forest → Bool → List ℕ
+  later_is f matched = behind matched (goes_by (self_is + 1) f labels) (matching (self_is + 1) f labels) rest_is
+
+  tails_as : (held' : List MatcherParts) → are_said (laid lower false held' above after) ≡ true → matching_from (self_is + 1) (children (laid lower false held' above after) ++ cs) labels ≡ later_is after (match_all held' labels)
+  tails_as held' said =
+      let place : self_is + 1 + count after ≡ k + (count below + 1 + count after) = omega arith in
+      lates labels (self_is + 1) held' above cs said
+      ∙ ap (λ p. behind (match_all held' labels) (goes_by (self_is + 1) after labels) (matching (self_is + 1) after labels) (matching_from p cs labels)) place
+
+  abbrev entries_of : Bool → Bool → List Entry
+  entries_of past opened = (laid true past (held ++ r.matchers) (settled above r) below ++ entry past (is_needed lower opened r after) held above r below ∷ []) ++ laid lower false (held_after opened held r) above after
+
+  abbrev RouteLays : Bool → Bool → Type 0
+  RouteLays past opened = are_said (entries_of past opened) ≡ true → matching_from k (children (entries_of past opened) ++ cs) labels ≡ Finds labels k (grow r below after) held_is cs
+
+  parts_of : (past opened : Bool) → are_said (entries_of past opened) ≡ true → (are_said (laid true past (held ++ r.matchers) (settled above r) below) ≡ true) × (not (entry past (is_needed lower opened r after) held above r below).unsaid ≡ true) × (are_said (laid lower false (held_after opened held r) above after) ≡ true)
+  parts_of past opened said = are_said-parts (laid true past (held ++ r.matchers) (settled above r) below) (entry past (is_needed lower opened r after) held above r below) (laid lower false (held_after opened held r) above after) said
+
+  -- with `continue`
+  route_on : (opened : Bool) → r.goes_on ≡ true → RouteLays true opened
+  route_on opened on said =
+      let es = laid true true (held ++ r.matchers) (settled above r) below in
+      let needed = is_needed lower opened r after in
+      let e = entry true needed held above r below in
+      let fs = laid lower false (held_after opened held r) above after in
+      let parts = parts_of true opened said in
+      let found = matching k below labels in
+      let others = matching (self_is + 1) after labels in
+      let by = goes_by (self_is + 1) after labels in
+      let more = if (if held_is then by else true) then rest_is else [] in
+      let held-is : match_all (held_after opened held r) labels ≡ held_is =
+      ap (λ b. match_all (held ++ (if b then negation r.matchers else [])) labels) (never_left opened r.goes_on on) ∙ ap (λ ms. match_all ms labels) (append-nil held) in
+      let tails : matching_from (self_is + 1) (children fs ++ cs) labels ≡ (if held_is && is_left own_is r.goes_on then others else []) ++ more =
+      tails_as (held_after opened held r) parts.2
+      ∙ ap (λ b. later_is after b) held-is
+      ∙ ap (λ b. (if b then others else []) ++ more) (still_held held_is own_is r.goes_on on) in
+      ap (λ xs. matching_from k xs labels) (children-parts es e fs cs)
+      ∙ open_route labels k held above r below needed more others (children fs ++ cs) (λ xs. open_lays below labels k (held ++ r.matchers) (settled above r) xs parts.0) (have_negations-said below true (held ++ r.matchers) (settled above r) parts.0) tails
+      ∙ ap (λ b. (if held_is then tree_finds own_is r.goes_on self_is found others else []) ++ (if (if held_is then b else true) then rest_is else [])) (on_by own_is r.goes_on (goes_by k below labels) by found on)
+
+  -- without it
+  route_off : (opened : Bool) → r.goes_on ≡ false
+      → ((said : are_said (entries_of false opened) ≡ true) → matching_from (self_is + 1) (children (laid lower false (held_after opened held r) above after) ++ cs) labels ≡ later_is after (if opened then held_is && not own_is else held_is))
+      → (opened ≡ false → are_closed below ≡ true)
+      → RouteLays false opened
+  route_off opened off tails shut said =
+      let es = laid true false (held ++ r.matchers) (settled above r) below in
+      let needed = is_needed lower opened r after in
+      let e = entry false needed held above r below in
+      let fs = laid lower false (held_after opened held r) above after in
+      let parts = parts_of false opened said in
+      let others = matching (self_is + 1) after labels in
+      let by = goes_by (self_is + 1) after labels in
+      ap (λ xs. matching_from k xs labels) (children-parts es e fs cs)
+      ∙ shut_route labels k held above r below needed by others rest_is (children fs ++ cs)
+      (λ xs. lows labels k (held ++ r.matchers) (settled above r) xs parts.0)
+      (have_negations-said below false (held ++ r.matchers) (settled above r) parts.0)
+      (λ eh. tails said ∙ ap (λ b. later_is after b) (unheld opened held_is own_is eh))
+      (λ eh em. tails said ∙ ap (λ b. later_is after b) (unmatched opened held_is own_is eh em))
+      (λ eh em eb en. tails said ∙ ap (λ b. later_is after b) (left opened (is_empty (matching k below labels)) held_is own_is eh em en (λ o. sym (goes_by-closed below k labels (shut o)) ∙ eb)))
+      off
+
+  tails_off : (opened : Bool) → r.goes_on ≡ false → (said : are_said (entries_of false opened) ≡ true) → matching_from (self_is + 1) (children (laid lower false (held_after opened held r) above after) ++ cs) labels ≡ later_is after (if opened then held_is && not own_is else held_is)
+  tails_off true off said =
+      let parts = parts_of false true said in
+      let held' = held_after true held r in
+      tails_as held' parts.2
+      ∙ elim (negation_or_bare lower r.goes_on r.matchers after parts.1 off) [
+        | inl some ↦ ap (λ b. later_is after b) (match_all-left labels held r (λ _. some)) ∙ ap (λ g. later_is after (held_is && is_left own_is g)) off
+        | inr none ↦ ap (λ f. later_is f (match_all held' labels)) none ∙ behind-bare (match_all held' labels) (held_is && not own_is) rest_is ∙ ap (λ f. later_is f (held_is && not own_is)) (sym none)
+      ]
+  tails_off false off said =
+      let parts = parts_of false false said in
+      tails_as (held ++ []) parts.2 ∙ ap (λ ms. later_is after (match_all ms labels)) (append-nil held)
+
+  route_lays : (past opened : Bool) → goes_past false r ≡ past → is_opened false r below ≡ opened → RouteLays past opened
+  route_lays true opened on is = route_on opened on
+  route_lays false opened off is = route_off opened off (tails_off opened off) (λ e. or_off r.goes_on (are_closed below) (is ∙ e))
+
+-- the entries of a forest below no `continue` find what it finds where the matchers above match; the search goes on behind them where they
+-- don't match, and as far as it does behind those of its routes
+pub low_lays : (f : Forest) (lower : Bool) → LowLays lower f
+low_lays bare lower labels k held above cs said =
     let place : k ≡ k + 0 = omega arith in
-    ap (λ p. matching_from p cs labels) place ∙ either (match_all held labels) (matching_from (k + 0) cs labels)
-closed_lays (grow r below after) labels k held above cs closed =
-    let outer = and_parts (not r.goes_on && are_closed below) (are_closed after) closed in
-    let inner = and_parts (not r.goes_on) (are_closed below) outer.0 in
-    let opened = is_opened false r below in
-    let shut : opened ≡ false = closed-opened r below outer.0 in
-    let needed = is_needed false opened r after in
-    let held' = held_after opened held r in
-    let es = laid false (held ++ r.matchers) (settled above r) below in
-    let e = entry false needed held above r below in
-    let fs = laid false held' above after in
-    let h = match_all held labels in
-    let m = match_all r.matchers labels in
-    let self = k + count below in
-    let found = matching k below labels in
-    let later = matching (self + 1) after labels in
-    let rest = matching_from (k + count (grow r below after)) cs labels in
-    let place : self + 1 + count after ≡ k + (count below + 1 + count after) = omega arith in
-    let tails : matching_from (self + 1) (children fs ++ cs) labels ≡ (if h then first_some later rest else rest) =
-    closed_lays after labels (self + 1) held' above cs outer.1
-    ∙ ap (λ b. if b then first_some later (matching_from (self + 1 + count after) cs labels) else matching_from (self + 1 + count after) cs labels) (held-closed labels held r opened shut)
-    ∙ ap (λ p. if h then first_some later (matching_from p cs labels) else matching_from p cs labels) place in
-    closed-parts labels k held above r below opened needed fs cs _ shut (
-    ap (λ xs. matching_from k xs labels) (children-parts es e fs cs)
-    ∙ closed_route labels k held above r below needed (children fs ++ cs) (λ xs. closed_lays below labels k (held ++ r.matchers) (settled above r) xs inner.1)
-    ∙ ap (λ t. if h then (if m then or_self self found else t) else t) tails
-    ∙ closed_step h m self found later rest
-    ∙ ap (λ g. if h then first_some (tree_finds m g self found later) rest else rest) (sym (not-true r.goes_on inner.0)))
+    ap (λ p. matching_from p cs labels) place ∙ behind-bare false (match_all held labels) (matching_from (k + 0) cs labels)
+low_lays (grow r below after) lower labels k held above cs said =
+    route_lays lower labels k held above r below after cs (low_lays below true) (low_lays after lower) (goes_past false r) (is_opened false r below) refl refl said
 
 -- ---- a whole tree
 
-abbrev TopLays : List Label → ℕ → Forest → Type 0
-TopLays labels k f =
-    (held : List MatcherParts) (above : Route) → are_said (laid false held above f) ≡ true → matching_from k (children (laid false held above f)) labels ≡ (if match_all held labels then matching k f labels else [])
-
--- the entry that tells what a needed negation asks for is said, or there is nothing after it
-negation_or_bare : (on : Bool) (ms : List MatcherParts) (after : Forest) → not ((not on && is_grown after) && not (is_some (lone ms))) ≡ true → (on ≡ false → is_some (lone ms) ≡ true) ⊎ (after ≡ bare)
-negation_or_bare true ms after said = inl (λ e. absurd (false≢true (sym e)))
-negation_or_bare false ms bare said = inr refl
-negation_or_bare false ms (grow r below after) said = inl (λ _. not_twice (is_some (lone ms)) said)
-
-module _ (labels : List Label) (k : ℕ) (held : List MatcherParts) (above : Route) (r : Rule) (below after : Forest) (later : TopLays labels (k + count below + 1) after) where
-  -- the routes after an open one
-  after_open : (needed : Bool) → (r.goes_on ≡ false → is_some (lone r.matchers) ≡ true) ⊎ (after ≡ bare) → are_said (laid false (held_after true held r) above after) ≡ true → matching_from (k + count below + 1) (children (laid false (held_after true held r) above after)) labels ≡ (if match_all held labels && is_left (match_all r.matchers labels) r.goes_on then matching (k + count below + 1) after labels else [])
-  after_open needed (inl some) said =
-      later (held_after true held r) above said
-      ∙ ap (λ b. if b then matching (k + count below + 1) after labels else []) (match_all-left labels held r some)
-  after_open needed (inr none) said =
-      ap (λ f. matching_from (k + count below + 1) (children (laid false (held_after true held r) above f)) labels) none
-      ∙ either (match_all held labels && is_left (match_all r.matchers labels) r.goes_on) []
-      ∙ ap (λ f. if match_all held labels && is_left (match_all r.matchers labels) r.goes_on then matching (k + count below + 1) f labels else []) (sym none)
-
-  -- a route at the top, laid open or not, and those after it
-  top_route : (opened : Bool) → is_opened false r below ≡ opened → are_said ((laid opened (held ++ r.matchers) (settled above r) below ++ entry opened (is_needed false opened r after) held above r below ∷ []) ++ laid false (held_after opened held r) above after) ≡ true → matching_from k (children ((laid opened (held ++ r.matchers) (settled above r) below ++ entry opened (is_needed false opened r after) held above r below ∷ []) ++ laid false (held_after opened held r) above after)) labels ≡ (if match_all held labels then matching k (grow r below after) labels else [])
-  top_route true is said =
-      let es = laid true (held ++ r.matchers) (settled above r) below in
-      let needed = is_needed false true r after in
-      let e = entry true needed held above r below in
-      let fs = laid false (held_after true held r) above after in
-      let parts = are_said-parts es e fs said in
-      let h = match_all held labels in
-      let m = match_all r.matchers labels in
-      let others = matching (k + count below + 1) after labels in
-      let tails : matching_from (k + count below + 1) (children fs) labels ≡ (if h && is_left m r.goes_on then others else []) ++ [] =
-      after_open needed (negation_or_bare r.goes_on r.matchers after parts.1) parts.2 ∙ sym (append-nil _) in
-      ap (λ cs. matching_from k cs labels) (children-split es e fs)
-      ∙ open_route labels k held above r below needed [] others (children fs) (λ cs. open_lays below labels k (held ++ r.matchers) (settled above r) cs parts.0) (have_negations-said below (held ++ r.matchers) (settled above r) parts.0) tails
-      ∙ append-nil _
-  top_route false is said =
-      let es = laid false (held ++ r.matchers) (settled above r) below in
-      let needed = is_needed false false r after in
-      let e = entry false needed held above r below in
-      let fs = laid false (held ++ []) above after in
-      let parts = are_said-parts es e fs said in
-      let h = match_all held labels in
-      let m = match_all r.matchers labels in
-      let self = k + count below in
-      let others = matching (self + 1) after labels in
-      let shut = and_parts (not r.goes_on) (are_closed below) (not-false _ is) in
-      let tails : matching_from (self + 1) (children fs) labels ≡ (if h then others else []) =
-      later (held ++ []) above parts.2 ∙ ap (λ ms. if match_all ms labels then others else []) (append-nil held) in
-      ap (λ cs. matching_from k cs labels) (children-split es e fs)
-      ∙ closed_route labels k held above r below needed (children fs) (λ cs. closed_lays below labels k (held ++ r.matchers) (settled above r) cs shut.1)
-      ∙ ap (λ t. if h then (if m then or_self self (matching k below labels) else t) else t) tails
-      ∙ top_step h m self (matching k below labels) others
-      ∙ ap (λ g. if h then tree_finds m g self (matching k below labels) others else []) (sym (not-true r.goes_on shut.0))
+nothing_behind : (held by : Bool) (found : List ℕ) → behind held by found [] ≡ (if held then found else [])
+nothing_behind true true found = append-nil found
+nothing_behind true false found = append-nil found
+nothing_behind false by found = refl
 
 -- the entries of a forest find what it finds where the matchers above match
-pub top_lays : (f : Forest) (labels : List Label) (k : ℕ) → TopLays labels k f
-top_lays bare labels k held above said = either (match_all held labels) []
-top_lays (grow r below after) labels k held above said =
-    top_route labels k held above r below after (λ ms route. top_lays after labels (k + count below + 1) ms route) (is_opened false r below) refl said
+pub top_lays : (f : Forest) (labels : List Label) (k : ℕ) (held : List MatcherParts) (above : Route) → are_said (laid false false held above f) ≡ true → matching_from k (children (laid false false held above f)) labels ≡ (if match_all held labels then matching k f labels else [])
+top_lays f labels k held above said =
+    ap (λ cs. matching_from k cs labels) (sym (append-nil (children (laid false false held above f))))
+    ∙ low_lays f false labels k held above [] said
+    ∙ nothing_behind (match_all held labels) (goes_by k f labels) (matching k f labels)

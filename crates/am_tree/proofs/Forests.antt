@@ -1,9 +1,10 @@
 -- Forests of nodes.
-use Rattle.std.proofs.Common.{◌≡◌, ℕ, ◌+◌, ◌<◌, List, ◌∷◌, ◌++◌, length, get_or, drop, true, false, ◌&&◌, not, sym, ap, ◌∙◌}
+use Rattle.std.proofs.Common.{◌≡◌, ℕ, ◌+◌, ◌<◌, Bool, List, [], ◌∷◌, ◌++◌, length, get_or, drop, true, false, ◌&&◌, not, sym, ap, ◌∙◌}
+use Rattle.std.specs.Prelude.{if◌then◌else◌}
 use Rattle.std.proofs.lemmas.List.{at_drop_more}
-use Rattle.am_tree.specs.Flat.{are_closed}
 use Rattle.am_tree.specs.Forest.{grow, Branch, branch, branch_step, forest, rule_of, below_of}
 use Rattle.am_tree.specs.Negation.{negation, negations}
+use Rattle.am_tree.specs.Open.{are_closed, is_opened}
 use Rattle.am_tree.specs.declared.tree.Node.{Node}
 use Rattle.am_tree.specs.declared.tree.Node.TheFolds.{fold_out-Node}
 
@@ -30,5 +31,11 @@ module _ (nodes : List Node) (i : ℕ) (n d : Node) (within : i < length nodes) 
   are_closed-not goes_on = ap are_closed forest-drop ∙ ap (λ b. b && are_closed (forest (drop (i + 1) nodes))) goes_on
 
   -- the negations from a place on
-  pub negations-drop : negations (forest (drop i nodes)) ≡ negation (rule_of n).matchers ++ negations (forest (drop (i + 1) nodes))
-  negations-drop = ap negations forest-drop
+  pub negations-drop : (past_above : Bool) → negations past_above (forest (drop i nodes)) ≡ (if is_opened past_above (rule_of n) (below_of n) then negation (rule_of n).matchers else []) ++ negations past_above (forest (drop (i + 1) nodes))
+  negations-drop past_above = ap (λ f. negations past_above f) forest-drop
+
+  pub negations-open : (past_above : Bool) → is_opened past_above (rule_of n) (below_of n) ≡ true → negations past_above (forest (drop i nodes)) ≡ negation (rule_of n).matchers ++ negations past_above (forest (drop (i + 1) nodes))
+  negations-open past_above opened = negations-drop past_above ∙ ap (λ b. (if b then negation (rule_of n).matchers else []) ++ negations past_above (forest (drop (i + 1) nodes))) opened
+
+  pub negations-shut : (past_above : Bool) → is_opened past_above (rule_of n) (below_of n) ≡ false → negations past_above (forest (drop i nodes)) ≡ negations past_above (forest (drop (i + 1) nodes))
+  negations-shut past_above shut = negations-drop past_above ∙ ap (λ b. (if b then negation (rule_of n).matchers else []) ++ negations past_above (forest (drop (i + 1) nodes))) shut

@@ -1,13 +1,14 @@
 -- Laying node after node.
-use Rattle.std.proofs.Common.{◌≡◌, ℕ, ◌+◌, ◌<◌, inl, inr, Bool, ◌&&◌, ◌||◌, List, [], ◌++◌, length, get_or, drop, sym, ap, ◌∙◌, refl}
+use Rattle.std.proofs.Common.{◌≡◌, ℕ, ◌+◌, ◌<◌, inl, inr, Bool, ◌&&◌, List, [], ◌++◌, length, get_or, drop, sym, ap, ◌∙◌, refl}
 use Rattle.std.specs.Prelude.{nat_lt, if◌then◌else◌}
 use Rattle.std.proofs.lemmas.Bool.{cases_lt, lt-ltb, le-ltb}
 use Rattle.std.proofs.lemmas.List.{drop_all, append_assoc}
 use Rattle.am_alerts.specs.declared.matcher.MatcherParts.{MatcherParts}
 use Rattle.am_alerts.specs.declared.route.Route.{Route}
-use Rattle.am_tree.specs.Flat.{laid, laid_route, is_opened, ends_search, is_grown, is_needed, held_after}
+use Rattle.am_tree.specs.Flat.{laid, laid_route, held_after}
 use Rattle.am_tree.specs.Forest.{Forest, forest, rule_of, below_of}
 use Rattle.am_tree.specs.Negation.{negation}
+use Rattle.am_tree.specs.Open.{ends_search, goes_past, is_grown, is_needed, is_opened}
 use Rattle.am_tree.specs.declared.flat.Entry.{Entry}
 use Rattle.am_tree.specs.declared.tree.Node.{Node}
 use Rattle.am_tree.proofs.Forests.{forest-drop}
@@ -20,35 +21,42 @@ is_grown-drop nodes j d =
       | inr past ↦ ap (λ ns. is_grown (forest ns)) (drop_all j nodes past) ∙ sym (le-ltb _ _ past)
     ]
 
-module _ (nodes : List Node) (i : ℕ) (n : Node) (within : i < length nodes) (here : n ≡ get_or nodes i n) (under_open : Bool) (above : Route) (held held' : List MatcherParts) (opened ends needed : Bool) where
-  module _ (opened-is : opened ≡ is_opened under_open (rule_of n) (below_of n)) (ends-is : ends ≡ ends_search opened (rule_of n)) (needed-is : needed ≡ (under_open || (ends && nat_lt (i + 1) (length nodes)))) (held-is : held' ≡ held ++ (if ends then negation (rule_of n).matchers else [])) where
-    after : Forest
+module _ (nodes : List Node) (i : ℕ) (n : Node) (within : i < length nodes) (here : n ≡ get_or nodes i n) (lower past_above : Bool) (above : Route) (held held' : List MatcherParts) (opened ends needed past : Bool) where
+  module _ (opened-is : opened ≡ is_opened past_above (rule_of n) (below_of n)) (ends-is : ends ≡ ends_search opened (rule_of n)) (needed-is : needed ≡ (if lower then opened else (ends && nat_lt (i + 1) (length nodes)))) (past-is : past ≡ goes_past past_above (rule_of n)) (held-is : held' ≡ held ++ (if ends then negation (rule_of n).matchers else [])) where
+    abbrev after : Forest
     after = forest (drop (i + 1) nodes)
 
-    ends-are : ends ≡ ends_search (is_opened under_open (rule_of n) (below_of n)) (rule_of n)
-    ends-are = ends-is ∙ ap (λ o. ends_search o (rule_of n)) opened-is
+    abbrev later : List MatcherParts → List Entry
+    later h = laid lower past_above h above (forest (drop (i + 1) nodes))
 
-    needed-are : needed ≡ is_needed under_open (is_opened under_open (rule_of n) (below_of n)) (rule_of n) (forest (drop (i + 1) nodes))
+    abbrev here-opened : Bool
+    here-opened = is_opened past_above (rule_of n) (below_of n)
+
+    needed-are : needed ≡ is_needed lower (is_opened past_above (rule_of n) (below_of n)) (rule_of n) (forest (drop (i + 1) nodes))
     needed-are =
         needed-is
-        ∙ ap (λ b. under_open || (ends && b)) (sym (is_grown-drop nodes (i + 1) n))
-        ∙ ap (λ e. under_open || (e && is_grown (forest (drop (i + 1) nodes)))) ends-are
+        ∙ ap (λ b. if lower then opened else (ends && b)) (sym (is_grown-drop nodes (i + 1) n))
+        ∙ ap (λ e. if lower then opened else (e && is_grown (forest (drop (i + 1) nodes)))) ends-is
+        ∙ ap (λ o. is_needed lower o (rule_of n) (forest (drop (i + 1) nodes))) opened-is
 
-    held-are : held' ≡ held_after (is_opened under_open (rule_of n) (below_of n)) held (rule_of n)
-    held-are = held-is ∙ ap (λ e. held ++ (if e then negation (rule_of n).matchers else [])) ends-are
+    held-are : held' ≡ held_after (is_opened past_above (rule_of n) (below_of n)) held (rule_of n)
+    held-are =
+        held-is
+        ∙ ap (λ e. held ++ (if e then negation (rule_of n).matchers else [])) ends-is
+        ∙ ap (λ o. held_after o held (rule_of n)) opened-is
 
     -- a route's entries, and those of the routes after it
-    laid-drop : laid_route opened needed held above (rule_of n) (below_of n) ++ laid under_open held' above (forest (drop (i + 1) nodes)) ≡ laid under_open held above (forest (drop i nodes))
+    laid-drop : laid_route past needed held above (rule_of n) (below_of n) ++ laid lower past_above held' above (forest (drop (i + 1) nodes)) ≡ laid lower past_above held above (forest (drop i nodes))
     laid-drop =
-        ap (λ o. laid_route o needed held above (rule_of n) (below_of n) ++ laid under_open held' above (forest (drop (i + 1) nodes))) opened-is
-        ∙ ap (λ b. laid_route (is_opened under_open (rule_of n) (below_of n)) b held above (rule_of n) (below_of n) ++ laid under_open held' above (forest (drop (i + 1) nodes))) needed-are
-        ∙ ap (λ h. laid_route (is_opened under_open (rule_of n) (below_of n)) (is_needed under_open (is_opened under_open (rule_of n) (below_of n)) (rule_of n) (forest (drop (i + 1) nodes))) held above (rule_of n) (below_of n) ++ laid under_open h above (forest (drop (i + 1) nodes))) held-are
-        ∙ ap (λ f. laid under_open held above f) (sym (forest-drop nodes i n n within here))
+        ap (λ p. laid_route p needed held above (rule_of n) (below_of n) ++ later held') past-is
+        ∙ ap (λ b. laid_route (goes_past past_above (rule_of n)) b held above (rule_of n) (below_of n) ++ later held') needed-are
+        ∙ ap (λ h. laid_route (goes_past past_above (rule_of n)) (is_needed lower here-opened (rule_of n) after) held above (rule_of n) (below_of n) ++ later h) held-are
+        ∙ ap (λ f. laid lower past_above held above f) (sym (forest-drop nodes i n n within here))
 
     -- one more node is laid
-    pub laid_more : (before now whole : List Entry) → before ++ laid under_open held above (forest (drop i nodes)) ≡ whole → now ≡ before ++ laid_route opened needed held above (rule_of n) (below_of n) → now ++ laid under_open held' above (forest (drop (i + 1) nodes)) ≡ whole
+    pub laid_more : (before now whole : List Entry) → before ++ laid lower past_above held above (forest (drop i nodes)) ≡ whole → now ≡ before ++ laid_route past needed held above (rule_of n) (below_of n) → now ++ laid lower past_above held' above (forest (drop (i + 1) nodes)) ≡ whole
     laid_more before now whole so_far added =
-        ap (λ es. es ++ laid under_open held' above (forest (drop (i + 1) nodes))) added
-        ∙ append_assoc before (laid_route opened needed held above (rule_of n) (below_of n)) (laid under_open held' above (forest (drop (i + 1) nodes)))
+        ap (λ es. es ++ later held') added
+        ∙ append_assoc before (laid_route past needed held above (rule_of n) (below_of n)) (later held')
         ∙ ap (λ es. before ++ es) laid-drop
         ∙ so_far

@@ -4,3 +4,4 @@ pub mod Negations
 pub mod Steps
 pub mod Flattening
 pub mod NotRefused
+pub mod plain

@@ -7,8 +7,9 @@ use Rattle.am_alerts.specs.declared.limits.TheConstants.{MAX_CHILDREN, MAX_MATCH
 use Rattle.am_alerts.specs.declared.route.Child.{Child}
 use Rattle.am_alerts.specs.declared.route.Route.{Route}
 use Rattle.am_alerts.specs.declared.matcher.MatcherParts.{MatcherParts}
-use Rattle.am_tree.specs.Flat.{cause_where, causes, refusals_from, laid, entry, is_opened, is_needed, held_after}
+use Rattle.am_tree.specs.Flat.{cause_where, causes, refusals_from, laid, entry, held_after}
 use Rattle.am_tree.specs.Forest.{Forest, bare, grow, settled, routes_below}
+use Rattle.am_tree.specs.Open.{goes_past, is_needed, is_opened}
 use Rattle.am_tree.specs.declared.flat.Entry.{Entry}
 use Rattle.am_tree.specs.declared.tree.Cause.{Cause}
 use Rattle.am_tree.specs.declared.tree.Refusal.{Refusal}
@@ -61,10 +62,11 @@ routes-split : (es : List Entry) (e : Entry) (fs : List Entry) → map (λ c. c.
 routes-split [] e fs = refl
 routes-split (x ∷ es) e fs = ap (λ rs. x.child.route ∷ rs) (routes-split es e fs)
 
-pub told : (f : Forest) (under_open : Bool) (held : List MatcherParts) (above : Route) → map (λ c. c.route) (children (laid under_open held above f)) ≡ routes_below above f
-told bare under_open held above = refl
-told (grow r below after) under_open held above =
-    let opened = is_opened under_open r below in
-    routes-split (laid opened (held ++ r.matchers) (settled above r) below) (entry opened (is_needed under_open opened r after) held above r below) (laid under_open (held_after opened held r) above after)
-    ∙ ap (λ rs. rs ++ settled above r ∷ map (λ c. c.route) (children (laid under_open (held_after opened held r) above after))) (told below opened (held ++ r.matchers) (settled above r))
-    ∙ ap (λ rs. routes_below (settled above r) below ++ settled above r ∷ rs) (told after under_open (held_after opened held r) above)
+pub told : (f : Forest) (lower past_above : Bool) (held : List MatcherParts) (above : Route) → map (λ c. c.route) (children (laid lower past_above held above f)) ≡ routes_below above f
+told bare lower past_above held above = refl
+told (grow r below after) lower past_above held above =
+    let past = goes_past past_above r in
+    let opened = is_opened past_above r below in
+    routes-split (laid true past (held ++ r.matchers) (settled above r) below) (entry past (is_needed lower opened r after) held above r below) (laid lower past_above (held_after opened held r) above after)
+    ∙ ap (λ rs. rs ++ settled above r ∷ map (λ c. c.route) (children (laid lower past_above (held_after opened held r) above after))) (told below true past (held ++ r.matchers) (settled above r))
+    ∙ ap (λ rs. routes_below (settled above r) below ++ settled above r ∷ rs) (told after lower past_above (held_after opened held r) above)

@@ -1,14 +1,10 @@
 -- One route of a forest: what its entries find, by cases.
-use Rattle.std.proofs.Common.{◌≡◌, ℕ, Bool, true, false, not, ◌&&◌, List, [], ◌∷◌, ◌++◌, refl, sym, ap}
+use Rattle.std.proofs.Common.{◌≡◌, ℕ, Bool, true, false, not, ◌&&◌, List, [], ◌∷◌, ◌++◌, refl, sym, ap, ◌∙◌}
 use Rattle.std.specs.Prelude.{if◌then◌else◌}
+use Rattle.std.proofs.lemmas.Bool.{false≢true}
 use Rattle.std.proofs.lemmas.List.{append_assoc, append-nil}
 use Rattle.am_tree.specs.Forest.{or_self}
 use Rattle.am_tree.proofs.Negations.{is_empty}
-
--- these numbers, or the others where there is none
-abbrev pub first_some : List ℕ → List ℕ → List ℕ
-first_some [] others = others
-first_some (p ∷ ps) others = p ∷ ps
 
 -- held: the matchers above match; matched: the route's own do; on: it has `continue`; found: what is found below it; later: what is found
 -- among those after it
@@ -28,20 +24,23 @@ open_step true true false self (p ∷ ps) later rest = ap (λ xs. xs ++ rest) (s
 open_step true false true self found later rest = refl
 open_step true false false self found later rest = refl
 
-pub closed_branch : (held matched : Bool) (self : ℕ) (found later : List ℕ) → (if held && matched then first_some found (if held && matched then self ∷ [] else later) else (if held && matched then self ∷ [] else later)) ≡ (if held then (if matched then or_self self found else later) else later)
-closed_branch false matched self found later = refl
-closed_branch true true self [] later = refl
-closed_branch true true self (p ∷ ps) later = refl
-closed_branch true false self found later = refl
+-- what is found where the matchers above match, and then the rest, where the search goes on: where they don't match, or by what is said
+abbrev pub behind : Bool → Bool → List ℕ → List ℕ → List ℕ
+behind held by found rest = (if held then found else []) ++ (if (if held then by else true) then rest else [])
 
-pub closed_step : (held matched : Bool) (self : ℕ) (found later rest : List ℕ) → (if held then (if matched then or_self self found else (if held then first_some later rest else rest)) else (if held then first_some later rest else rest)) ≡ (if held then first_some (tree_finds matched false self found later) rest else rest)
-closed_step false matched self found later rest = refl
-closed_step true true self [] later rest = refl
-closed_step true true self (p ∷ ps) later rest = sym (append-nil (p ∷ ps))
-closed_step true false self found later rest = refl
+-- whether the search goes on behind a route and those after it, by whether it does behind those below it and those after it
+abbrev pub goes_here : Bool → Bool → Bool → Bool → List ℕ → Bool
+goes_here matched on by later found = if matched then (if on then later else (not (is_empty found) && by)) else later
 
-pub top_step : (held matched : Bool) (self : ℕ) (found later : List ℕ) → (if held then (if matched then or_self self found else (if held then later else [])) else (if held then later else [])) ≡ (if held then tree_finds matched false self found later else [])
-top_step false matched self found later = refl
-top_step true true self [] later = refl
-top_step true true self (p ∷ ps) later = sym (append-nil (p ∷ ps))
-top_step true false self found later = refl
+-- a route without `continue`: left: what those below it that are left out match isn't matched; tail: what is found behind its entry
+pub shut_step : (held matched by left gone : Bool) (self : ℕ) (found later rest tail : List ℕ) → (by ≡ true → left ≡ is_empty found) → (by ≡ false → is_empty found ≡ false) → (held ≡ false → tail ≡ rest) → (held ≡ true → matched ≡ false → tail ≡ later ++ (if gone then rest else [])) → (held ≡ true → matched ≡ true → by ≡ true → is_empty found ≡ false → tail ≡ rest) → behind (held && matched) by found (if held && matched && left then self ∷ [] else tail) ≡ behind held (goes_here matched false by gone found) (tree_finds matched false self found later) rest
+shut_step false matched by left gone self found later rest tail same ended unheld unmatched other = unheld refl
+shut_step true false by left gone self found later rest tail same ended unheld unmatched other = unmatched refl refl
+shut_step true true true left gone self [] later rest tail same ended unheld unmatched other = ap (λ b. if b then self ∷ [] else tail) (same refl)
+shut_step true true true left gone self (p ∷ ps) later rest tail same ended unheld unmatched other =
+    ap (λ b. (p ∷ ps) ++ (if b then self ∷ [] else tail)) (same refl)
+    ∙ ap (λ xs. (p ∷ ps) ++ xs) (other refl refl refl refl)
+    ∙ ap (λ xs. xs ++ rest) (sym (append-nil (p ∷ ps)))
+shut_step true true false left gone self [] later rest tail same ended unheld unmatched other = absurd (false≢true (sym (ended refl)))
+shut_step true true false left gone self (p ∷ ps) later rest tail same ended unheld unmatched other =
+    ap (λ xs. xs ++ []) (sym (append-nil (p ∷ ps)))

@@ -1,3 +1,5 @@
 pub mod Flat
 pub mod Forest
+pub mod Laws
 pub mod Negation
+pub mod Open

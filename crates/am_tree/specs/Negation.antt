@@ -1,5 +1,5 @@
 -- Matchers that leave out what others match.
-use Rattle.std.specs.Prelude.{◌≡◌, not, List, [], ◌∷◌, ◌++◌, Option, Some, None, option_map}
+use Rattle.std.specs.Prelude.{◌≡◌, Bool, not, List, [], ◌∷◌, ◌++◌, Option, Some, None, option_map, if◌then◌else◌}
 use Rattle.std.specs.Option.{option_to_list}
 use Rattle.am_alerts.specs.Matcher.{matches_parts}
 use Rattle.am_alerts.specs.declared.labels.Label.{Label}
@@ -7,6 +7,7 @@ use Rattle.am_alerts.specs.declared.matcher.MatcherParts.{MatcherParts}
 use Rattle.am_alerts.specs.declared.matcher.Operator.{Operator}
 use Rattle.am_alerts.specs.declared.matcher.Operator.TheVariants.{Equal, NotEqual, Like, NotLike}
 use Rattle.am_tree.specs.Forest.{Forest, bare, grow}
+use Rattle.am_tree.specs.Open.{is_opened}
 
 -- the operator that is passed where this one isn't
 abbrev pub opposite : Operator → Operator
@@ -29,10 +30,11 @@ lone (m ∷ n ∷ ms) = None
 abbrev pub negation : List MatcherParts → List MatcherParts
 negation ms = option_to_list (option_map negated (lone ms))
 
--- what leaves out the label sets that one of the first routes of a forest matches
-abbrev pub negations : Forest → List MatcherParts
-negations bare = []
-negations (grow r below after) = negation r.matchers ++ negations after
+-- what leaves out the label sets that one of the first routes of a forest matches, of the open ones
+abbrev pub negations : Bool → Forest → List MatcherParts
+negations past_above bare = []
+negations past_above (grow r below after) =
+    (if is_opened past_above r below then negation r.matchers else []) ++ negations past_above after
 
 -- law: the negated matcher matches the label sets that the matcher doesn't
 abbrev pub NegatedIsExact : Type 0

@@ -3,30 +3,36 @@ ghost use Rattle.std.specs.Prelude.{◌≡◌, ◌++◌, IfOk};
 ghost use Rattle.am_tree.specs.Forest.{settled};
 
 use crate::tree::Rule;
-use am_alerts::matcher::Matcher;
+use am_alerts::matcher::{Matcher, MatcherParts};
 use am_alerts::route::{GroupBy, Route};
 use std::alloc::{AllocError, Global};
 
-/// Adds copies of these matchers at the end of a list.
+/// Adds copies of these parts at the end of a list.
 pub(crate) fn push_copies(
     alloc: Global,
-    list: &mut Vec<Matcher>,
+    list: &mut Vec<MatcherParts>,
+    matchers: &[MatcherParts],
+) -> Result<(), AllocError>
+    ensures { IfOk result (λ _. list.new.items ≡ list.old.items ++ matchers.now) }
+{
+    for parts in matchers {
+        list.push(parts.copy(alloc)?)?;
+    }
+    Ok(())
+}
+
+/// Adds copies of the parts of these matchers at the end of a list.
+pub(crate) fn push_parts(
+    alloc: Global,
+    list: &mut Vec<MatcherParts>,
     matchers: &[Matcher],
 ) -> Result<(), AllocError>
     ensures { IfOk result (λ _. list.new.items ≡ list.old.items ++ matchers.now) }
 {
     for matcher in matchers {
-        list.push(copy_matcher(alloc, matcher)?)?;
+        list.push(matcher.parts().copy(alloc)?)?;
     }
     Ok(())
-}
-
-/// A copy of a matcher, whose pattern is built again.
-fn copy_matcher(alloc: Global, matcher: &Matcher) -> Result<Matcher, AllocError>
-    ensures { IfOk result (λ copy. copy ≡ matcher.now) }
-{
-    let parts = matcher.parts().copy(alloc)?;
-    Matcher::new(alloc, parts).map_err(|_| AllocError)
 }
 
 fn copy_group_by(alloc: Global, group_by: &GroupBy) -> Result<GroupBy, AllocError>

@@ -2,11 +2,11 @@
 //! for every label set.
 #![tactic(auto)]
 
-mod closed;
 mod copies;
+mod draft;
 mod flat;
+pub mod law;
 pub mod negation;
+mod open;
 mod refusals;
-#[cfg(test)]
-mod tests;
 pub mod tree;

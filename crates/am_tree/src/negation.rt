@@ -3,8 +3,9 @@ ghost use Rattle.std.specs.Prelude.{◌≡◌, ◌++◌, IfOk, option_copied};
 ghost use Rattle.am_tree.specs.Forest.{forest};
 ghost use Rattle.am_tree.specs.Negation.{NegatedIsExact, lone, negated, negation, negations, opposite};
 
+use crate::open::is_opened;
 use crate::tree::Node;
-use am_alerts::matcher::{Matcher, Operator};
+use am_alerts::matcher::{Matcher, MatcherParts, Operator};
 use std::alloc::{AllocError, Global};
 
 /// The negated matcher matches exactly the label sets that the matcher doesn't.
@@ -12,17 +13,21 @@ pub fn negated_is_exact()
     ensures { NegatedIsExact }
 {}
 
-/// Adds what leaves out the label sets that each of these routes matches, where it has one matcher.
+/// Adds what leaves out the label sets that each of these routes matches that is open and has one
+/// matcher. `past_above`: whether a route above them has `continue`.
 pub(crate) fn push_negations(
     alloc: Global,
-    list: &mut Vec<Matcher>,
+    list: &mut Vec<MatcherParts>,
+    past_above: bool,
     nodes: &[Node],
 ) -> Result<(), AllocError>
     ensures { IfOk result
-        (λ _. list.new.items ≡ list.old.items ++ negations (forest nodes.now)) }
+        (λ _. list.new.items ≡ list.old.items ++ negations past_above (forest nodes.now)) }
 {
     for node in nodes {
-        push_negation(alloc, list, node.rule.matchers.as_slice())?;
+        if is_opened(past_above, node) {
+            push_negation(alloc, list, node.rule.matchers.as_slice())?;
+        }
     }
     Ok(())
 }
@@ -30,7 +35,7 @@ pub(crate) fn push_negations(
 /// Adds what leaves out the label sets that these matchers match, where they are one.
 pub(crate) fn push_negation(
     alloc: Global,
-    list: &mut Vec<Matcher>,
+    list: &mut Vec<MatcherParts>,
     matchers: &[Matcher],
 ) -> Result<(), AllocError>
     ensures { IfOk result
@@ -52,13 +57,13 @@ pub(crate) fn lone(matchers: &[Matcher]) -> Option<&Matcher>
     }
 }
 
-/// What matches the label sets that a matcher doesn't. Its pattern is built again.
-fn negated(alloc: Global, matcher: &Matcher) -> Result<Matcher, AllocError>
+/// What matches the label sets that a matcher doesn't.
+fn negated(alloc: Global, matcher: &Matcher) -> Result<MatcherParts, AllocError>
     ensures { IfOk result (λ other. other ≡ negated matcher.now) }
 {
     let mut parts = matcher.parts().copy(alloc)?;
     parts.op = opposite(parts.op);
-    Matcher::new(alloc, parts).map_err(|_| AllocError)
+    Ok(parts)
 }
 
 fn opposite(op: Operator) -> Operator

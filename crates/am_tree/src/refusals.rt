@@ -31,7 +31,7 @@ fn push_causes(refusals: &mut Vec<Refusal>, route: usize, entry: &Entry) -> Resu
         Cause::TooManyRoutes,
     )?;
     push_if(refusals, entry.unsaid, route, Cause::Continue)?;
-    let crowded = entry.child.matchers.len() > MAX_MATCHERS;
+    let crowded = entry.child.matcher_count() > MAX_MATCHERS;
     push_if(refusals, crowded, route, Cause::TooManyMatchers)
 }
 

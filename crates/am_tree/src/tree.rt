@@ -56,9 +56,9 @@ pub struct Tree {
 pub enum Cause {
     /// It is the 64th.
     TooManyRoutes,
-    /// A route after it must leave out the label sets that it matches, since it or a route below
-    /// it or above it has `continue`; but it hasn't exactly one matcher, so no list of matchers
-    /// says that.
+    /// A route after it, or the one above it, must leave out the label sets that it matches, since
+    /// it or a route below it or above it has `continue`; but it hasn't exactly one matcher, so no
+    /// list of matchers says that.
     Continue,
     /// It has more than 32 matchers, with those of the routes above it and those that leave out what
     /// other routes match.
@@ -121,6 +121,7 @@ impl Tree {
             &self.root,
             &[],
             false,
+            false,
             self.routes.as_slice(),
         )?;
         let refusals = refusals_of(alloc, entries.as_slice())?;
@@ -151,12 +152,13 @@ impl Tree {
     }
 }
 
+/// The children of these entries, with their patterns built.
 fn children_of(alloc: Global, entries: Vec<Entry>) -> Result<Vec<Child>, AllocError>
     ensures { IfOk result (λ children. children.items ≡ map (λ e. e.child) entries.items) }
 {
     let mut children = Vec::new(alloc);
     for entry in entries {
-        children.push(entry.child)?;
+        children.push(entry.child.into_child(alloc)?)?;
     }
     Ok(children)
 }

@@ -18,7 +18,7 @@ returns-clause-same c =
 pub returns-clause-told : goal.returns-clause-told
 returns-clause-told c =
     let value : c.in_ok-children_of.field-0.items ≡ children_of_tree c.args.self.now = search rules in
-    ap (λ cs. map (λ c. c.route) cs) value ∙ told (forest c.args.self.now.routes.items) false [] c.args.self.now.root
+    ap (λ cs. map (λ c. c.route) cs) value ∙ told (forest c.args.self.now.routes.items) false false [] c.args.self.now.root
 
 pub returns-clause-few : goal.returns-clause-few
 returns-clause-few c =

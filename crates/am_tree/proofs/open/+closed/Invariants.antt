@@ -1,7 +1,7 @@
 use Rattle.std.proofs.Common.{◌≡◌, drop}
-use Rattle.am_tree.specs.Flat.{are_closed}
+use Rattle.am_tree.specs.Open.{are_closed}
 use Rattle.am_tree.specs.Forest.{forest}
-use Rattle.am_tree.proofs.closed.+closed.Given as goal
+use Rattle.am_tree.proofs.open.+closed.Given as goal
 
 -- the nodes from here on tell whether all are closed
 abbrev pub invariant-are_closed-loop-node : goal.invariant-are_closed-loop-node

@@ -1,0 +1,4 @@
+pub mod Entries
+pub mod Levels
+pub mod Refusals
+pub mod Singles

@@ -19,6 +19,17 @@ abbrev pub IsKept : {T : Type 0} → List Fault → List Fault → Result T Inpu
 IsKept before after (Ok read) kept = (after ≡ before) × (kept ≡ Some read)
 IsKept before after (Err fault) kept = (after ≡ with_fault before fault) × (kept ≡ None)
 
+-- which fault ends the reading where this one comes: a refused value doesn't, unless there is no memory to keep it
+abbrev pub Ends : InputFault → InputFault → Type 0
+Ends (NotJson line column) end = end ≡ NotJson line column
+Ends (Refused place word) end = end ≡ NoMemory
+Ends NoMemory end = end ≡ NoMemory
+
+-- the same of what was read
+abbrev pub EndsReading : {T : Type 0} → Result T InputFault → InputFault → Type 0
+EndsReading (Ok read) end = ⊥
+EndsReading (Err fault) end = Ends fault end
+
 -- a refusal tells a fault at least
 abbrev pub Tells : Refusal → Type 0
 Tells (One fault) = Unit {0}

@@ -55,8 +55,8 @@ impl From<InputFault> for Refusal {
 }
 
 impl Faults {
-    ghost use Rattle.std.specs.Prelude.{◌≡◌, ◌<◌, ◌≤◌, ◌↔◌, [], length, IfOk, IsTrue, OnOk, Ok, Some, None};
-    ghost use Rattle.am_config.specs.Faults.{IsKept, with_fault};
+    ghost use Rattle.std.specs.Prelude.{◌≡◌, ◌<◌, ◌≤◌, ◌↔◌, [], length, IfErr, IfOk, IsTrue, OnOk, Ok, Some, None};
+    ghost use Rattle.am_config.specs.Faults.{Ends, EndsReading, IsKept, with_fault};
 
     /// No faults.
     pub fn none(alloc: Global) -> Faults
@@ -93,6 +93,7 @@ impl Faults {
     pub fn push(&mut self, fault: InputFault) -> Result<(), InputFault>
         ensures kept { OnOk result (self.new ≡ with_fault self.old fault) }
         ensures some { OnOk result (0 < length self.new) }
+        ensures ends { IfErr result (Ends fault) }
     {
         match fault {
             InputFault::Refused { place, word } => {
@@ -107,7 +108,8 @@ impl Faults {
 
     /// What was read; nothing where it is refused, and then its fault is kept.
     pub fn kept<T: Drop>(&mut self, read: Result<T, InputFault>) -> Result<Option<T>, InputFault>
-        ensures { IfOk result (IsKept self.old self.new read) }
+        ensures kept { IfOk result (IsKept self.old self.new read) }
+        ensures ends { IfErr result (EndsReading read) }
     {
         match read {
             Ok(read) => Ok(Some(read)),

@@ -7,11 +7,10 @@ pub mod dropped;
 pub mod faults;
 mod inhibit;
 mod laid;
+pub mod law;
 mod matchers;
 mod names;
 mod options;
 mod receiver;
 mod route;
 mod said;
-#[cfg(test)]
-mod tests;

@@ -7,13 +7,12 @@ pub mod device;
 pub mod duration;
 pub mod fault;
 pub mod labels;
+pub mod law;
 mod matcher;
 pub mod matcher_text;
 pub mod place;
 pub mod reader;
 mod refusal;
 mod route;
-#[cfg(test)]
-mod tests;
 pub mod transfer;
 pub mod usage;

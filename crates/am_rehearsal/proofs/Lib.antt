@@ -1,4 +1,5 @@
 pub mod Doing
+pub mod Happening
 pub mod Planning
 pub mod Standing
 pub mod Telling

@@ -1,2 +1,4 @@
 pub mod Told
 pub mod Planned
+pub mod Happened
+pub mod Faults

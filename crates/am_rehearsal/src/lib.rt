@@ -6,12 +6,12 @@
 
 mod courier;
 pub mod event;
+mod law;
 mod limits;
 pub mod play;
 pub mod rehearsal;
 mod sending;
-#[cfg(test)]
-mod tests;
 mod told;
 
+pub use law::limits_are;
 pub use limits::{BOARD_ID, MAX_UNTIL};

@@ -3,7 +3,9 @@
 //! At one moment the ends of sendings come first, then alerts and silences, then maintenance, then
 //! the begins. All of it are calls of a board: nothing is decided here but when they are made.
 ghost use Rattle.std.specs.Prelude.{◌≡◌, ◌<◌, ◌≤◌, ◌∷◌, [], IfOk, IfSome, IsSome, None, length, vec_len, vec_capacity};
+ghost use Rattle.std.specs.List.{range_with_len};
 ghost use Rattle.am_alerts.specs.declared.limits.TheConstants.{MAX_MOMENT};
+ghost use Rattle.am_rehearsal.specs.Happened.{begun_in};
 ghost use Rattle.am_rehearsal.specs.Planned.{acted, call_of, doings, nothing_done, planned, with_acts};
 ghost use Rattle.am_rehearsal.specs.Told.{told};
 ghost use Rattle.am_rehearsal.specs.declared.limits.TheConstants.{BOARD_ID, MAX_UNTIL};
@@ -17,7 +19,7 @@ use am_board::board::Board;
 use am_board::config::{Config, MAX_HISTORY};
 use am_board::fault::{BoardFault, Fault, NoteFault};
 use am_retry::Outcome;
-use std::alloc::{AllocError, AllocFailed, Global};
+use std::alloc::{AllocError, Global};
 
 /// A rehearsal that was played to its end: its board, what each begin that took a group was to do,
 /// and what happened, in its order.
@@ -45,14 +47,17 @@ pub enum PlayFault {
 ///
 /// The inserts and silences of the history are those that are planned, in their order and at their
 /// moments, up to the first plan that is after the end. The reasons that are told of each begin are
-/// those that looking back over the history before it finds. The board is one of the id `BOARD_ID`, of
-/// which `Board::history` tells that its history is legal.
+/// those that looking back over the history before it finds. The events tell of each begin that took a
+/// group, of each once and in their order. The board is one of the id `BOARD_ID`, of which
+/// `Board::history` tells that its history is legal.
 pub fn play(alloc: Global, rehearsal: Rehearsal) -> Result<Played, PlayFault>
     ensures configured { IfOk result (λ played. played.board.config ≡ rehearsal.config) }
     ensures ours { IfOk result (λ played. played.board.id ≡ BOARD_ID) }
     ensures planned { IfOk result (λ played.
         acted played.board.history ≡ planned rehearsal.until rehearsal.plans.items) }
     ensures told { IfOk result (λ played. played.begins.items ≡ told played.board.config played.board.history) }
+    ensures begun { IfOk result (λ played.
+        begun_in played.events.items ≡ range_with_len 0 (vec_len played.begins)) }
 {
     let Rehearsal {
         config,
@@ -90,7 +95,6 @@ struct Course<'o> {
     maintain: u64,
     /// In the order of their begins.
     sendings: Vec<Sending>,
-    events: Vec<Event>,
     /// The moment that is played.
     clock: u64,
     next_maintenance: u64,
@@ -114,7 +118,6 @@ impl<'o> Course<'o> {
             outages,
             maintain,
             sendings: Vec::new(alloc),
-            events: Vec::new(alloc),
             clock: 0,
             next_maintenance: maintain,
             is_blocked: false,
@@ -267,19 +270,15 @@ impl<'o> Course<'o> {
         requires { at ≤ MAX_MOMENT }
         ensures { doings self.new.board.board ≡ doings self.old.board.board }
     {
-        if self.sendings.reserve(1).is_err() || self.events.reserve(1).is_err() {
+        if self.sendings.reserve(1).is_err() {
             self.trouble = Some(PlayFault::NoMemory);
             return false;
         }
         let begin = self.board.taken();
         match self.board.begin(self.alloc, at) {
             Ok(Taken::Nothing) => false,
-            Ok(Taken::Quiet) => {
-                self.events.push_reserved(Event::Begun { begin });
-                true
-            }
+            Ok(Taken::Quiet) => true,
             Ok(Taken::Flush(own)) => {
-                self.events.push_reserved(Event::Begun { begin });
                 self.send(begin, own, at);
                 true
             }
@@ -321,7 +320,6 @@ impl<'o> Course<'o> {
         let told = tell_all(
             self.alloc,
             &mut self.board,
-            &mut self.events,
             self.sendings.as_mut_slice(),
             at,
         );
@@ -366,6 +364,8 @@ impl<'o> Course<'o> {
         ensures doings { IfOk result (λ played. doings played.board ≡ doings self.entry.board.board) }
         ensures ours { IfOk result (λ played. played.board.id ≡ BOARD_ID) }
         ensures told { IfOk result (λ played. played.begins.items ≡ told played.board.config played.board.history) }
+        ensures begun { IfOk result (λ played.
+            begun_in played.events.items ≡ range_with_len 0 (vec_len played.begins)) }
     {
         self.finish_all();
         let Course {
@@ -374,7 +374,6 @@ impl<'o> Course<'o> {
             outages: _,
             maintain: _,
             sendings,
-            events,
             clock: _,
             next_maintenance: _,
             is_blocked: _,
@@ -384,7 +383,7 @@ impl<'o> Course<'o> {
         match trouble {
             Some(fault) => Err(fault),
             None => {
-                let (board, begins) = board.into_parts();
+                let (board, begins, events) = board.into_parts();
                 Ok(Played {
                     board,
                     begins,
@@ -431,14 +430,13 @@ fn first_end(sendings: &[Sending]) -> Option<u64> {
 fn tell_all(
     alloc: Global,
     board: &mut ToldBoard,
-    events: &mut Vec<Event>,
     sendings: &mut [Sending],
     at: u64,
 ) -> Result<(), PlayFault>
     ensures { doings board.new.board ≡ doings board.old.board }
 {
     for sending in sendings.iter_mut() {
-        tell_ends_of(alloc, board, events, sending, at)?;
+        tell_ends_of(alloc, board, sending, at)?;
     }
     Ok(())
 }
@@ -447,7 +445,6 @@ fn tell_all(
 fn tell_ends_of(
     alloc: Global,
     board: &mut ToldBoard,
-    events: &mut Vec<Event>,
     sending: &mut Sending,
     at: u64,
 ) -> Result<(), PlayFault>
@@ -457,7 +454,7 @@ fn tell_ends_of(
         let end = sending.ends[place];
         if !end.is_told && end.at <= at {
             sending.ends[place].is_told = true;
-            tell_end(alloc, board, events, sending, place, end)?;
+            tell_end(alloc, board, sending, place, end)?;
         }
     }
     Ok(())
@@ -467,7 +464,6 @@ fn tell_ends_of(
 fn tell_end(
     alloc: Global,
     board: &mut ToldBoard,
-    events: &mut Vec<Event>,
     sending: &mut Sending,
     place: usize,
     end: End,
@@ -476,10 +472,7 @@ fn tell_end(
     ensures doings { doings board.new.board ≡ doings board.old.board }
 {
     if let Some(report) = end.report {
-        events.push(Event::Sent {
-            begin: sending.begin,
-            report,
-        })?;
+        board.keep_sent(sending.begin, report)?;
         sending.own.record(report);
         if report.outcome != Outcome::Delivered {
             return Ok(());
@@ -493,6 +486,11 @@ fn tell_end(
 }
 
 impl From<BoardFault> for PlayFault {
+    ghost use Rattle.std.specs.Prelude.{◌≡◌};
+    ghost use Rattle.am_rehearsal.specs.Faults.{fault_of_board};
+
+    ghost from_gives = { λ of_board fault. fault ≡ fault_of_board of_board };
+
     fn from(fault: BoardFault) -> PlayFault {
         match fault {
             BoardFault::NoMemory => PlayFault::NoMemory,
@@ -502,13 +500,12 @@ impl From<BoardFault> for PlayFault {
 }
 
 impl From<AllocError> for PlayFault {
-    fn from(_refused: AllocError) -> PlayFault {
-        PlayFault::NoMemory
-    }
-}
+    ghost use Rattle.std.specs.Prelude.{◌≡◌};
+    ghost use Rattle.am_rehearsal.specs.declared.play.PlayFault.TheVariants as play_fault;
 
-impl<T: Drop> From<AllocFailed<T>> for PlayFault {
-    fn from(_refused: AllocFailed<T>) -> PlayFault {
+    ghost from_gives = { λ _ fault. fault ≡ play_fault.NoMemory };
+
+    fn from(_refused: AllocError) -> PlayFault {
         PlayFault::NoMemory
     }
 }

@@ -1,13 +1,15 @@
-//! A board of which is kept what each of its begins was to do, and why.
+//! A board of which is kept what each of its begins was to do, and why, and what happened.
 ghost use Rattle.std.specs.Prelude.{◌≡◌, ◌≤◌, ◌+◌, ◌++◌, ◌∷◌, [], IfOk, vec_len, vec_capacity};
+ghost use Rattle.std.specs.List.{range_with_len};
 ghost use Rattle.am_board.specs.History.{reply_of, IsFresh};
 ghost use Rattle.am_model.specs.Records.{call_of_silence};
 ghost use Rattle.am_model.specs.declared.record.Call.TheVariants.{Insert};
+ghost use Rattle.am_rehearsal.specs.Happened.{begun_in};
 ghost use Rattle.am_rehearsal.specs.Planned.{doings, nothing_done, with_acts};
 ghost use Rattle.am_rehearsal.specs.Told.{takes_group, told, told_where};
 ghost use Rattle.am_rehearsal.specs.declared.limits.TheConstants.{BOARD_ID};
 
-use crate::event::ToldBegin;
+use crate::event::{Event, ToldBegin};
 use crate::limits::BOARD_ID;
 use am_alerts::alert::Alert;
 use am_board::begin::Begun;
@@ -18,18 +20,20 @@ use am_board::notice::Report;
 use am_board::outlook::Outlook;
 use am_board::ticket::Ticket;
 use am_mute::silence::Silence;
-use std::alloc::Global;
+use std::alloc::{AllocError, Global};
 
 /// The pass of each call: there is one thread.
 const PASS: u32 = 0;
 
-/// A board, and what each of its begins that took a group was to do.
+/// A board, what each of its begins that took a group was to do, and what happened.
 #[derive(Drop)]
 pub(crate) struct ToldBoard {
     board: Board,
     begins: Vec<ToldBegin>,
+    events: Vec<Event>,
     ghost ours: { board.id ≡ BOARD_ID },
     ghost told: { begins.items ≡ told board.config board.history },
+    ghost begun: { begun_in events.items ≡ range_with_len 0 (vec_len begins) },
 }
 
 /// A ticket that the board gave.
@@ -68,17 +72,23 @@ impl ToldBoard {
         Ok(ToldBoard {
             board,
             begins: Vec::new(alloc),
+            events: Vec::new(alloc),
         })
     }
 
-    /// The board, and what its begins were to do.
-    pub(crate) fn into_parts(self) -> (Board, Vec<ToldBegin>)
+    /// The board, what its begins were to do, and what happened.
+    pub(crate) fn into_parts(self) -> (Board, Vec<ToldBegin>, Vec<Event>)
         ensures board { result.0 ≡ self.board }
         ensures ours { result.0.id ≡ BOARD_ID }
         ensures told { result.1.items ≡ told result.0.config result.0.history }
+        ensures begun { begun_in result.2.items ≡ range_with_len 0 (vec_len result.1) }
     {
-        let ToldBoard { board, begins } = self;
-        (board, begins)
+        let ToldBoard {
+            board,
+            begins,
+            events,
+        } = self;
+        (board, begins, events)
     }
 
     pub(crate) fn config(&self) -> &Config {
@@ -116,6 +126,16 @@ impl ToldBoard {
         Ok(())
     }
 
+    /// Keeps that the sending of a notice came to its end, whose flush was opened by the begin at this
+    /// place among those that took a group.
+    pub(crate) fn keep_sent(&mut self, begin: usize, report: Report) -> Result<(), AllocError>
+        ensures { doings self.new.board ≡ doings self.old.board }
+    {
+        self.events.reserve(1)?;
+        self.events.push_reserved(Event::Sent { begin, report });
+        Ok(())
+    }
+
     /// Logs the success of the notice at a place of a ticket.
     pub(crate) fn note(
         &mut self,
@@ -147,13 +167,14 @@ impl ToldBoard {
         ensures { doings self.new.board ≡ doings self.old.board }
     {
         self.begins.reserve(1)?;
+        self.events.reserve(1)?;
         let place = self.board.history().len();
         let outlook = self.board.outlook(alloc, now)?;
         let begun = match self.board.begin(alloc, PASS, now) {
             Ok(begun) => begun,
             Err(fault) => return Err(fault),
         };
-        tell(&mut self.begins, place, outlook, &begun);
+        tell(&mut self.begins, &mut self.events, place, outlook, &begun);
         Ok(own(begun))
     }
 }
@@ -172,13 +193,28 @@ fn own(begun: Begun) -> Taken
     }
 }
 
-/// Adds what a begin was to do whose record is at this place, if it took a group.
-fn tell(begins: &mut Vec<ToldBegin>, place: usize, outlook: Option<Outlook>, begun: &Begun)
+/// Adds what a begin was to do whose record is at this place, and that it was made, if it took a
+/// group.
+fn tell(
+    begins: &mut Vec<ToldBegin>,
+    events: &mut Vec<Event>,
+    place: usize,
+    outlook: Option<Outlook>,
+    begun: &Begun,
+)
     requires room { vec_len begins.old + 1 ≤ vec_capacity begins.old }
-    ensures { begins.new.items ≡ begins.old.items ++ told_where (takes_group (reply_of begun.now)) place outlook }
+    requires events_room { vec_len events.old + 1 ≤ vec_capacity events.old }
+    requires begun { begun_in events.old.items ≡ range_with_len 0 (vec_len begins.old) }
+    ensures told { begins.new.items ≡ begins.old.items ++ told_where (takes_group (reply_of begun.now)) place outlook }
+    ensures begun { begun_in events.new.items ≡ range_with_len 0 (vec_len begins.new) }
 {
     match (begun, outlook) {
         (Begun::NothingDue, _) | (_, None) => {}
-        (_, Some(outlook)) => begins.push_reserved(ToldBegin { place, outlook }),
+        (_, Some(outlook)) => {
+            events.push_reserved(Event::Begun {
+                begin: begins.len(),
+            });
+            begins.push_reserved(ToldBegin { place, outlook });
+        }
     }
 }

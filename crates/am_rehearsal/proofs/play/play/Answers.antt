@@ -21,4 +21,5 @@ returns c =
       ours = c.close.ensures.ours;
       planned = IfOk-weaker c.close.result _ _ (λ (played : Played). acted_of-doings played.board all) done;
       told = c.close.ensures.told;
+      begun = c.close.ensures.begun;
     }

@@ -16,13 +16,13 @@ invariant_of-self-2 c =
     let takes = takes_group (reply_of c.in-Ok.begun) in
     let is_to_do = c.in_ok-outlook.outlook in
     let told =
-    c.tell.ensures
+    c.tell.ensures.told
     ∙ (ap (λ (l : List ToldBegin). l ++ told_where takes (length c.history-place.result.now) is_to_do) c.reserve.ensures.items
     ∙ ap (λ (h : List Record). was.begins.items ++ told_where takes (length h) is_to_do) c.history-place.ensures.history) in
     let stands =
     stands_told BOARD_ID was.begins.items was.board c.begin.new.self (was.ours, was.told) (entry 0 (Begin c.args.now) (reply_of c.in-Ok.begun)) is_to_do
     c.in_ok-outlook.ensures c.in-Ok.ensures.recorded c.tell.new.begins.items told in
-    record { ours = stands.0; told = stands.1 }
+    record { ours = stands.0; told = stands.1; begun = c.tell.ensures.begun }
 
 pub returns : goal.returns
 returns c =

@@ -16,7 +16,7 @@ invariant_of-self c =
     stands_over BOARD_ID was.begins.items was.board c.finish.new.self (was.ours, was.told) c.finish.result
     (IfOk-weaker c.finish.result _ _ (λ finished recorded. (entry 0 (Finish c.args.now ticket.number ticket.outcomes) (Finished finished), refl, recorded)) c.finish.ensures.recorded)
     c.finish.ensures.refused in
-    record { ours = stands.0; told = stands.1 }
+    record { ours = stands.0; told = stands.1; begun = was.begun }
 
 pub returns-in-Ok : goal.returns-in-Ok
 returns-in-Ok c =

@@ -15,7 +15,7 @@ invariant_of-self c =
     stands_over BOARD_ID was.begins.items was.board c.insert.new.self (was.ours, was.told) c.insert.result
     (IfOk-weaker c.insert.result _ _ (λ inserted recorded. (entry 0 (Insert c.args.now c.args.alert) (Inserted inserted), refl, recorded)) c.insert.ensures.recorded)
     c.insert.ensures.refused in
-    record { ours = stands.0; told = stands.1 }
+    record { ours = stands.0; told = stands.1; begun = was.begun }
 
 pub returns : goal.returns
 returns c =

@@ -15,7 +15,7 @@ invariant_of-self c =
     stands_over BOARD_ID was.begins.items was.board c.maintain.new.self (was.ours, was.told) c.maintain.result
     (IfOk-weaker c.maintain.result _ _ (λ maintained recorded. (entry 0 (Maintain c.args.now) (Maintained maintained), refl, recorded)) c.maintain.ensures.recorded)
     c.maintain.ensures.refused in
-    record { ours = stands.0; told = stands.1 }
+    record { ours = stands.0; told = stands.1; begun = was.begun }
 
 pub returns : goal.returns
 returns c =

@@ -1,6 +1,8 @@
-use Rattle.std.proofs.Common.{ap, ◌∙◌, sym}
+use Rattle.std.proofs.Common.{ℕ, ap, length, ◌∙◌, sym}
+use Rattle.std.specs.List.{range_with_len}
 use Rattle.am_board.specs.History.{BoardData}
 use Rattle.am_board.proofs.keeping.Staying.{unless_value}
+use Rattle.am_rehearsal.specs.Happened.{begun_in}
 use Rattle.am_rehearsal.specs.Told.{told}
 use Rattle.am_rehearsal.specs.Planned.{doings}
 use Rattle.am_rehearsal.specs.declared.limits.TheConstants.{BOARD_ID}
@@ -13,6 +15,7 @@ invariant_of-result c =
     record {
       ours = ap (λ (b : BoardData). b.id) opened;
       told = c.new-2.ensures.items ∙ sym (ap (λ (b : BoardData). told b.config b.history) opened);
+      begun = ap begun_in c.new-3.ensures.items ∙ sym (ap (λ (n : ℕ). range_with_len 0 n) (c.new-2.result.ok.0 ∙ ap length c.new-2.ensures.items));
     }
 
 pub returns : goal.returns

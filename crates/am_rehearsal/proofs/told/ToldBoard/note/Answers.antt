@@ -15,7 +15,7 @@ invariant_of-self c =
     stands_over BOARD_ID was.begins.items was.board c.note.new.self (was.ours, was.told) c.note.result
     (on_ok_weaker c.note.result (λ noted. (noted.0, ap (λ (r : Record). takes_group r.reply) noted.1.2, noted.2)) c.note.ensures.noted)
     c.note.ensures.refused in
-    record { ours = stands.0; told = stands.1 }
+    record { ours = stands.0; told = stands.1; begun = was.begun }
 
 pub returns : goal.returns
 returns c =

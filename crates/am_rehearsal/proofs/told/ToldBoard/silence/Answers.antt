@@ -14,7 +14,7 @@ invariant_of-self c =
     stands_over BOARD_ID was.begins.items was.board c.silence.new.self (was.ours, was.told) c.silence.result
     (IfOk-weaker c.silence.result _ _ (λ silenced recorded. (entry 0 (call_of_silence c.args.now c.args.silence) (Silenced silenced), refl, recorded)) c.silence.ensures.recorded)
     c.silence.ensures.refused in
-    record { ours = stands.0; told = stands.1 }
+    record { ours = stands.0; told = stands.1; begun = was.begun }
 
 pub returns : goal.returns
 returns c =

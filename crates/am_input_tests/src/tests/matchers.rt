@@ -1,6 +1,7 @@
+//! Matchers that are one text.
 use super::*;
-use crate::matcher_text::parts_of_text;
 use am_alerts::matcher::Operator;
+use am_cli::matcher_text::parts_of_text;
 
 /// Texts that are matchers, with their parts.
 const READ: [(&str, &str, Operator, &str); 23] = [
@@ -66,19 +67,36 @@ const REFUSED: [&str; 18] = [
     r#"a="b",c="d""#,
 ];
 
+/// The parts of a text that is a matcher.
+fn check_parts(
+    rt: &impl Abort,
+    alloc: Global,
+    text: &str,
+    (name, op, value): (&str, Operator, &str),
+) -> Result<(), AllocError> {
+    let Some(parts) = parts_of_text(alloc, text)? else {
+        panic!(rt; "{text} isn't read");
+    };
+    assert_eq!(rt;
+        (parts.name.as_str(), parts.op, parts.value.as_str()),
+        (name, op, value),
+        "{text}"
+    );
+    Ok(())
+}
+
 #[test]
 fn matchers_of_one_text(rt: HostRuntime) -> Result<(), Fail> {
-    let alloc = rt.alloc();
     for (text, name, op, value) in READ {
-        let Some(parts) = parts_of_text(alloc, text)? else {
-            panic!(rt; "{text} isn't read");
-        };
-        assert_eq!(rt; parts.name.as_str(), name, "{text}");
-        assert_eq!(rt; parts.op, op, "{text}");
-        assert_eq!(rt; parts.value.as_str(), value, "{text}");
+        check_parts(&rt, rt.alloc(), text, (name, op, value))?;
     }
+    Ok(())
+}
+
+#[test]
+fn texts_that_are_no_matchers(rt: HostRuntime) -> Result<(), Fail> {
     for text in REFUSED {
-        assert!(rt; parts_of_text(alloc, text)?.is_none(), "{text}");
+        assert!(rt; parts_of_text(rt.alloc(), text)?.is_none(), "{text}");
     }
     Ok(())
 }

@@ -1,5 +1,6 @@
+//! Configurations.
 use super::*;
-use crate::config::read_config;
+use am_cli::config::read_config;
 
 /// A configuration in the strict manner.
 const CONFIG: &str =
@@ -274,14 +275,43 @@ fn outcome_at(
     outcome_of(alloc, config.as_str(), Manner::Strict)
 }
 
+fn check_length(
+    rt: &(impl Abort + AllocGlobal),
+    capped: &Capped,
+    count: usize,
+    wanted: &str,
+) -> Result<(), Fail> {
+    let outcome = outcome_at(rt, capped, count)?;
+    assert_eq!(rt; outcome.as_str(), wanted, "{count} for {}", capped.refused);
+    Ok(())
+}
+
 #[test]
 fn refused_lengths(rt: HostRuntime) -> Result<(), Fail> {
     for capped in &CAPPED {
-        let outcome = outcome_at(&rt, capped, capped.most)?;
-        assert_eq!(rt; outcome.as_str(), "read", "{}", capped.refused);
-        let outcome = outcome_at(&rt, capped, capped.most.saturating_add(1))?;
+        check_length(&rt, capped, capped.most, "read")?;
         let wanted = format!(in rt.alloc(); "refused at {}", capped.refused)?;
-        assert_eq!(rt; outcome.as_str(), wanted.as_str());
+        check_length(&rt, capped, capped.most.saturating_add(1), wanted.as_str())?;
+    }
+    Ok(())
+}
+
+/// The configuration without a matcher that is one text.
+fn without_texts(rt: &(impl Abort + AllocGlobal)) -> Result<String, AllocError> {
+    let three = r#"["severity","=","page"]"#;
+    let config = with(rt, CONFIG, r#""severity=\"page\"""#, three)?;
+    with(rt, config.as_str(), r#""a=b""#, r#"["a","=","b"]"#)
+}
+
+fn check_manners(
+    rt: &(impl Abort + AllocGlobal),
+    text: &str,
+    lenient: &str,
+    strict: &str,
+) -> Result<(), Fail> {
+    for (manner, wanted) in [(Manner::Lenient, lenient), (Manner::Strict, strict)] {
+        let outcome = outcome_of(rt.alloc(), text, manner)?;
+        assert_eq!(rt; outcome.as_str(), wanted);
     }
     Ok(())
 }
@@ -290,37 +320,32 @@ fn refused_lengths(rt: HostRuntime) -> Result<(), Fail> {
 /// refuses a whole at its own place.
 #[test]
 fn both_manners(rt: HostRuntime) -> Result<(), Fail> {
-    let alloc = rt.alloc();
-    let three = r#"["severity","=","page"]"#;
-    let config = with(&rt, CONFIG, r#""severity=\"page\"""#, three)?;
-    let config = with(&rt, config.as_str(), r#""a=b""#, r#"["a","=","b"]"#)?;
-    let more = with(
-        &rt,
-        config.as_str(),
-        r#""route":{"#,
-        r#""route":{"name":7,"#,
-    )?;
-    let named = with(&rt, config.as_str(), r#""name":"b""#, r#""name":"a""#)?;
-    let kind = with(&rt, config.as_str(), r#""mail""#, r#""e-mail""#)?;
-    for (text, lenient, strict) in [
-        (CONFIG, "refused at /children/0/matchers/0: kind", "read"),
-        (config.as_str(), "read", "read"),
-        (more.as_str(), "read", "refused at /route/name: unknown"),
+    let text = "refused at /children/0/matchers/0: kind";
+    check_manners(&rt, CONFIG, text, "read")?;
+    let config = without_texts(&rt)?;
+    check_manners(&rt, config.as_str(), "read", "read")?;
+    for (old, new, lenient, strict) in [
         (
-            named.as_str(),
+            r#""route":{"#,
+            r#""route":{"name":7,"#,
+            "read",
+            "refused at /route/name: unknown",
+        ),
+        (
+            r#""name":"b""#,
+            r#""name":"a""#,
             "refused at : value",
             "refused at /children/1/name: value",
         ),
         (
-            kind.as_str(),
+            r#""mail""#,
+            r#""e-mail""#,
             "refused at : value",
             "refused at /receivers/0/integrations/1/kind: value",
         ),
     ] {
-        let outcome = outcome_of(alloc, text, Manner::Lenient)?;
-        assert_eq!(rt; outcome.as_str(), lenient);
-        let outcome = outcome_of(alloc, text, Manner::Strict)?;
-        assert_eq!(rt; outcome.as_str(), strict);
+        let changed = with(&rt, config.as_str(), old, new)?;
+        check_manners(&rt, changed.as_str(), lenient, strict)?;
     }
     Ok(())
 }

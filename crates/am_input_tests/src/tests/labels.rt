@@ -1,5 +1,6 @@
+//! Label sets.
 use super::*;
-use crate::labels::read_labels;
+use am_cli::labels::read_labels;
 
 /// How the reading of a label set ends: its text, or its fault's.
 fn outcome_of(alloc: Global, text: &str, manner: Manner) -> Result<String, Fail> {
@@ -44,40 +45,57 @@ const LENIENT: [(&str, &str); 4] = [
 
 fn check(
     rt: &(impl Abort + AllocGlobal),
-    rows: &[(&str, &str)],
+    text: &str,
     manner: Manner,
+    wanted: &str,
 ) -> Result<(), Fail> {
-    for (text, wanted) in rows {
-        let outcome = outcome_of(rt.alloc(), text, manner)?;
-        assert_eq!(rt; outcome.as_str(), *wanted);
-    }
+    let outcome = outcome_of(rt.alloc(), text, manner)?;
+    assert_eq!(rt; outcome.as_str(), wanted);
     Ok(())
 }
 
 #[test]
 fn label_sets(rt: HostRuntime) -> Result<(), Fail> {
-    check(&rt, STRICT.as_slice(), Manner::Strict)?;
-    check(&rt, LENIENT.as_slice(), Manner::Lenient)
+    for (text, wanted) in STRICT {
+        check(&rt, text, Manner::Strict, wanted)?;
+    }
+    for (text, wanted) in LENIENT {
+        check(&rt, text, Manner::Lenient, wanted)?;
+    }
+    Ok(())
+}
+
+/// An array of so many labels.
+fn array_of(alloc: Global, count: usize) -> Result<String, AllocError> {
+    let labels = numbered(alloc, r#"["a"#, r#"","x"]"#, count)?;
+    format!(in alloc; "[{labels}]")
+}
+
+fn long_text(alloc: Global) -> Result<String, AllocError> {
+    let mut long = String::new(alloc);
+    for _ in 0..1_025 {
+        long.push('x')?;
+    }
+    Ok(long)
+}
+
+fn check_value(rt: &(impl Abort + AllocGlobal), value: &str) -> Result<(), Fail> {
+    let text = format!(in rt.alloc(); r#"[["a","1"],["b","{value}"]]"#)?;
+    check(rt, text.as_str(), Manner::Strict, "refused at /1: value")
+}
+
+fn check_name(rt: &(impl Abort + AllocGlobal), name: &str) -> Result<(), Fail> {
+    let text = format!(in rt.alloc(); r#"{{"a":"1","{name}":"1"}}"#)?;
+    let wanted = format!(in rt.alloc(); "refused at /{name}: value")?;
+    check(rt, text.as_str(), Manner::Strict, wanted.as_str())
 }
 
 /// Too many labels are refused at their array, a text that is too long at its label.
 #[test]
 fn label_limits(rt: HostRuntime) -> Result<(), Fail> {
-    let alloc = rt.alloc();
-    let many = numbered(alloc, r#"["a"#, r#"","x"]"#, 65)?;
-    let many = format!(in alloc; "[{many}]")?;
-    let outcome = outcome_of(alloc, many.as_str(), Manner::Strict)?;
-    assert_eq!(rt; outcome.as_str(), "refused at : value");
-    let mut long = String::new(alloc);
-    for _ in 0..1_025 {
-        long.push('x')?;
-    }
-    let value = format!(in alloc; r#"[["a","1"],["b","{long}"]]"#)?;
-    let outcome = outcome_of(alloc, value.as_str(), Manner::Strict)?;
-    assert_eq!(rt; outcome.as_str(), "refused at /1: value");
-    let name = format!(in alloc; r#"{{"a":"1","{long}":"1"}}"#)?;
-    let outcome = outcome_of(alloc, name.as_str(), Manner::Strict)?;
-    let wanted = format!(in alloc; "refused at /{long}: value")?;
-    assert_eq!(rt; outcome.as_str(), wanted.as_str());
-    Ok(())
+    let many = array_of(rt.alloc(), 65)?;
+    check(&rt, many.as_str(), Manner::Strict, "refused at : value")?;
+    let long = long_text(rt.alloc())?;
+    check_value(&rt, long.as_str())?;
+    check_name(&rt, long.as_str())
 }

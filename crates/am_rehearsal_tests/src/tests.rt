@@ -1,8 +1,4 @@
-//! Rehearsals that are played: what happens when, with moments that the rules give.
-use crate::event::{Event, ToldBegin};
-use crate::limits::MAX_UNTIL;
-use crate::play::{PlayFault, Played, play};
-use crate::rehearsal::{Act, Outage, Plan, Rehearsal};
+//! Plays, told in short.
 use am_alerts::alert::Alert;
 use am_alerts::labels::Labels;
 use am_alerts::route::{GroupBy, Route, Routes};
@@ -10,6 +6,10 @@ use am_alerts::sequence::Sequence;
 use am_alerts::text::Text;
 use am_board::config::{Config, Integration, Limits, Receiver};
 use am_board::reason::Reason;
+use am_rehearsal::MAX_UNTIL;
+use am_rehearsal::event::{Event, ToldBegin};
+use am_rehearsal::play::{PlayFault, Played, play};
+use am_rehearsal::rehearsal::{Act, Outage, Plan, Rehearsal};
 use am_retry::Answer;
 use std::alloc::{AllocError, Global};
 
@@ -53,45 +53,49 @@ fn receivers(alloc: Global) -> Result<Sequence<Receiver>, AllocError> {
     Ok(Sequence::from(receivers))
 }
 
-/// Adds the plan that an alert of this name fires from `starts` on, or is resolved at its end.
-fn add_alert(
-    alloc: Global,
-    plans: &mut Vec<Plan>,
-    name: &str,
-    starts: u64,
-    ends: Option<u64>,
-) -> Result<(), AllocError> {
-    let Ok(labels) = Labels::read(alloc, &[("alertname", name)]) else {
-        return Err(AllocError);
-    };
-    let Ok(alert) = Alert::new(labels, starts, ends) else {
-        return Err(AllocError);
-    };
-    plans.push(Plan {
-        at: ends.unwrap_or(starts),
-        act: Act::Insert(alert),
-    })?;
-    Ok(())
-}
+/// The plan that an alert of this name fires from a moment on, or is resolved at its end.
+type Planned = (&'static str, u64, Option<u64>);
 
-/// The hook answers so from `from` to `to`.
-fn add_outage(
-    alloc: Global,
-    outages: &mut Vec<Outage>,
+/// How the hook answers from a moment on, or until another.
+#[derive(Clone, Copy)]
+struct Answering {
     from: u64,
     to: Option<u64>,
     answer: Answer,
     takes: u64,
-) -> Result<(), AllocError> {
-    outages.push(Outage {
-        receiver: Text::new(alloc, "team")?,
-        integration: Some(0),
-        from,
-        to,
-        answer,
-        takes,
-    })?;
-    Ok(())
+}
+
+fn alert(alloc: Global, name: &str, starts: u64, ends: Option<u64>) -> Result<Alert, AllocError> {
+    match Labels::read(alloc, &[("alertname", name)]) {
+        Err(_) => Err(AllocError),
+        Ok(labels) => Alert::new(labels, starts, ends).map_err(|_| AllocError),
+    }
+}
+
+fn plans(alloc: Global, planned: &[Planned]) -> Result<Vec<Plan>, AllocError> {
+    let mut plans = Vec::new(alloc);
+    for (name, starts, ends) in planned {
+        plans.push(Plan {
+            at: ends.unwrap_or(*starts),
+            act: Act::Insert(alert(alloc, name, *starts, *ends)?),
+        })?;
+    }
+    Ok(plans)
+}
+
+fn outages(alloc: Global, answering: Option<Answering>) -> Result<Vec<Outage>, AllocError> {
+    let mut outages = Vec::new(alloc);
+    if let Some(answering) = answering {
+        outages.push(Outage {
+            receiver: Text::new(alloc, "team")?,
+            integration: Some(0),
+            from: answering.from,
+            to: answering.to,
+            answer: answering.answer,
+            takes: answering.takes,
+        })?;
+    }
+    Ok(outages)
 }
 
 /// What happens, in short.
@@ -134,38 +138,41 @@ fn push_reason(reason: &Reason, out: &mut String) -> Result<(), AllocError> {
     }
 }
 
-/// The story of these plans and outages, with these limits.
+fn rehearsal(
+    alloc: Global,
+    limits: Limits,
+    until: u64,
+    planned: &[Planned],
+    answering: Option<Answering>,
+) -> Result<Rehearsal, AllocError> {
+    let config = config(alloc, limits)?;
+    let plans = plans(alloc, planned)?;
+    Ok(Rehearsal {
+        config,
+        until: until.min(MAX_UNTIL),
+        maintain: 15 * MINUTE,
+        plans,
+        outages: outages(alloc, answering)?,
+    })
+}
+
+/// The story of these plans and answers, with these limits.
 fn told(
     alloc: Global,
     limits: Limits,
     until: u64,
-    plans: Vec<Plan>,
-    outages: Vec<Outage>,
+    planned: &[Planned],
+    answering: Option<Answering>,
 ) -> Result<String, PlayFault> {
-    let rehearsal = Rehearsal {
-        config: config(alloc, limits)?,
-        until: until.min(MAX_UNTIL),
-        maintain: 15 * MINUTE,
-        plans,
-        outages,
-    };
+    let rehearsal = rehearsal(alloc, limits, until, planned, answering)?;
     let played = play(alloc, rehearsal)?;
     Ok(story(alloc, &played)?)
 }
 
 #[test]
 fn an_alert_fires_and_is_resolved(rt: HostRuntime) -> Result<(), PlayFault> {
-    let alloc = rt.alloc();
-    let mut plans = Vec::new(alloc);
-    add_alert(alloc, &mut plans, "A", 0, None)?;
-    add_alert(alloc, &mut plans, "A", 0, Some(10 * MINUTE))?;
-    let story = told(
-        alloc,
-        Limits::default(),
-        20 * MINUTE,
-        plans,
-        Vec::new(alloc),
-    )?;
+    let planned = [("A", 0, None), ("A", 0, Some(10 * MINUTE))];
+    let story = told(rt.alloc(), Limits::default(), 20 * MINUTE, &planned, None)?;
     assert_eq!(rt;
         story.as_str(),
         "30000 first;30000 Delivered after 1;330000 not before 14430001;630000 all resolved;630000 Delivered after 1;"
@@ -175,12 +182,19 @@ fn an_alert_fires_and_is_resolved(rt: HostRuntime) -> Result<(), PlayFault> {
 
 #[test]
 fn an_outage_ends_between_two_flushes(rt: HostRuntime) -> Result<(), PlayFault> {
-    let alloc = rt.alloc();
-    let mut plans = Vec::new(alloc);
-    add_alert(alloc, &mut plans, "A", 0, None)?;
-    let mut outages = Vec::new(alloc);
-    add_outage(alloc, &mut outages, 0, Some(329_000), Answer::Again, 1_000)?;
-    let story = told(alloc, Limits::default(), 6 * MINUTE, plans, outages)?;
+    let answering = Answering {
+        from: 0,
+        to: Some(329_000),
+        answer: Answer::Again,
+        takes: 1_000,
+    };
+    let story = told(
+        rt.alloc(),
+        Limits::default(),
+        6 * MINUTE,
+        &[("A", 0, None)],
+        Some(answering),
+    )?;
     assert_eq!(rt;
         story.as_str(),
         "30000 first;293671 Expired after 15;330000 first;330000 Delivered after 1;"
@@ -190,21 +204,20 @@ fn an_outage_ends_between_two_flushes(rt: HostRuntime) -> Result<(), PlayFault> 
 
 #[test]
 fn an_alert_comes_again_while_its_end_is_sent(rt: HostRuntime) -> Result<(), PlayFault> {
-    let alloc = rt.alloc();
-    let mut plans = Vec::new(alloc);
-    add_alert(alloc, &mut plans, "A", 0, None)?;
-    add_alert(alloc, &mut plans, "A", 0, Some(MINUTE))?;
-    add_alert(alloc, &mut plans, "A", 340_000, None)?;
-    let mut outages = Vec::new(alloc);
-    add_outage(
-        alloc,
-        &mut outages,
-        300_000,
-        Some(400_000),
-        Answer::Done,
-        20_000,
+    let planned = [("A", 0, None), ("A", 0, Some(MINUTE)), ("A", 340_000, None)];
+    let answering = Answering {
+        from: 300_000,
+        to: Some(400_000),
+        answer: Answer::Done,
+        takes: 20_000,
+    };
+    let story = told(
+        rt.alloc(),
+        Limits::default(),
+        11 * MINUTE,
+        &planned,
+        Some(answering),
     )?;
-    let story = told(alloc, Limits::default(), 11 * MINUTE, plans, outages)?;
     assert_eq!(rt;
         story.as_str(),
         "30000 first;30000 Delivered after 1;330000 all resolved;350000 Delivered after 1;630000 new;630000 Delivered after 1;"
@@ -214,15 +227,16 @@ fn an_alert_comes_again_while_its_end_is_sent(rt: HostRuntime) -> Result<(), Pla
 
 #[test]
 fn a_group_waits_until_a_flush_is_finished(rt: HostRuntime) -> Result<(), PlayFault> {
-    let alloc = rt.alloc();
-    let mut plans = Vec::new(alloc);
-    add_alert(alloc, &mut plans, "A", 0, None)?;
-    add_alert(alloc, &mut plans, "B", 0, None)?;
-    let mut outages = Vec::new(alloc);
-    add_outage(alloc, &mut outages, 0, Some(31_000), Answer::Done, 5_000)?;
+    let planned = [("A", 0, None), ("B", 0, None)];
+    let answering = Answering {
+        from: 0,
+        to: Some(31_000),
+        answer: Answer::Done,
+        takes: 5_000,
+    };
     let mut limits = Limits::default();
     limits.flushes = 1;
-    let story = told(alloc, limits, 5 * MINUTE, plans, outages)?;
+    let story = told(rt.alloc(), limits, 5 * MINUTE, &planned, Some(answering))?;
     assert_eq!(rt;
         story.as_str(),
         "30000 first;35000 Delivered after 1;35000 first;35000 Delivered after 1;"
@@ -232,33 +246,37 @@ fn a_group_waits_until_a_flush_is_finished(rt: HostRuntime) -> Result<(), PlayFa
 
 #[test]
 fn what_is_sent_at_the_end_is_sent_to_its_own(rt: HostRuntime) -> Result<(), PlayFault> {
-    let alloc = rt.alloc();
-    let mut plans = Vec::new(alloc);
-    add_alert(alloc, &mut plans, "A", 0, None)?;
-    add_alert(alloc, &mut plans, "B", 30_001, None)?;
-    let mut outages = Vec::new(alloc);
-    add_outage(alloc, &mut outages, 0, None, Answer::Never, 7_000)?;
-    let story = told(alloc, Limits::default(), 30_000, plans, outages)?;
+    let planned = [("A", 0, None), ("B", 30_001, None)];
+    let answering = Answering {
+        from: 0,
+        to: None,
+        answer: Answer::Never,
+        takes: 7_000,
+    };
+    let story = told(
+        rt.alloc(),
+        Limits::default(),
+        30_000,
+        &planned,
+        Some(answering),
+    )?;
     assert_eq!(rt; story.as_str(), "30000 first;37000 Refused after 1;");
     Ok(())
 }
 
 #[test]
-fn limits_end_a_rehearsal(rt: HostRuntime) -> Result<(), PlayFault> {
-    let alloc = rt.alloc();
-    let mut plans = Vec::new(alloc);
-    add_alert(alloc, &mut plans, "A", 0, None)?;
-    add_alert(alloc, &mut plans, "B", 0, None)?;
+fn a_limit_refuses_a_plan(rt: HostRuntime) {
+    let planned = [("A", 0, None), ("B", 0, None)];
     let mut limits = Limits::default();
     limits.names = 1;
-    let refused = told(alloc, limits, MINUTE, plans, Vec::new(alloc)).err();
+    let refused = told(rt.alloc(), limits, MINUTE, &planned, None).err();
     assert!(rt; refused == Some(PlayFault::PlanFull(1)));
+}
 
-    let mut plans = Vec::new(alloc);
-    add_alert(alloc, &mut plans, "A", 0, None)?;
+#[test]
+fn a_full_history_ends_a_rehearsal(rt: HostRuntime) {
     let mut limits = Limits::default();
     limits.history = 5;
-    let refused = told(alloc, limits, 60 * MINUTE, plans, Vec::new(alloc)).err();
+    let refused = told(rt.alloc(), limits, 60 * MINUTE, &[("A", 0, None)], None).err();
     assert!(rt; refused == Some(PlayFault::Full));
-    Ok(())
 }

@@ -1,6 +1,6 @@
 //! What is read and what is refused, where and by which word, and the texts of faults.
-use crate::fault::InputFault;
-use crate::reader::{Manner, Reader, parse};
+use am_cli::fault::InputFault;
+use am_cli::reader::{Manner, Reader, parse};
 use serde_json::Value;
 use std::alloc::{AllocError, Global};
 use std::process::Abort;
@@ -9,7 +9,9 @@ use std::test::Fail;
 mod configs;
 mod labels;
 mod matchers;
+mod route_names;
 mod texts;
+mod trees;
 
 /// The value as a whole, read in this manner.
 fn reader_of<'v>(alloc: Global, value: &'v Value, manner: Manner) -> Reader<'v, 'v> {

@@ -1,1 +1,2 @@
+pub mod Expectations
 pub mod Tales

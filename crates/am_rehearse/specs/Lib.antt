@@ -1,2 +1,4 @@
+pub mod Asked
+pub mod Expected
 pub mod Faults
 pub mod Tale

@@ -1,18 +1,15 @@
 -- Tale: what is told of a rehearsal that was played.
-use Rattle.std.specs.Prelude.{◌≡◌, ◌==◌, ℕ, Bool, List, [], ◌++◌, codes, length, Option, Some, None, if◌then◌else◌}
-use Rattle.std.specs.List.{list_all}
-use Rattle.std.specs.Option.{option_and_then}
-use Rattle.std.specs.Str.{bytes_eq}
-use Rattle.serde_json.specs.Data.{Data}
-use Rattle.serde_json.specs.Find.{as_object, as_str, get_member}
-use Rattle.serde_json.specs.Read.{read}
+use Rattle.std.specs.Prelude.{◌≡◌, ◌==◌, ℕ, Bool, List, [], ◌++◌, codes, length, Option, if◌then◌else◌}
+use Rattle.std.specs.List.{list_all, range_with_len}
 use Rattle.am_model.specs.declared.config.Config.{Config}
 use Rattle.am_model.specs.declared.record.Record.{Record}
 use Rattle.am_model.specs.Replay.{IsLegal}
+use Rattle.am_rehearsal.specs.Happened.{begun_in}
 use Rattle.am_rehearsal.specs.Told.{told}
 use Rattle.am_rehearsal.specs.declared.event.Event.{Event}
 use Rattle.am_rehearsal.specs.declared.limits.TheConstants.{BOARD_ID}
 use Rattle.am_timeline.specs.declared.expectation.Expectation.{Expectation}
+use Rattle.am_timeline.specs.Dated.{StartData}
 use Rattle.am_timeline.specs.Expectation.{is_met}
 use Rattle.am_timeline.specs.Judgement.{judgement_text}
 use Rattle.am_timeline.specs.Notices.{notices_text}
@@ -20,27 +17,9 @@ use Rattle.am_timeline.specs.Story.{StoryData}
 use Rattle.am_timeline.specs.Table.{table_text}
 use Rattle.am_timeline.specs.Timeline.{timeline_text}
 use Rattle.am_timeline.specs.Times.{Times}
+use Rattle.am_rehearse.specs.Asked.{IsAskedBy, times_from}
 use Rattle.am_rehearse.specs.declared.input.Output.{Output}
 use Rattle.am_rehearse.specs.declared.input.Output.TheVariants.{Timeline, Notices, Json}
-
--- the output of a name
-abbrev pub output_named : List ℕ → Option Output
-output_named name =
-    if bytes_eq name (codes "timeline") then Some Timeline
-    else (if bytes_eq name (codes "notices") then Some Notices else (if bytes_eq name (codes "json") then Some Json else None))
-
--- the output that the members of a rehearsal ask for; the timeline, where they don't say it
-abbrev pub output_in : Option Data → Option Output
-output_in None = Some Timeline
-output_in (Some member) = option_and_then output_named (as_str member)
-
--- the output that a rehearsal asks for, if it is an object and the output is one
-abbrev pub asked_in : Data → Option Output
-asked_in value = option_and_then (λ members. output_in (get_member (codes "output") members)) (as_object value)
-
--- these bytes are a JSON text that asks for this output
-abbrev pub AsksFor : List ℕ → Output → Type 0
-AsksFor input output = option_and_then asked_in (read input) ≡ Some output
 
 -- what became of expectations, behind an empty line, if there are any
 abbrev pub judged : StoryData → Times → List Expectation → List ℕ
@@ -59,20 +38,24 @@ abbrev pub story_of : Config → List Record → List Event → StoryData
 story_of config history events =
     record { config = config; history = history; begins = told config history; events = events }
 
--- the text is this output of a rehearsal that was played, of which the history is legal; `met` is whether all that was expected of it came so
-pub record IsTaleOf (output : Output) (met : Bool) (text : List ℕ) : Type 0 where
+-- the text is this output of a rehearsal that was played, of which the history is legal, and of which each begin that took a group is told
+-- of once, in their order; `met` is whether it came as each of these expectations says
+pub record IsTaleOf (output : Output) (times : Times) (expectations : List Expectation) (met : Bool) (text : List ℕ) : Type 0 where
   pub config : Config
   pub history : List Record
   pub events : List Event
-  pub times : Times
-  pub expectations : List Expectation
   pub legal : IsLegal config BOARD_ID history
+  pub begun : begun_in events ≡ range_with_len 0 (length (told config history))
   pub judges : list_all (is_met (story_of config history events)) expectations ≡ met
   pub is : IsPrinted output (story_of config history events) times expectations text
 
--- the text is the output that these bytes ask for, of a rehearsal that was played
-abbrev pub IsToldOf : List ℕ → Bool → List ℕ → Type 0
-IsToldOf input met text = (output : Output) × AsksFor input output × IsTaleOf output met text
+-- the text is the output that these bytes ask for, of a rehearsal that was played, by the moments and the expectations that they ask for
+pub record IsToldOf (input : List ℕ) (met : Bool) (text : List ℕ) : Type 0 where
+  pub output : Output
+  pub start : Option StartData
+  pub expectations : List Expectation
+  pub asked : IsAskedBy input output start expectations
+  pub tale : IsTaleOf output (times_from start) expectations met text
 
 -- of bytes that were given before and now, and of bytes that were taken before and now: what was taken since is the output that those that
 -- were given since ask for

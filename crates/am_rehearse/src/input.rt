@@ -4,11 +4,11 @@ ghost use Rattle.std.specs.Result.{result_ok};
 ghost use Rattle.serde_json.specs.Find.{get_member};
 ghost use Rattle.serde_json.specs.View.{members_view, view};
 ghost use Rattle.am_rehearsal.specs.declared.limits.TheConstants.{MAX_UNTIL};
-ghost use Rattle.am_rehearse.specs.Tale.{asked_in, output_in};
+ghost use Rattle.am_rehearse.specs.Asked.{AsksFor, IsAskedIn, output_in, until_in};
 
 use crate::input::alert::AlertItem;
 use crate::input::configured::read_configured;
-use crate::input::expectation::ExpectationItem;
+use crate::input::expectation::read_expectations;
 use crate::input::outage::OutageItem;
 use crate::input::silence::SilenceItem;
 use crate::input::target::check;
@@ -84,7 +84,7 @@ pub enum Output {
 /// Reads a whole rehearsal. The first fault in the order of reading is answered; of Alertmanager's
 /// configuration all faults.
 pub fn read_input(alloc: Global, value: &Value) -> Result<Input, Refusal>
-    ensures { IfOk result (λ input. asked_in (view value.now) ≡ Some input.output) }
+    ensures { IfOk result (λ input. IsAskedIn (view value.now) input.output input.start input.expectations.items) }
 {
     let reader = Reader::strict(alloc, value);
     let top = reader.object()?;
@@ -96,7 +96,7 @@ pub fn read_input(alloc: Global, value: &Value) -> Result<Input, Refusal>
 /// Reads what is planned against a configuration.
 fn read_planned(top: &Object<'_, '_>, config: Config, dropped: Dropped) -> Result<Input, InputFault>
     ensures { IfOk result (λ input.
-        output_in (get_member (codes "output") (members_view top.now.members)) ≡ Some input.output) }
+        AsksFor (members_view top.now.members) input.output input.start input.expectations.items) }
 {
     let start = moment::start(top)?;
     let until = read_until(top)?;
@@ -126,7 +126,8 @@ fn read_planned(top: &Object<'_, '_>, config: Config, dropped: Dropped) -> Resul
 
 /// The last moment; `Value` above `MAX_UNTIL`.
 fn read_until(top: &Object<'_, '_>) -> Result<u64, InputFault>
-    ensures { IfOk result (λ until. until ≤ MAX_UNTIL) }
+    ensures until { IfOk result (λ until. until_in (members_view top.now.members) ≡ Some until) }
+    ensures most { IfOk result (λ until. until ≤ MAX_UNTIL) }
 {
     let member = top.required("until")?;
     let until = duration(&member)?;
@@ -154,32 +155,6 @@ fn read_outages(top: &Object<'_, '_>, config: &Config) -> Result<Vec<Outage>, In
         outages.push(item.into_outage())?;
     }
     Ok(outages)
-}
-
-fn read_expectations(
-    top: &Object<'_, '_>,
-    config: &Config,
-    until: u64,
-) -> Result<Vec<Expectation>, InputFault> {
-    let mut expectations = Vec::new(top.alloc());
-    for (index, item) in top
-        .list_or_none::<ExpectationItem>("expect")?
-        .into_iter()
-        .enumerate()
-    {
-        let place = Place::Top;
-        if let Some(receiver) = &item.receiver {
-            check(
-                top.alloc(),
-                config,
-                receiver.as_str(),
-                item.integration,
-                place.member("expect").item(index),
-            )?;
-        }
-        expectations.push(item.into_expectation(until))?;
-    }
-    Ok(expectations)
 }
 
 /// What is printed; the timeline, where it isn't said.

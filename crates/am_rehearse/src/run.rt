@@ -1,10 +1,12 @@
 //! The run of a rehearsal, from its bytes to what it tells.
-ghost use Rattle.std.specs.Prelude.{◌≡◌, ◌≢◌, ◌≤◌, ◌<◌, ◌+◌, ◌++◌, ◌⊎◌, ◌↔◌, Some, false, true, length, string_bytes};
+ghost use Rattle.std.specs.Prelude.{◌≡◌, ◌≢◌, ◌≤◌, ◌<◌, ◌+◌, ◌++◌, ◌⊎◌, ◌↔◌, Some, false, true, length, string_bytes, vec_len};
 ghost use Rattle.std.specs.Prelude.{IfErr, IfOk, OnOk, option_and_then};
-ghost use Rattle.std.specs.List.{list_all};
+ghost use Rattle.std.specs.List.{list_all, range_with_len};
 ghost use Rattle.am_cli.specs.declared.transfer.TheConstants.{MAX_INPUT};
+ghost use Rattle.am_rehearsal.specs.Happened.{begun_in};
 ghost use Rattle.am_rehearsal.specs.Told.{told};
 ghost use Rattle.am_rehearsal.specs.declared.limits.TheConstants.{BOARD_ID};
+ghost use Rattle.am_rehearse.specs.Asked.{times_from};
 ghost use Rattle.am_rehearse.specs.Tale.{IsAnswered, IsPrinted, IsTaleOf, IsToldOf, judged};
 ghost use Rattle.am_timeline.specs.Expectation.{is_met};
 ghost use Rattle.am_timeline.specs.Table.{table_text};
@@ -40,7 +42,9 @@ struct Told {
 
 /// Reads a rehearsal from the source, plays it and writes what it tells to the sink: on `Ok` and on
 /// `Unmet`, once and whole, the output that the input asks for, of a legal history. It is `Ok` where
-/// every expectation of it is met, and `Unmet` where one isn't. What the JSON tells isn't said.
+/// every expectation of it is met, and `Unmet` where one isn't. Output, start and expectations are
+/// those that the JSON tells, but for the labels in an expectation's sets; of the configuration, the
+/// alerts, silences and outages and of maintenance it isn't said that they are the JSON's.
 ///
 /// `dropped` is what of Alertmanager's configuration is dropped, once the rehearsal was read.
 /// It is made whole before its first byte is written: on every fault but `Unwritable` and `Unmet` the
@@ -60,6 +64,8 @@ pub fn run_rehearsal<S: Source, K: Sink>(
     ensures unwritten { IfErr result (λ fault.
         fault ≢ RehearseFault.Unwritable → fault ≢ RehearseFault.Unmet → sink.new ≡ sink.old) }
     ensures ended { OnOk result (S.ended source.new ≡ S.ended source.old + 1) }
+    ensures ended_unmet { IfErr result (λ fault.
+        fault ≡ RehearseFault.Unmet → S.ended source.new ≡ S.ended source.old + 1) }
     ensures met { OnOk result
         (IsAnswered true (S.given source.old) (S.given source.new) (K.taken sink.old) (K.taken sink.new)) }
     ensures unmet { IfErr result (λ fault. fault ≡ RehearseFault.Unmet →
@@ -101,7 +107,8 @@ fn told_of(alloc: Global, input: &[u8], dropped: &mut Dropped) -> Result<Told, R
 
 /// Plays a rehearsal, and tells what is asked for.
 fn tell(alloc: Global, input: Input) -> Result<Told, InputFault>
-    ensures { IfOk result (λ told. IsTaleOf input.output told.is_met (string_bytes told.text)) }
+    ensures { IfOk result (λ told. IsTaleOf input.output (times_from input.start) input.expectations.items
+        told.is_met (string_bytes told.text)) }
 {
     let Input {
         rehearsal,
@@ -132,7 +139,9 @@ fn tell_by<C: Clock>(
 ) -> Result<Told, InputFault>
     requires ours { played.now.board.id ≡ BOARD_ID }
     requires told { played.now.begins.items ≡ told played.now.board.config played.now.board.history }
-    ensures { IfOk result (λ told. IsTaleOf output told.is_met (string_bytes told.text)) }
+    requires begun { begun_in played.now.events.items ≡ range_with_len 0 (vec_len played.now.begins) }
+    ensures { IfOk result (λ told. IsTaleOf output (C.times clock.now) expectations.now
+        told.is_met (string_bytes told.text)) }
 {
     let story = Story::new(
         played.board.config(),

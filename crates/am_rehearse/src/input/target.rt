@@ -1,5 +1,9 @@
 //! Which receiver and which integration is meant.
-ghost use Rattle.std.specs.Prelude.{◌≤◌, IfOk};
+ghost use Rattle.std.specs.Prelude.{◌≡◌, IfOk, Some, codes};
+ghost use Rattle.serde_json.specs.Find.{get_member};
+ghost use Rattle.serde_json.specs.View.{members_view};
+ghost use Rattle.am_cli.specs.Read.{number_in};
+ghost use Rattle.am_rehearse.specs.Expected.{member_if};
 
 use am_board::config::{Config, MAX_INTEGRATIONS};
 use am_cli::fault::{InputFault, Word};
@@ -8,7 +12,10 @@ use am_cli::reader::Object;
 use std::alloc::Global;
 
 /// The position of an integration in its receiver, which is the member `integration`, if it is there.
-pub fn position(object: &Object<'_, '_>) -> Result<Option<u32>, InputFault> {
+pub fn position(object: &Object<'_, '_>) -> Result<Option<u32>, InputFault>
+    ensures { IfOk result (λ position.
+        member_if number_in (get_member (codes "integration") (members_view object.now.members)) ≡ Some position) }
+{
     match object.optional("integration") {
         None => Ok(None),
         Some(member) => Ok(Some(member.number_up_to(MAX_INTEGRATIONS as u64)? as u32)),

@@ -1,4 +1,5 @@
-use Rattle.std.proofs.Common.{◌≡◌}
+use Rattle.std.proofs.Common.{◌≡◌, ◌∙◌, ℕ, ap}
+use Rattle.std.specs.List.{range_with_len}
 use Rattle.am_rehearse.proofs.Tales.{story_with, tale_of-board}
 use Rattle.am_rehearse.proofs.run.tell_by.Goals as goal
 
@@ -8,4 +9,5 @@ returns g c =
     let story = c.new-story.result in
     let is_story : story ≡ story_with played.board played.events.items played.begins.items =
     cc (c.new-story.ensures, c.config.ensures.config, c.history.ensures.history, c.as_slice.ensures.value, c.as_slice-2.ensures.value) in
-    tale_of-board c.args.output c.are_met-is_met.result _ played.board played.begins.items played.events.items story (g.C.Clock.times c.args.clock.now) c.args.expectations.now c.requires.ours c.requires.told c.history.ensures.legal is_story c.are_met-is_met.ensures c.in_ok-text.ensures
+    let is_begun = c.requires.begun ∙ ap (λ (n : ℕ). range_with_len 0 n) played.begins.ok.0 in
+    tale_of-board c.args.output c.are_met-is_met.result _ played.board played.begins.items played.events.items story (g.C.Clock.times c.args.clock.now) c.args.expectations.now c.requires.ours c.requires.told c.history.ensures.legal is_begun is_story c.are_met-is_met.ensures c.in_ok-text.ensures

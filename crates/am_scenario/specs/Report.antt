@@ -122,10 +122,14 @@ report_text config reports history =
     ++ flat_map (group_line config) (group_views (replay config history))
     ++ calls_line (length history)
 
+-- the text is the report on this history, which is legal on the board of this configuration and id, and on some reports of its notices
+pub record IsReportOn (config : Config) (id : ℕ) (history : List Record) (text : List ℕ) : Type 0 where
+  pub reports : List Report
+  pub legal : IsLegal config id history
+  pub is : text ≡ report_text config reports history
+
 -- the text is the report on a legal history of the board of this id
 pub record IsReportOf (id : ℕ) (text : List ℕ) : Type 0 where
   pub config : Config
   pub history : List Record
-  pub reports : List Report
-  pub legal : IsLegal config id history
-  pub is : text ≡ report_text config reports history
+  pub report : IsReportOn config id history text

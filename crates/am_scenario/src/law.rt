@@ -1,9 +1,18 @@
-//! Worked runs: the definitions, run on them.
+//! Worked runs: the definitions, run on them; and the limits of a scenario, as they are meant.
+ghost use Rattle.std.specs.Prelude.{◌≡◌};
 ghost use Rattle.am_scenario.specs.FirstRun.{FirstIsLegal, FirstIsTold};
+ghost use Rattle.am_scenario.specs.declared.run.TheConstants.{BOARD_ID};
+ghost use Rattle.am_scenario.specs.declared.scenario.TheConstants.{MAX_LANES};
 
 /// The history of the first worked run is legal, and its report has the four lines that were worked
 /// out by hand. It does nothing: what it says is its contract.
 pub fn first_run_is_told()
     ensures legal { FirstIsLegal }
     ensures told { FirstIsTold }
+{}
+
+/// How many lanes a phase may have, and the id of the desk.
+pub fn limits_are()
+    ensures lanes { MAX_LANES ≡ 15 }
+    ensures id { BOARD_ID ≡ 1 }
 {}

@@ -3,6 +3,7 @@ ghost use Rattle.std.specs.Prelude.{◌≡◌, ◌≢◌, ◌≤◌, ◌<◌, �
 ghost use Rattle.std.specs.Prelude.{IfErr, IfOk, OnOk, string_bytes};
 ghost use Rattle.am_desk.specs.Desks.{AreFresh};
 ghost use Rattle.am_desk.specs.Terms.{terms};
+ghost use Rattle.am_scenario.specs.Plays.{IsPlayOf};
 ghost use Rattle.am_scenario.specs.Report.{IsReportOf};
 ghost use Rattle.am_scenario.specs.declared.run.TheConstants.{BOARD_ID};
 ghost use Rattle.am_scenario.specs.declared.scenario.TheConstants.{MAX_LANES};
@@ -62,7 +63,7 @@ fn report_of<R: Threads + Wait + Sync>(
     ensures { IfOk result (λ text. IsReportOf BOARD_ID (string_bytes text)) }
 {
     let scenario = read(alloc, input)?;
-    play(rt, alloc, scenario)
+    play_scenario(rt, alloc, scenario)
 }
 
 /// The scenario that these bytes are. Of the JSON value nothing is kept.
@@ -71,13 +72,17 @@ fn read(alloc: Global, input: &[u8]) -> Result<Scenario, InputFault> {
     read_scenario(alloc, &value)
 }
 
-/// Plays a scenario on a desk of its own, and makes its report.
-fn play<R: Threads + Wait + Sync>(
+/// Plays a scenario on a desk of its own, of the id `BOARD_ID`, and makes its report.
+///
+/// The report is the text of a legal history of the scenario's own configuration. Refused with the
+/// place and the cause, as `run_scenario` tells them, where the configuration or a call is refused or
+/// memory is.
+pub fn play_scenario<R: Threads + Wait + Sync>(
     rt: &R,
     alloc: Global,
     scenario: Scenario,
 ) -> Result<String, InputFault>
-    ensures { IfOk result (λ text. IsReportOf BOARD_ID (string_bytes text)) }
+    ensures { IfOk result (λ text. IsPlayOf BOARD_ID scenario (string_bytes text)) }
 {
     let blank = blank_for(alloc, scenario.phases.as_slice())?;
     play_on::<Brand, R>(rt, alloc, scenario, blank)
@@ -93,7 +98,7 @@ fn play_on<N: Name + Send + Sync, R: Threads + Wait + Sync>(
     requires name { (blank ≡ N.plan) × (terms scenario.config blank.id ≡ N.terms) }
     requires id { blank.id ≡ BOARD_ID }
     requires lanes { All (λ p. vec_len p.lanes < blank.passes) scenario.phases.items }
-    ensures { IfOk result (λ text. IsReportOf BOARD_ID (string_bytes text)) }
+    ensures { IfOk result (λ text. IsPlayOf BOARD_ID scenario (string_bytes text)) }
 {
     let Scenario {
         config,

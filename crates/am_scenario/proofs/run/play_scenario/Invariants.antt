@@ -1,5 +1,5 @@
 use Rattle.am_desk.specs.Terms.{terms}
-use Rattle.am_scenario.proofs.run.play.Given as goal
+use Rattle.am_scenario.proofs.run.play_scenario.Given as goal
 
 -- the desk's blank, and what it is opened with
 abbrev pub ghosts-play_on : goal.ghosts-play_on

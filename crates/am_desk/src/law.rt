@@ -1,4 +1,6 @@
-//! The faults' numbers, each as it is meant.
+//! The faults' numbers and how many passes there may be, each as it is meant.
+ghost use Rattle.std.specs.Prelude.{◌≡◌};
+ghost use Rattle.am_desk.specs.declared.blank.TheConstants.{MAX_PASSES};
 ghost use Rattle.am_desk.specs.Laws.{BlankFaultsAre, OpenFaultsAre, CloseCausesAre};
 
 use crate::fault::BlankFault;
@@ -14,4 +16,9 @@ pub fn fault_numbers_are()
     ensures blanks { BlankFaultsAre }
     ensures openings { OpenFaultsAre }
     ensures closes { CloseCausesAre }
+{}
+
+/// How many passes a desk may have.
+pub fn limits_are()
+    ensures { MAX_PASSES ≡ 16 }
 {}

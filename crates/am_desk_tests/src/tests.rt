@@ -133,6 +133,25 @@ fn put<N: Name>(rt: &impl Abort, passes: &mut Vec<Pass<N>>, pass: Pass<N>) {
     assert!(rt; passes.push(pass).is_ok());
 }
 
+/// The pass 0, where it stands.
+fn first<'p, N: Name>(rt: &impl Abort, passes: &'p mut [Pass<N>]) -> &'p mut Pass<N> {
+    let Some((zero, _)) = passes.split_first_mut() else {
+        panic!(rt; "a pass")
+    };
+    zero
+}
+
+/// The passes 0 and 1, where they stand.
+fn both<'p, N: Name>(
+    rt: &impl Abort,
+    passes: &'p mut [Pass<N>],
+) -> (&'p mut Pass<N>, &'p mut Pass<N>) {
+    let Some((zero, others)) = passes.split_first_mut() else {
+        panic!(rt; "a pass")
+    };
+    (zero, first(rt, others))
+}
+
 /// The numbers of calls, of groups and of open flushes at a glance.
 fn look<N: Name>(desk: &Desk<N>, pass: &mut Pass<N>) -> (usize, usize, usize) {
     let glance = desk.glance(pass);

@@ -2,7 +2,7 @@
 ghost use Rattle.std.specs.Prelude.{◌≡◌};
 ghost use Rattle.am_desk.specs.Terms.{terms};
 
-use super::{alert, close, config, look, open, put, take};
+use super::{alert, both, close, config, look, open, put, take};
 use am_board::config::{Config, Limits};
 use am_board::record::Reply;
 use am_desk::{Blank, Brand, Closed, Desk, Name, Pass};
@@ -34,14 +34,25 @@ fn a_thousand_inserts_on<N: Name + Send + Sync, R: Threads + Wait + Abort + Sync
     let (desk, mut passes) = open::<N>(rt, alloc, config, blank);
     let one = take(rt, &mut passes);
     let zero = take(rt, &mut passes);
-    let (mut zero, one) = insert_beside(rt, alloc, &desk, zero, one);
-    assert_eq!(rt; (zero.calls(), one.calls()), (INSERTS, INSERTS));
-    let last = alert(rt, alloc, &[("alertname", "A"), ("inst", "last")]);
-    assert!(rt; desk.insert(rt, alloc, &mut zero, 0, last).is_ok());
-    assert_eq!(rt; look(&desk, &mut zero), (2_001, 1, 0));
+    let (zero, one) = insert_beside(rt, alloc, &desk, zero, one);
     put(rt, &mut passes, zero);
     put(rt, &mut passes, one);
+    insert_last(rt, alloc, &desk, passes.as_mut_slice());
     are_stamped(rt, &close(rt, desk, passes));
+}
+
+/// One more, after which everything is there.
+fn insert_last<N: Name, R: Wait + Abort>(
+    rt: &R,
+    alloc: Global,
+    desk: &Desk<N>,
+    passes: &mut [Pass<N>],
+) {
+    let (zero, one) = both(rt, passes);
+    assert_eq!(rt; (zero.calls(), one.calls()), (INSERTS, INSERTS));
+    let last = alert(rt, alloc, &[("alertname", "A"), ("inst", "last")]);
+    assert!(rt; desk.insert(rt, alloc, zero, 0, last).is_ok());
+    assert_eq!(rt; look(desk, zero), (2_001, 1, 0));
 }
 
 /// Each pass inserts in a thread of its own.

@@ -3,8 +3,8 @@ ghost use Rattle.std.specs.Prelude.{◌≡◌};
 ghost use Rattle.am_desk.specs.Terms.{terms};
 
 use super::{
-    Replies, alert, begin, close, config, delivered, finish, insert, look, not_closed, note, open,
-    put, take,
+    Replies, alert, begin, both, close, config, delivered, finish, first, insert, look, not_closed,
+    note, open, put, take,
 };
 use am_board::config::{Config, Limits};
 use am_board::fault::{Fault, NoteFault};
@@ -54,26 +54,35 @@ fn own_tickets_on<N: Name, R: Wait + Abort>(rt: &R, alloc: Global, config: Confi
     requires { (blank ≡ N.plan) × (terms config blank.id ≡ N.terms) }
 {
     let (desk, mut passes) = open::<N>(rt, alloc, config, blank);
-    let mut one = take(rt, &mut passes);
     let mut told = Replies::new(alloc);
-    insert(rt, alloc, &desk, &mut one, "A", &mut told);
-    insert(rt, alloc, &desk, &mut one, "B", &mut told);
+    let pass = first(rt, passes.as_mut_slice());
+    insert(rt, alloc, &desk, pass, "A", &mut told);
+    insert(rt, alloc, &desk, pass, "B", &mut told);
+    keep_two(rt, alloc, &desk, pass, &mut told);
+    let closed = close(rt, desk, passes);
+    assert!(rt; closed.rows(alloc).is_ok_and(|rows| rows.len() == 2));
+    told.is_of(rt, alloc, &closed);
+}
+
+fn keep_two<N: Name, R: Wait + Abort>(
+    rt: &R,
+    alloc: Global,
+    desk: &Desk<N>,
+    pass: &mut Pass<N>,
+    told: &mut Replies,
+) {
     let mut owns: Vec<OwnTicket<N>> = Vec::new(alloc);
     for _ in 0..2 {
-        match owns.push(begin(rt, alloc, &desk, &mut one, 30_000, &mut told)) {
+        match owns.push(begin(rt, alloc, desk, pass, 30_000, told)) {
             Ok(()) => {}
             Err(_failed) => panic!(rt; "no memory"),
         }
     }
-    assert_eq!(rt; look(&desk, &mut one), (4, 2, 2));
+    assert_eq!(rt; look(desk, pass), (4, 2, 2));
     while !owns.is_empty() {
-        note_and_finish(rt, alloc, &desk, &mut one, owns.remove(0), &mut told);
+        note_and_finish(rt, alloc, desk, pass, owns.remove(0), told);
     }
     owns.destroy_empty();
-    put(rt, &mut passes, one);
-    let closed = close(rt, desk, passes);
-    assert!(rt; closed.rows(alloc).is_ok_and(|rows| rows.len() == 2));
-    told.is_of(rt, alloc, &closed);
 }
 
 /// Records that the one notice was delivered, notes it, and finishes the flush.
@@ -115,19 +124,16 @@ fn two_of_three_meet_on<N: Name, R: Wait + Abort>(
     requires { (blank ≡ N.plan) × (terms config blank.id ≡ N.terms) }
 {
     let (desk, mut passes) = open::<N>(rt, alloc, config, blank);
-    let mut two = take(rt, &mut passes);
-    let mut one = take(rt, &mut passes);
-    let mut zero = take(rt, &mut passes);
     let mut told = Replies::new(alloc);
-    insert(rt, alloc, &desk, &mut zero, "A", &mut told);
-    insert(rt, alloc, &desk, &mut one, "B", &mut told);
-    desk.meet(&mut zero, &mut two);
-    assert_eq!(rt; look(&desk, &mut zero), (2, 2, 0));
+    let mut two = take(rt, &mut passes);
+    let (zero, one) = both(rt, passes.as_mut_slice());
+    insert(rt, alloc, &desk, zero, "A", &mut told);
+    insert(rt, alloc, &desk, one, "B", &mut told);
+    desk.meet(zero, &mut two);
+    assert_eq!(rt; look(&desk, zero), (2, 2, 0));
     assert_eq!(rt; look(&desk, &mut two), (2, 2, 0));
     assert_eq!(rt; two.calls(), 0);
     put(rt, &mut passes, two);
-    put(rt, &mut passes, zero);
-    put(rt, &mut passes, one);
     told.is_of(rt, alloc, &close(rt, desk, passes));
 }
 
@@ -152,15 +158,23 @@ fn refused_between_glances_on<N: Name, R: Wait + Abort>(
     requires { (blank ≡ N.plan) × (terms config blank.id ≡ N.terms) }
 {
     let (desk, mut passes) = open::<N>(rt, alloc, config, blank);
-    let mut pass = take(rt, &mut passes);
     let mut told = Replies::new(alloc);
-    insert(rt, alloc, &desk, &mut pass, "A", &mut told);
-    assert_eq!(rt; look(&desk, &mut pass), (1, 1, 0));
-    let another = alert(rt, alloc, &[("alertname", "B")]);
-    let refused = desk.insert(rt, alloc, &mut pass, 0, another);
-    assert_eq!(rt; refused.err(), Some(Fault::HistoryFull));
-    assert_eq!(rt; look(&desk, &mut pass), (1, 1, 0));
-    assert_eq!(rt; pass.calls(), 1);
-    put(rt, &mut passes, pass);
+    let pass = first(rt, passes.as_mut_slice());
+    insert(rt, alloc, &desk, pass, "A", &mut told);
+    refuse_another(rt, alloc, &desk, pass);
     told.is_of(rt, alloc, &close(rt, desk, passes));
+}
+
+fn refuse_another<N: Name, R: Wait + Abort>(
+    rt: &R,
+    alloc: Global,
+    desk: &Desk<N>,
+    pass: &mut Pass<N>,
+) {
+    assert_eq!(rt; look(desk, pass), (1, 1, 0));
+    let another = alert(rt, alloc, &[("alertname", "B")]);
+    let refused = desk.insert(rt, alloc, pass, 0, another);
+    assert_eq!(rt; refused.err(), Some(Fault::HistoryFull));
+    assert_eq!(rt; look(desk, pass), (1, 1, 0));
+    assert_eq!(rt; pass.calls(), 1);
 }

@@ -2,7 +2,7 @@
 ghost use Rattle.std.specs.Prelude.{◌≡◌};
 ghost use Rattle.am_desk.specs.Terms.{terms};
 
-use super::{Replies, close, config, insert, open, put, silence_of, take};
+use super::{Replies, both, close, config, insert, open, silence_of};
 use am_board::begin::Begun;
 use am_board::config::{Config, Limits};
 use am_board::record::{Maintained, Reply, Silenced};
@@ -33,15 +33,12 @@ fn silence_and_maintenance_on<N: Name, R: Wait + Abort>(
     requires { (blank ≡ N.plan) × (terms config blank.id ≡ N.terms) }
 {
     let (desk, mut passes) = open::<N>(rt, alloc, config, blank);
-    let mut one = take(rt, &mut passes);
-    let mut zero = take(rt, &mut passes);
     let mut told = Replies::new(alloc);
-    insert(rt, alloc, &desk, &mut one, "A", &mut told);
-    silence_and_maintain(rt, alloc, &desk, &mut one, silence, &mut told);
-    begin_quietly(rt, alloc, &desk, &mut zero, &mut told);
+    let (zero, one) = both(rt, passes.as_mut_slice());
+    insert(rt, alloc, &desk, one, "A", &mut told);
+    silence_and_maintain(rt, alloc, &desk, one, silence, &mut told);
+    begin_quietly(rt, alloc, &desk, zero, &mut told);
     assert_eq!(rt; (zero.calls(), one.calls()), (2, 3));
-    put(rt, &mut passes, zero);
-    put(rt, &mut passes, one);
     let closed = close(rt, desk, passes);
     assert!(rt; closed.rows(alloc).is_ok_and(|rows| rows.is_empty()));
     told.is_of(rt, alloc, &closed);

@@ -3,7 +3,8 @@ ghost use Rattle.std.specs.Prelude.{◌≡◌};
 ghost use Rattle.am_desk.specs.Terms.{terms};
 
 use super::{
-    Replies, begin, close, config, delivered, finish, insert, not_closed, note, open, put, take,
+    Replies, begin, close, config, delivered, finish, first, insert, not_closed, note, open, put,
+    take,
 };
 use am_board::config::{Config, Limits};
 use am_board::fault::{FinishFault, NoteFault, ReportFault};
@@ -44,13 +45,12 @@ fn two_desks_on<N: Name, M: Name, R: Wait + Abort>(
     requires other { (other_blank ≡ M.plan) × (terms other_config other_blank.id ≡ M.terms) }
 {
     let (seven, mut sevens) = open::<N>(rt, alloc, config, blank);
-    let mut seventh = take(rt, &mut sevens);
     let mut told = Replies::new(alloc);
-    insert(rt, alloc, &seven, &mut seventh, "A", &mut told);
-    let own = begin(rt, alloc, &seven, &mut seventh, 30_000, &mut told);
+    let seventh = first(rt, sevens.as_mut_slice());
+    insert(rt, alloc, &seven, seventh, "A", &mut told);
+    let own = begin(rt, alloc, &seven, seventh, 30_000, &mut told);
     let ticket = try_on_eight::<M, R>(rt, alloc, other_config, other_blank, own.into_ticket());
-    let own = refuse_reports(rt, alloc, &seven, &mut seventh, ticket);
-    put(rt, &mut sevens, seventh);
+    let own = refuse_reports(rt, alloc, &seven, seventh, ticket);
     close_at_last(rt, alloc, seven, sevens, own, told);
 }
 
@@ -65,13 +65,12 @@ fn try_on_eight<M: Name, R: Wait + Abort>(
     requires { (blank ≡ M.plan) × (terms config blank.id ≡ M.terms) }
 {
     let (eight, mut eights) = open::<M>(rt, alloc, config, blank);
-    let mut eighth = take(rt, &mut eights);
     let mut told = Replies::new(alloc);
-    insert(rt, alloc, &eight, &mut eighth, "A", &mut told);
-    let noted = note(rt, alloc, &eight, &mut eighth, &ticket, 30_000);
+    let eighth = first(rt, eights.as_mut_slice());
+    insert(rt, alloc, &eight, eighth, "A", &mut told);
+    let noted = note(rt, alloc, &eight, eighth, &ticket, 30_000);
     assert_eq!(rt; noted, Some(NoteFault::Foreign));
-    let ticket = refuse_foreign(rt, &eight, &mut eighth, ticket);
-    put(rt, &mut eights, eighth);
+    let ticket = refuse_foreign(rt, &eight, eighth, ticket);
     told.is_of(rt, alloc, &close(rt, eight, eights));
     ticket
 }
@@ -86,16 +85,25 @@ fn close_at_last<N: Name, R: Wait + Abort>(
     mut told: Replies,
 ) {
     let (seven, mut sevens) = not_closed(rt, seven, sevens, CloseCause::OpenFlush(1));
-    let mut seventh = take(rt, &mut sevens);
-    assert_eq!(rt;
-        finish(rt, alloc, &seven, &mut seventh, own, 30_000, &mut told),
-        (0, 0)
-    );
-    let (seven, mut sevens) = not_closed(rt, seven, sevens, CloseCause::Missing);
-    put(rt, &mut sevens, seventh);
+    let seventh = first(rt, sevens.as_mut_slice());
+    let finished = finish(rt, alloc, &seven, seventh, own, 30_000, &mut told);
+    assert_eq!(rt; finished, (0, 0));
+    let (seven, sevens) = miss_one(rt, seven, sevens);
     let closed = close(rt, seven, sevens);
     told.is_of(rt, alloc, &closed);
     is_left(rt, alloc, &closed);
+}
+
+/// A close without one of the passes.
+fn miss_one<N: Name>(
+    rt: &impl Abort,
+    desk: Desk<N>,
+    mut passes: Vec<Pass<N>>,
+) -> (Desk<N>, Vec<Pass<N>>) {
+    let missing = take(rt, &mut passes);
+    let (desk, mut passes) = not_closed(rt, desk, passes, CloseCause::Missing);
+    put(rt, &mut passes, missing);
+    (desk, passes)
 }
 
 /// What the desk 7 leaves.
@@ -176,11 +184,11 @@ fn one_id_on<N: Name, M: Name, R: Wait + Abort>(
     requires one { (blank ≡ N.plan) × (terms config blank.id ≡ N.terms) }
     requires other { (other_blank ≡ M.plan) × (terms other_config other_blank.id ≡ M.terms) }
 {
-    let (first, mut firsts) = open::<N>(rt, alloc, config, blank);
-    let mut one = take(rt, &mut firsts);
+    let (desk, mut passes) = open::<N>(rt, alloc, config, blank);
     let mut told = Replies::new(alloc);
-    insert(rt, alloc, &first, &mut one, "A", &mut told);
-    let own = begin(rt, alloc, &first, &mut one, 30_000, &mut told);
+    let pass = first(rt, passes.as_mut_slice());
+    insert(rt, alloc, &desk, pass, "A", &mut told);
+    let own = begin(rt, alloc, &desk, pass, 30_000, &mut told);
     refuse_what_is_not_open::<M, R>(rt, alloc, other_config, other_blank, own.into_ticket());
 }
 
@@ -195,16 +203,15 @@ fn refuse_what_is_not_open<M: Name, R: Wait + Abort>(
     requires { (blank ≡ M.plan) × (terms config blank.id ≡ M.terms) }
 {
     let (second, mut seconds) = open::<M>(rt, alloc, config, blank);
-    let mut two = take(rt, &mut seconds);
-    let noted = note(rt, alloc, &second, &mut two, &ticket, 30_000);
+    let two = first(rt, seconds.as_mut_slice());
+    let noted = note(rt, alloc, &second, two, &ticket, 30_000);
     assert_eq!(rt; noted, Some(NoteFault::NotOpen));
-    match second.finish(rt, &mut two, ticket, 30_000) {
+    match second.finish(rt, two, ticket, 30_000) {
         Err(FinishFault::NotOpen) => {}
         Err(FinishFault::Foreign(_ticket)) => panic!(rt; "the ids are one"),
         Ok(_) => panic!(rt; "it isn't open"),
     }
     assert_eq!(rt; two.calls(), 0);
-    put(rt, &mut seconds, two);
     assert_eq!(rt; close(rt, second, seconds).history().len(), 0);
 }
 

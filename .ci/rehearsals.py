@@ -20,13 +20,13 @@ def tell(told, is_right, why=""):
         FAILED.append(told)
 
 
-def limit():
-    resource.setrlimit(resource.RLIMIT_CPU, (SECONDS, SECONDS))
-    resource.setrlimit(resource.RLIMIT_AS, (BYTES, BYTES))
-
-
-def run(text):
+def run(text, seconds=SECONDS):
     """The status of a run, what it told, and its line on standard error."""
+
+    def limit():
+        resource.setrlimit(resource.RLIMIT_CPU, (seconds, seconds))
+        resource.setrlimit(resource.RLIMIT_AS, (BYTES, BYTES))
+
     ran = subprocess.run([PROGRAM], input=text.encode(), capture_output=True, preexec_fn=limit)
     return ran.returncode, ran.stdout.decode(), ran.stderr.decode().rstrip("\n")
 
@@ -50,6 +50,13 @@ def check_output(name):
     notices = "".join(line for line in lines if line[14:22] == "notice  ")
     got = run(json.dumps({**stored(name), "output": "notices"}))
     tell(f"{name}.json, notices", got[:2] == (status, notices), f"status {got[0]} {got[2]}")
+
+
+def check_first_example():
+    """The first rehearsal of docs/rehearse.md tells first what stands behind it."""
+    rehearsal, told = re.search(r"```json\n(.*?)```\n\n.*?```\n(.*?)```", Path("docs/rehearse.md").read_text(), re.S).groups()
+    got = run(rehearsal)
+    tell("docs/rehearse.md, its first example", got[0] == 0 and got[1].startswith(told), f"status {got[0]} {got[2]}")
 
 
 # The notices of a scenario and of its rehearsal.
@@ -251,6 +258,8 @@ def check_hostile():
     not_json = "am-rehearse: rehearsal refused: not JSON at line"
     refused = "am-rehearse: rehearsal refused at"
     endless = [{"receiver": "team"}]
+    letters = [{"matchers": [f'a{number}=~"\\\\w{{1,100}}"']} for number in range(40)]
+    crowded = {"matchers": ["a=b"], "continue": True, "routes": letters}
     for told, text, status, line in [
         ("arrays 100,000 deep", "[" * 100_000, 2, not_json),
         ("arrays 100,000 deep, closed", "[" * 100_000 + "]" * 100_000, 2, not_json),
@@ -265,11 +274,49 @@ def check_hostile():
         ("an outage without an end", json.dumps(plain(until="366d", outages=endless)), 0, ""),
         ("300,000 routes", json.dumps(theirs(route={"receiver": "team", "routes": [{}] * 300_000})), 2,
          f"{refused} /alertmanager/route/routes/63: value"),
+        ("large patterns that too many routes leave out",
+         json.dumps(theirs(route={"receiver": "team", "routes": [crowded]})), 2,
+         f"{refused} /alertmanager/route/routes/0/routes/31: value"),
         ("maintenance each millisecond", json.dumps(plain(until="366d", maintain="1ms")), 2, f"{refused} /until: full"),
     ]:
         got = run(text)
         is_right = got[0] == status and got[2].startswith(line) and (got[1] != "") == (status == 0)
         tell(f"{told}: {status} {line}", is_right, f"status {got[0]} {got[2][:200]}")
+
+
+# Trees of routes, five deep, within a second of a processor.
+
+def routes_below(widths, level=1, **members):
+    """As many routes side by side as the first number says, below each as many as the next, and so on.
+    Each has these members too, and takes an alert that has `x` at its level."""
+    return [
+        {
+            "matchers": [f'level{level}=~"{number}|x"'],
+            "routes": routes_below(widths[1:], level + 1, **members),
+            **members,
+        }
+        for number in range(widths[0] if widths else 0)
+    ]
+
+
+def check_trees():
+    """The widest tree that may be, which finds one route for an alert that each takes, or with `continue`
+    all of the lowest level; and a tree of 500 routes, which is refused at the sixty-fourth."""
+    widest = [3, 2, 1, 2, 3]
+    refused = "am-rehearse: rehearsal refused at /alertmanager/route/routes/0/routes/2: value"
+    for told, routes, wanted in [
+        ("63 routes five deep", routes_below(widest), (0, 1, "")),
+        ("63 routes five deep, with continue", routes_below(widest, **{"continue": True}), (0, 36, "")),
+        ("500 routes five deep", routes_below([4, 4, 5, 1, 4]), (2, 0, refused)),
+    ]:
+        labels = {f"level{level}": "x" for level in range(1, 6)}
+        rehearsal = theirs(
+            route={"receiver": "team", "routes": routes}, receivers=[{"name": "team", "webhook_configs": [{}]}]
+        )
+        text = json.dumps({**rehearsal, "alerts": [{"labels": labels}], "output": "notices"})
+        status, notices, line = run(text, seconds=1)
+        got = (status, len(notices.splitlines()), line)
+        tell(f"{told}, within a second: {wanted}", got == wanted, str(got)[:200])
 
 
 # The schema.
@@ -294,6 +341,7 @@ def main():
     scenarios = sorted(Path("examples").glob("*.txt"))
     for name in names:
         check_output(name)
+    check_first_example()
     for scenario in scenarios:
         check_scenario(scenario)
     tell("as many rehearsals and scenarios as there were", len(names) >= 20 and len(scenarios) >= 9)
@@ -303,6 +351,7 @@ def main():
     check_dropped()
     check_many_faults()
     check_hostile()
+    check_trees()
     check_schema()
     return 1 if FAILED else 0
 

@@ -1,0 +1,112 @@
+//! The alerts that are inserted, and the silences of some of them.
+use crate::words::Trouble;
+use am_alerts::alert::Alert;
+use am_alerts::labels::{LabelFault, Labels};
+use am_alerts::matcher::{Matcher, MatcherParts, Operator};
+use am_alerts::text::Text;
+use am_mute::silence::Silence;
+use std::alloc::{AllocError, Global};
+
+/// The severity of an alert that inhibits.
+pub const CRITICAL: &str = "critical";
+
+/// The severity of any other alert.
+pub const WARNING: &str = "warning";
+
+/// What tells one alert from another.
+#[derive(Clone, Copy)]
+pub struct Sample {
+    /// The number of its group, which is in the alertname.
+    pub group: usize,
+    /// Its own number, which is in the job.
+    pub number: usize,
+    pub instance: usize,
+    pub severity: &'static str,
+}
+
+impl Sample {
+    /// The alert of these numbers, which starts at 0.
+    pub fn build(&self, alloc: Global, ends: Option<u64>) -> Result<Alert, Trouble> {
+        let alertname = format!(in alloc; "A{:04}", self.group)?;
+        let instance = instance(alloc, self.instance)?;
+        let job = format!(in alloc; "exporter-{:05}", self.number)?;
+        let labels = labels(
+            alloc,
+            alertname.as_str(),
+            instance.as_str(),
+            job.as_str(),
+            self.severity,
+        )?;
+        Alert::new(labels, 0, ends).map_err(|_| Trouble::BadLine)
+    }
+}
+
+/// Six labels, four of which are given.
+fn labels<'a>(
+    alloc: Global,
+    alertname: &'a str,
+    instance: &'a str,
+    job: &'a str,
+    severity: &'a str,
+) -> Result<Labels, Trouble> {
+    let pairs = [
+        ("alertname", alertname),
+        ("cluster", "eu-west-1"),
+        ("instance", instance),
+        ("job", job),
+        ("severity", severity),
+        ("team", "platform"),
+    ];
+    match Labels::read(alloc, &pairs) {
+        Ok(labels) => Ok(labels),
+        Err(LabelFault::NoMemory) => Err(Trouble::NoMemory),
+        Err(_) => Err(Trouble::BadLine),
+    }
+}
+
+/// The label value of an instance.
+fn instance(alloc: Global, number: usize) -> Result<String, AllocError> {
+    format!(in alloc; "host-{number:05}:9100")
+}
+
+/// So many alerts, each of which is in the group of its number modulo the number of groups.
+pub fn spread(
+    alloc: Global,
+    count: usize,
+    groups: usize,
+    ends: Option<u64>,
+) -> Result<Vec<Alert>, Trouble> {
+    let mut alerts = Vec::new(alloc);
+    for number in 0..count {
+        let sample = Sample {
+            group: number.checked_rem(groups).unwrap_or(0),
+            number,
+            instance: number,
+            severity: WARNING,
+        };
+        alerts.push(sample.build(alloc, ends)?)?;
+    }
+    Ok(alerts)
+}
+
+/// Matches the label sets in which this label has this value.
+pub fn matcher(alloc: Global, name: &str, value: &str) -> Result<Vec<Matcher>, Trouble> {
+    let parts = MatcherParts {
+        name: Text::new(alloc, name)?,
+        op: Operator::Equal,
+        value: Text::new(alloc, value)?,
+    };
+    let mut matchers = Vec::new(alloc);
+    match Matcher::new(alloc, parts) {
+        Ok(matcher) => matchers.push(matcher)?,
+        Err(_) => return Err(Trouble::NoMemory),
+    }
+    Ok(matchers)
+}
+
+/// The silence of this id, which mutes an instance up to a moment.
+pub fn silence(alloc: Global, id: u64, number: usize, end: u64) -> Result<Silence, Trouble> {
+    let value = instance(alloc, number)?;
+    let matchers = matcher(alloc, "instance", value.as_str())?;
+    Silence::new(id, matchers, 0, end).map_err(|_| Trouble::BadLine)
+}

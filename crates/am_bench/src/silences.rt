@@ -1,0 +1,88 @@
+//! Alerts beside silences.
+use crate::alerts::{silence, spread};
+use crate::config::plain;
+use crate::desk::Desk;
+use crate::piece::{FIRST, SECOND, THIRD, flush, insert, tell_muted};
+use crate::watch::Watch;
+use crate::words::Trouble;
+use am_mute::silence::Silence;
+use std::alloc::Global;
+use std::rt::Clock;
+use std::time::CpuClock;
+
+/// One alert of so many has a silence.
+const STEP: usize = 11;
+
+/// Runs the piece on so many silences, and so many alerts in so many groups.
+pub fn run_silences(
+    rt: &(impl Print + Eprint + Clock + CpuClock),
+    alloc: Global,
+    silences: usize,
+    alerts: usize,
+    groups: usize,
+) -> Result<(), Trouble> {
+    let mut desk = Desk::open(alloc, plain(alloc)?)?;
+    run_steps(rt, alloc, &mut desk, silences, alerts, groups)
+}
+
+fn run_steps(
+    rt: &(impl Print + Eprint + Clock + CpuClock),
+    alloc: Global,
+    desk: &mut Desk,
+    silences: usize,
+    alerts: usize,
+    groups: usize,
+) -> Result<(), Trouble> {
+    let set = build_silences(alloc, silences)?;
+    mute(rt, alloc, desk, "new silences", set)?;
+    let new = spread(alloc, alerts, groups, None)?;
+    insert(rt, alloc, desk, "new inserts", 0, new)?;
+    flush_thrice(rt, alloc, desk, alerts)
+}
+
+/// Flushes all groups under the new silences, under the same, and under one that was changed.
+fn flush_thrice(
+    rt: &(impl Print + Eprint + Clock + CpuClock),
+    alloc: Global,
+    desk: &mut Desk,
+    alerts: usize,
+) -> Result<(), Trouble> {
+    let tally = flush(rt, alloc, desk, "first flush", FIRST, alerts)?;
+    tell_muted(rt, alerts, &tally)?;
+    flush(rt, alloc, desk, "unchanged flush", SECOND, alerts)?;
+    mute(rt, alloc, desk, "a changed silence", build_changed(alloc)?)?;
+    flush(rt, alloc, desk, "changed flush", THIRD, alerts)?;
+    Ok(())
+}
+
+/// Sets silences.
+fn mute(
+    rt: &(impl Print + Eprint + Clock + CpuClock),
+    alloc: Global,
+    desk: &mut Desk,
+    step: &str,
+    silences: Vec<Silence>,
+) -> Result<(), Trouble> {
+    let count = silences.len();
+    let watch = Watch::start(rt);
+    let replaced = desk.silence_all(alloc, 0, silences)?;
+    watch.stop(rt, step, count);
+    println!(rt; "{step}: accepted {count}, replaced {replaced}")?;
+    Ok(())
+}
+
+/// Silences that last longer than the piece, each of one alert.
+fn build_silences(alloc: Global, count: usize) -> Result<Vec<Silence>, Trouble> {
+    let mut silences = Vec::new(alloc);
+    for id in 0..count {
+        silences.push(silence(alloc, id as u64, id.saturating_mul(STEP), 2 * THIRD)?)?;
+    }
+    Ok(silences)
+}
+
+/// The first silence, as one that has ended.
+fn build_changed(alloc: Global) -> Result<Vec<Silence>, Trouble> {
+    let mut silences = Vec::new(alloc);
+    silences.push(silence(alloc, 0, 0, SECOND)?)?;
+    Ok(silences)
+}

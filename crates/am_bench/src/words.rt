@@ -1,0 +1,77 @@
+//! The words of a line, and what goes wrong.
+use am_board::fault::{BoardFault, Fault};
+use std::alloc::{AllocError, AllocFailed};
+use std::io;
+
+/// Why a bench ends before its time.
+#[derive(Clone, Copy, Debug, PartialEq, Eq)]
+pub enum Trouble {
+    /// A request for memory was refused.
+    NoMemory,
+    /// The input can't be read.
+    Unreadable,
+    /// A line of the input names no piece, or has other sizes than the piece takes.
+    BadLine,
+    /// A call of the board was refused.
+    Refused(Fault),
+    /// The standard output or error takes no more.
+    Unwritten,
+}
+
+impl From<AllocError> for Trouble {
+    fn from(_error: AllocError) -> Trouble {
+        Trouble::NoMemory
+    }
+}
+
+impl<T: Drop> From<AllocFailed<T>> for Trouble {
+    fn from(_refused: AllocFailed<T>) -> Trouble {
+        Trouble::NoMemory
+    }
+}
+
+impl From<Fault> for Trouble {
+    fn from(fault: Fault) -> Trouble {
+        Trouble::Refused(fault)
+    }
+}
+
+impl From<BoardFault> for Trouble {
+    fn from(fault: BoardFault) -> Trouble {
+        match fault {
+            BoardFault::NoMemory => Trouble::NoMemory,
+            BoardFault::BadConfig(_) => Trouble::BadLine,
+        }
+    }
+}
+
+impl From<io::Error> for Trouble {
+    fn from(_error: io::Error) -> Trouble {
+        Trouble::Unwritten
+    }
+}
+
+/// The words of a line that are left.
+#[derive(Drop)]
+pub struct Words<'a> {
+    rest: &'a str,
+}
+
+impl<'a> Words<'a> {
+    /// The words of this line.
+    pub fn of(line: &'a str) -> Words<'a> {
+        Words { rest: line }
+    }
+
+    /// The next word. Words stand one space apart.
+    pub fn word(&mut self) -> &'a str {
+        let (word, rest) = self.rest.split_once(' ').unwrap_or((self.rest, ""));
+        self.rest = rest;
+        word
+    }
+
+    /// The next word, as a size.
+    pub fn size(&mut self) -> Result<usize, Trouble> {
+        self.word().parse::<usize>().map_err(|_| Trouble::BadLine)
+    }
+}

@@ -1,4 +1,6 @@
 pub mod Causes
+pub mod DuePlaces
+pub mod DueWalk
 pub mod Ends
 pub mod FirstDue
 pub mod Outlooks

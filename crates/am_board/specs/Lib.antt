@@ -1,5 +1,6 @@
 pub mod Beginning
 pub mod Board
+pub mod Due
 pub mod Faults
 pub mod Finishing
 pub mod Group

@@ -1,19 +1,16 @@
 //! Begins.
-ghost use Rattle.std.specs.Prelude.{◌≡◌, ◌≢◌, ℕ, ◌+◌, ◌<◌, ◌≤◌, [], None, length, map, slice_index_or};
-ghost use Rattle.std.specs.Prelude.{All, IfSome, IsTrue, MatchResult, OnOk, vec_len, vec_capacity};
-ghost use Rattle.std.specs.Option.{option_map};
-ghost use Rattle.std.specs.Ordering.{is_gt};
+ghost use Rattle.std.specs.Prelude.{◌≡◌, ◌≢◌, ℕ, ◌+◌, ◌<◌, ◌≤◌, [], None, length};
+ghost use Rattle.std.specs.Prelude.{All, IsTrue, MatchResult, OnOk, vec_len, vec_capacity};
 ghost use Rattle.am_alerts.specs.RoutingTree.{route_at};
 ghost use Rattle.am_nflog.specs.Log.{is_known};
 ghost use Rattle.am_nflog.specs.declared.key.LogKey.{LogKey};
-ghost use Rattle.am_model.specs.Begin.{asked_of, due_cmp, taken};
+ghost use Rattle.am_model.specs.Begin.{asked_of, taken};
 ghost use Rattle.am_model.specs.Causes.{begin_cause};
 ghost use Rattle.am_model.specs.Records.{entry};
 ghost use Rattle.am_board.specs.History.{reply_of, IsFresh};
-ghost use Rattle.am_board.specs.Kept.{state_of, group_state, flush_state};
+ghost use Rattle.am_board.specs.Kept.{state_of, group_state};
 ghost use Rattle.am_board.specs.LogRows.{log_rows};
-ghost use Rattle.am_model.specs.Lists.{lesser};
-ghost use Rattle.am_board.specs.Beginning.{IsPlannedFlush, may_take, first_of, IsFirst, IsChosen, IsEnd};
+ghost use Rattle.am_board.specs.Beginning.{IsPlannedFlush, IsChosen, IsEnd};
 ghost use Rattle.am_model.specs.State.{moment, same_name};
 ghost use Rattle.am_board.specs.Step.{IsGood, Accepts, Stays, IsAnswer};
 ghost use Rattle.am_model.specs.declared.config.TheConstants.{MAX_INTEGRATIONS};
@@ -23,8 +20,8 @@ ghost use Rattle.am_model.specs.declared.group.GroupName.{GroupName};
 
 use crate::config::Config;
 use crate::fault::Fault;
-use crate::flush::{OpenFlush, is_open};
-use crate::group::{Group, GroupName};
+use crate::flush::OpenFlush;
+use crate::group::GroupName;
 use crate::plan::{PlannedFlush, plan};
 use crate::record::{Call, Record, Reply};
 use crate::state::State;
@@ -79,7 +76,7 @@ pub(crate) fn take_group(
         return Err(Fault::HistoryFull);
     }
     let t = state.moment(now);
-    let Some(place) = first_due(state.groups.as_slice(), state.flushes.as_slice(), t) else {
+    let Some(place) = state.groups.first_due(state.flushes.as_slice(), t) else {
         return begin_nothing(state, pass, now, t);
     };
     let due = due_again(config, state.groups.at(place).name.route, t);
@@ -211,55 +208,4 @@ fn reserve_rows(
         })?;
     }
     Ok(())
-}
-
-/// The place of the group to take at `t`.
-pub(crate) fn first_due(groups: &[Group], flushes: &[OpenFlush], t: u64) -> Option<usize>
-    ensures within { IfSome result (λ i. i < length groups.now) }
-    ensures first { IsFirst groups.now result (first_of (map flush_state flushes.now) t (map group_state groups.now)) }
-{
-    let mut best: Option<usize> = None;
-    for i in (0..groups.len()).rev() {
-        if may_begin(&groups[i], flushes, t) {
-            best = Some(earlier(groups, i, best));
-        }
-    }
-    best
-}
-
-/// Whether a group may be taken at `t`: it is due, and no flush of it is open.
-fn may_begin(group: &Group, flushes: &[OpenFlush], t: u64) -> bool
-    ensures { result ≡ may_take (map flush_state flushes.now) t (group_state group.now) }
-{
-    group.due <= t && !is_open(flushes, &group.name)
-}
-
-/// The place of the group that is taken before the other, if there is another.
-fn earlier(groups: &[Group], i: usize, other: Option<usize>) -> usize
-    requires here { i < length groups.now }
-    requires there { IfSome other (λ j. j < length groups.now) }
-    ensures within { result < length groups.now }
-    ensures lesser { (d : Group) → group_state (slice_index_or groups.now result d)
-        ≡ lesser due_cmp (group_state (slice_index_or groups.now i d))
-        (option_map (λ j. group_state (slice_index_or groups.now j d)) other) }
-{
-    match other {
-        None => i,
-        Some(j) => if is_behind(&groups[i], &groups[j]) {
-            j
-        } else {
-            i
-        },
-    }
-}
-
-/// Whether a group is to be taken after another: by due moment, then by name.
-fn is_behind(group: &Group, other: &Group) -> bool
-    ensures { result ≡ is_gt (due_cmp (group_state group.now) (group_state other.now)) }
-{
-    group
-        .due
-        .cmp(&other.due)
-        .then_with(|| group.name.cmp(&other.name))
-        .is_gt()
 }

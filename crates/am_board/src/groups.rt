@@ -2,29 +2,33 @@
 ghost use Rattle.std.specs.Prelude.{◌≡◌, ◌^◌, ◌<◌, ◌≤◌, [], length, slice_index_or, OnOk};
 
 mod change;
+mod first;
 
+use crate::due::DueSet;
 use crate::group::{Group, GroupName};
 use indexmap::IndexMap;
 use std::alloc::{AllocError, Global};
 use std::marker::Model;
 
-/// Groups of different names, in the order in which they were made, with room for more.
+/// Groups of different names, in the order in which they were made, with room for more, and when they
+/// are due.
 #[derive(Debug, Drop)]
 pub(crate) struct Groups {
     groups: IndexMap<GroupName, Group>,
+    due: DueSet,
 }
 
 impl Model for Groups {
     ghost use Rattle.std.specs.Map.{values_of};
     ghost use Rattle.indexmap.specs.IndexMap.{spare};
-    ghost use Rattle.am_board.specs.GroupList.{GroupList, name_of};
-    ghost use Rattle.am_board.specs.Keyed.{AreKeyed};
+    ghost use Rattle.am_board.specs.Due.{IsTied};
+    ghost use Rattle.am_board.specs.GroupList.{GroupList};
 
     ghost Value = { GroupList };
 
     ghost view = { λ g. record { items = values_of g.groups.entries; room = spare g.groups } };
 
-    ghost invariant = { λ g. AreKeyed name_of g.groups.entries };
+    ghost invariant = { λ g. IsTied g.due g.groups.entries };
 }
 
 impl Groups {
@@ -34,6 +38,7 @@ impl Groups {
     {
         Groups {
             groups: IndexMap::new(alloc),
+            due: DueSet::new(alloc),
         }
     }
 

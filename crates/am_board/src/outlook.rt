@@ -13,7 +13,6 @@ ghost use Rattle.am_board.specs.LogRows.{log_rows};
 ghost use Rattle.am_board.specs.Outlook.{reason_among, reason_by_row, reason_ended, reason_told_by};
 ghost use Rattle.am_board.specs.Step.{IsGood};
 
-use crate::begin::first_due;
 use crate::board::Board;
 use crate::config::{Config, Integration};
 use crate::flush::ToldSets;
@@ -57,10 +56,10 @@ impl Board {
 fn next_due_of(state: &State) -> Option<u64>
     ensures { result ≡ next_due (state_of state.now) }
 {
-    let groups = state.groups.as_slice();
-    match first_due(groups, state.flushes.as_slice(), MAX_DEADLINE) {
+    let flushes = state.flushes.as_slice();
+    match state.groups.first_due(flushes, MAX_DEADLINE) {
         None => None,
-        Some(place) => Some(groups[place].due),
+        Some(place) => Some(state.groups.at(place).due),
     }
 }
 
@@ -76,7 +75,7 @@ pub(crate) fn outlook_of(
     ensures { IfOk result (λ outlook. outlook ≡ outlook_at config.now (state_of state.now) (moment (state_of state.now) now)) }
 {
     let t = state.moment(now);
-    let Some(place) = first_due(state.groups.as_slice(), state.flushes.as_slice(), t) else {
+    let Some(place) = state.groups.first_due(state.flushes.as_slice(), t) else {
         return Ok(None);
     };
     let group = state.groups.at(place);

@@ -35,6 +35,7 @@ impl Groups {
         ensures items { self.new.items ≡ self.old.items ++ group ∷ [] }
         ensures room { self.old.room ≤ self.new.room + 1 }
     {
+        self.due.put(&group.name, group.due);
         self.groups.insert(name, group).unwrap();
     }
 
@@ -74,7 +75,9 @@ impl Groups {
         ensures { Changes (Gets (member_state member) wait t) i self.old self.new }
     {
         let group = &mut self.groups[i];
+        let before = group.due;
         group.insert(member, wait, t);
+        self.due.change(&group.name, before, group.due);
     }
 
     /// The group at a place was taken, and is due at this moment again.
@@ -82,7 +85,10 @@ impl Groups {
         requires { i < length self.old.items }
         ensures { Changes (λ from to. to ≡ record from { due = due; flushed = true }) i self.old self.new }
     {
-        mark_begun(&mut self.groups[i], due);
+        let group = &mut self.groups[i];
+        let before = group.due;
+        mark_begun(group, due);
+        self.due.change(&group.name, before, due);
     }
 
     /// The group at a place was taken, and nobody is asked: it is due at this moment again, and the
@@ -94,7 +100,9 @@ impl Groups {
         ensures count { (d : Group) → result ≡ count_resolved t (group_state (slice_index_or self.old.items i d)) }
     {
         let group = &mut self.groups[i];
+        let before = group.due;
         mark_begun(group, due);
+        self.due.change(&group.name, before, due);
         take_resolved(group, t)
     }
 
@@ -123,7 +131,9 @@ impl Groups {
                 ensures { (result ≡ not (is_deserted (group_state group.old))) × (group.new ≡ group.old) }
             { !is_without_alerts(group) },
         );
-        before - self.groups.len()
+        let gone = before - self.groups.len();
+        self.due.tidy(self.groups.values().as_slice(), gone);
+        gone
     }
 }
 

@@ -1,8 +1,7 @@
-use Rattle.std.proofs.Common.{◌<◌, List, length, Ok, Some, vec_len, ap, ◌∙◌, arith}
+use Rattle.std.proofs.Common.{◌<◌, List, length, Ok, Some, vec_len, refl, ap, ◌∙◌, arith}
 use Rattle.std.proofs.lemmas.List.{length-map}
 use Rattle.std.proofs.lemmas.Result.{err_from_is_err_and}
 use Rattle.am_board.specs.declared.begin.ChosenGroup.{ChosenGroup}
-use Rattle.am_board.specs.declared.group.Group.{Group}
 use Rattle.am_model.specs.Begin.{asked_of, notice_for}
 use Rattle.am_model.specs.Causes.{begin_cause, opens_by}
 use Rattle.am_model.specs.Notice.{NoticeData}
@@ -17,7 +16,7 @@ use Rattle.am_board.proofs.begin.take_group.Goals.{After-at, After-due_again-due
 use Rattle.am_board.proofs.keeping.Staying.{stays_itself}
 
 within : (c : After-at) → c.in-Some.place < length c.args.state.now.groups.items
-within c = omega (arith, c.in-Some.ensures.within, ap (λ (gs : List Group). length gs) c.as_slice.ensures.value)
+within c = c.in-Some.ensures.within
 
 pub due_again-due-requires-clause-route : goal.due_again-due-requires-clause-route
 due_again-due-requires-clause-route c =
@@ -29,14 +28,14 @@ chosen c = record { pass = c.args.pass; now = c.args.now; t = c.moment-t.result;
 
 takes : (c : After-due_again-due) → IsChosen c.args.config.now c.args.state.now (chosen c) c.at.result.now
 takes c =
-    taking_found c.args.config.now c.args.state.now (chosen c) c.at.result.now c.as_slice.result.now c.as_slice-2.result.now c.as_slice.ensures.value c.as_slice-2.ensures.value
+    taking_found c.args.config.now c.args.state.now (chosen c) c.at.result.now c.args.state.now.groups.items c.as_slice.result.now refl c.as_slice.ensures.value
     c.moment-t.ensures c.in-Some.ensures.within (c.in-Some.ensures.first c.at.result.now) c.at.ensures c.due_again-due.ensures
 
 pub returns-in_default : goal.returns-in_default
 returns-in_default c =
     let config = c.args.config.now in
     let s = c.args.state.now in
-    let none = taken-none s c.moment-t.result c.as_slice.result.now c.as_slice-2.result.now c.as_slice.ensures.value c.as_slice-2.ensures.value c.in_default.ensures.first in
+    let none = taken-none s c.moment-t.result s.groups.items c.as_slice.result.now refl c.as_slice.ensures.value c.in_default.ensures.first in
     let cause = cause-closed config s c.args.now c.moment-t.result c.moment-t.ensures (c.has_room.ensures.0 c.if-not-has_room.false) (ap (λ o. opens_by config (state_of s) c.moment-t.result o) none) in
     told config c.args.id c.args.pass c.args.now s c.begin_nothing.new.state (begin_cause config (vec_len s.history) (state_of s) (moment (state_of s) c.args.now)) c.begin_nothing.result cause
     (c.begin_nothing.ensures config c.args.id c.requires.good c.moment-t.ensures none)

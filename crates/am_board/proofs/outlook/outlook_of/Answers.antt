@@ -1,12 +1,11 @@
-use Rattle.std.proofs.Common.{◌<◌, List, length, ap, arith}
-use Rattle.am_board.specs.declared.group.Group.{Group}
+use Rattle.std.proofs.Common.{◌<◌, length}
 use Rattle.am_board.proofs.beginning.PlannedFlushes.{members-apart}
 use Rattle.am_board.proofs.keeping.GroupNames.{routed_at}
 use Rattle.am_board.proofs.outlook.outlook_of.Goals as goal
 use Rattle.am_board.proofs.outlook.outlook_of.Goals.{After-at-group}
 
 within : (c : After-at-group) → c.in-Some.place < length c.args.state.now.groups.items
-within c = omega (arith, c.in-Some.ensures.within, ap (λ (gs : List Group). length gs) c.as_slice.ensures.value)
+within c = c.in-Some.ensures.within
 
 pub outlook_on-requires-clause-route : goal.outlook_on-requires-clause-route
 outlook_on-requires-clause-route c =

@@ -3,12 +3,14 @@ use Rattle.std.specs.Prelude.{OnOk}
 use Rattle.std.specs.List.{position}
 use Rattle.std.specs.Map.{values_of}
 use Rattle.indexmap.specs.IndexMap.{insert_entry}
+use Rattle.am_board.specs.Due.{AreDue}
 use Rattle.am_board.specs.GroupList.{GroupList, name_of}
 use Rattle.am_board.specs.Keyed.{AreKeyed}
 use Rattle.am_model.specs.Lists.{put_in}
 use Rattle.am_model.specs.State.{same_name}
 use Rattle.am_board.specs.declared.group.Group.{Group}
 use Rattle.am_model.specs.declared.group.GroupName.{GroupName}
+use Rattle.am_board.proofs.keeping.DueKeys.{due_push}
 use Rattle.am_board.proofs.keeping.Keyed.{same_key, put_in-entries, AreKeyed-insert}
 use Rattle.am_model.proofs.lists.Places.{put_new}
 use Rattle.am_board.proofs.groups.Groups.add.Goals as goal
@@ -22,19 +24,28 @@ entered c =
     ∙ ap (λ n. insert_entry same_name c.self.inside.groups.entries n c.args.group) c.requires.name
 
 keyed : (c : After-unwrap) → AreKeyed name_of c.insert.new.self.entries
-keyed c = subst (AreKeyed name_of) (sym (entered c)) (AreKeyed-insert same_name name_of same_name-is c.args.group c.self.inside.groups.entries c.self.invariant)
+keyed c = subst (AreKeyed name_of) (sym (entered c)) (AreKeyed-insert same_name name_of same_name-is c.args.group c.self.inside.groups.entries c.self.invariant.keyed)
 
 added : (c : After-unwrap) → values_of c.insert.new.self.entries ≡ c.args.self.now.items ++ c.args.group ∷ []
 added c =
     let like = same_key same_name name_of in
     let missing : position (like c.args.group) c.args.self.now.items ≡ None = ap (λ (n : GroupName). position (λ (g : Group). same_name n g.name) c.args.self.now.items) (sym c.requires.name) ∙ c.requires.missing in
     ap values_of (entered c)
-    ∙ put_in-entries same_name name_of c.args.group c.self.inside.groups.entries c.self.invariant
+    ∙ put_in-entries same_name name_of c.args.group c.self.inside.groups.entries c.self.invariant.keyed
     ∙ ap (λ (k : GroupList). put_in like c.args.group k.items) c.self.view_is
     ∙ put_new like c.args.group c.args.self.now.items missing
 
 pub invariant_of-self : goal.invariant_of-self
-invariant_of-self c = keyed ((goal.at.invariant_of-self c).After-unwrap)
+invariant_of-self c =
+    let at = (goal.at.invariant_of-self c).After-unwrap in
+    let before = c.self.inside.due in
+    let after = c.put.new.self in
+    record {
+      keyed = keyed at;
+      distinct = c.insert.ensures.unique;
+      due = subst (AreDue after) (sym (added at))
+          (due_push before after c.args.self.now.items c.args.group (subst (λ (k : GroupList). AreDue before k.items) c.self.view_is c.self.invariant.due) c.put.ensures.has c.put.ensures.keeps);
+    }
 
 pub returns-clause-items : goal.returns-clause-items
 returns-clause-items c = added ((goal.at.returns-clause-items c).After-unwrap)

@@ -1,17 +1,21 @@
 use Rattle.std.proofs.Common.{◌≡◌, true, ap, ◌∙◌}
 use Rattle.indexmap.specs.IndexMap.{spare}
-use Rattle.am_board.specs.GroupList.{name_of}
 use Rattle.am_board.specs.Kept.{group_state}
-use Rattle.am_model.specs.State.{GroupState, same_name}
+use Rattle.am_model.specs.State.{GroupState}
 use Rattle.am_board.specs.declared.group.Group.{Group}
 use Rattle.am_board.proofs.inserting.GroupRoom.{changes_at, lent_as}
-use Rattle.am_board.proofs.keeping.Keyed.{AreKeyed-set}
+use Rattle.am_board.proofs.keeping.DueKeys.{had_at, tied_change}
 use Rattle.am_model.specs.Begin.{count_resolved, without_resolved}
 use Rattle.am_board.proofs.groups.Groups.begin_quiet.Goals as goal
 
+pub change-requires : goal.change-requires
+change-requires c =
+    had_at c.self.inside.due c.self.inside.groups.entries c.args.i c.index_mut-group.result.now c.mark_begun.new.group.name c.self.invariant c.index_mut-group.ensures.value (ap (λ (g : Group). g.name) c.mark_begun.ensures)
+
 pub invariant_of-self : goal.invariant_of-self
 invariant_of-self c =
-    AreKeyed-set same_name name_of c.self.inside.groups.entries c.args.i c.index_mut-group.result.now c.take_resolved.new.group c.self.invariant c.index_mut-group.ensures.value (ap (λ (g : GroupState). g.name) c.take_resolved.ensures.group ∙ ap (λ (g : Group). g.name) c.mark_begun.ensures)
+    tied_change c.self.inside.due c.change.new.self c.self.inside.groups.entries c.args.i c.index_mut-group.result.now c.take_resolved.new.group c.mark_begun.new.group.name c.args.due c.self.invariant c.index_mut-group.ensures.value
+    (ap (λ (g : Group). g.name) c.mark_begun.ensures) (ap (λ (g : GroupState). g.name) c.take_resolved.ensures.group ∙ ap (λ (g : Group). g.name) c.mark_begun.ensures) (ap (λ (g : GroupState). g.due) c.take_resolved.ensures.group ∙ ap (λ (g : Group). g.due) c.mark_begun.ensures) c.change.ensures.has c.change.ensures.keeps
 
 pub returns-clause-group : goal.returns-clause-group
 returns-clause-group c =

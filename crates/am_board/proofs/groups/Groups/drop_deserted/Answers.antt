@@ -2,6 +2,8 @@ use Rattle.std.proofs.Common.{◌≡◌, ◌≤◌, not, length, map, filter, ap
 use Rattle.std.specs.List.{count_by}
 use Rattle.std.specs.Map.{values_of}
 use Rattle.indexmap.proofs.CallerLemmas.{filter-RetainsPairs}
+use Rattle.std.proofs.lemmas.List.Elements.{All-filter}
+use Rattle.am_board.specs.Due.{key_of, AreDue, HasKey}
 use Rattle.am_board.specs.declared.group.Group.{Group}
 use Rattle.am_model.specs.declared.group.GroupName.{GroupName}
 use Rattle.am_board.specs.Group.{names_of, AreRouted}
@@ -22,10 +24,24 @@ stay c = filter-RetainsPairs _ _ _ (λ k v b w g call. search rules) _ _ c.retai
 left : (c : After-retain) → values_of c.retain.new.self.entries ≡ filter (λ g. not (is_deserted (group_state g))) (values_of c.self.inside.groups.entries)
 left c = ap values_of (stay c) ∙ values-filter (λ (g : Group). not (is_deserted (group_state g))) c.self.inside.groups.entries
 
+keyed : (c : After-retain) → AreKeyed name_of c.retain.new.self.entries
+keyed c =
+    subst (AreKeyed name_of) (sym (stay c))
+    (AreKeyed-filter same_name name_of (λ e. not (is_deserted (group_state e.1))) c.self.inside.groups.entries c.self.invariant.keyed)
+
+-- the groups that are left have the keys that they had
+pub tidy-requires : goal.tidy-requires
+tidy-requires c =
+    subst (AreDue c.self.inside.due) (sym (c.as_slice.ensures ∙ (c.values.ensures.rest ∙ left ((goal.at.tidy-requires c).After-retain))))
+    (All-filter (λ g. not (is_deserted (group_state g))) (λ (g : Group). HasKey c.self.inside.due (key_of g)) (values_of c.self.inside.groups.entries) c.self.invariant.due)
+
 pub invariant_of-self : goal.invariant_of-self
 invariant_of-self c =
-    subst (AreKeyed name_of) (sym (stay ((goal.at.invariant_of-self c).After-retain)))
-    (AreKeyed-filter same_name name_of (λ e. not (is_deserted (group_state e.1))) c.self.inside.groups.entries c.self.invariant)
+    record {
+      keyed = keyed ((goal.at.invariant_of-self c).After-retain);
+      distinct = c.retain.ensures.unique;
+      due = subst (AreDue c.tidy.new.self) (c.as_slice.ensures ∙ c.values.ensures.rest) c.tidy.ensures;
+    }
 
 pub returns-clause-groups : goal.returns-clause-groups
 returns-clause-groups c =

@@ -9,5 +9,5 @@ use Rattle.am_board.proofs.groups.Groups.find.Goals as goal
 pub returns-clause-place : goal.returns-clause-place
 returns-clause-place c =
     c.get_index_of.ensures.index
-    ∙ place_of-keys same_name name_of c.args.name.now c.self.inside.groups.entries c.self.invariant
+    ∙ place_of-keys same_name name_of c.args.name.now c.self.inside.groups.entries c.self.invariant.keyed
     ∙ ap (λ (k : GroupList). position (λ (g : Group). same_name c.args.name.now g.name) k.items) c.self.view_is

@@ -1,15 +1,19 @@
+use Rattle.std.proofs.Common.{refl}
 use Rattle.indexmap.specs.IndexMap.{spare}
-use Rattle.am_board.specs.GroupList.{name_of}
-use Rattle.am_model.specs.State.{same_name}
 use Rattle.am_board.proofs.inserting.GroupRoom.{changes_at}
-use Rattle.am_board.proofs.keeping.Keyed.{AreKeyed-set}
+use Rattle.am_board.proofs.keeping.DueKeys.{had_at, tied_change}
 use Rattle.am_board.specs.Group.{Gets}
 use Rattle.am_board.specs.Kept.{member_state}
 use Rattle.am_board.proofs.groups.Groups.insert.Goals as goal
 
+pub change-requires : goal.change-requires
+change-requires c =
+    had_at c.self.inside.due c.self.inside.groups.entries c.args.i c.index_mut-group.result.now c.insert.new.self.name c.self.invariant c.index_mut-group.ensures.value c.insert.ensures.name
+
 pub invariant_of-self : goal.invariant_of-self
 invariant_of-self c =
-    AreKeyed-set same_name name_of c.self.inside.groups.entries c.args.i c.index_mut-group.result.now c.insert.new.self c.self.invariant c.index_mut-group.ensures.value (c.insert.ensures.name)
+    tied_change c.self.inside.due c.change.new.self c.self.inside.groups.entries c.args.i c.index_mut-group.result.now c.insert.new.self c.insert.new.self.name c.insert.new.self.due c.self.invariant c.index_mut-group.ensures.value
+    c.insert.ensures.name c.insert.ensures.name refl c.change.ensures.has c.change.ensures.keeps
 
 pub returns : goal.returns
 returns c =

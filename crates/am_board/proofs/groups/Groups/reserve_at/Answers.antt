@@ -1,17 +1,16 @@
-use Rattle.std.proofs.Common.{sym, subst}
+use Rattle.std.proofs.Common.{ap, sym, subst}
 use Rattle.indexmap.specs.IndexMap.{spare}
-use Rattle.am_board.specs.GroupList.{name_of}
-use Rattle.am_model.specs.State.{same_name}
+use Rattle.am_model.specs.State.{GroupState}
 use Rattle.am_board.specs.declared.group.Group.{Group}
 use Rattle.am_board.proofs.inserting.GroupRoom.{changes_at, written_at}
-use Rattle.am_board.proofs.keeping.Keyed.{AreKeyed-set}
+use Rattle.am_board.proofs.keeping.DueKeys.{tied_same}
 use Rattle.am_board.specs.Group.{Fits, IsReserved}
 use Rattle.std.proofs.lemmas.Result.{on_ok_weaker}
 use Rattle.am_board.proofs.groups.Groups.reserve_at.Goals as goal
 
 pub invariant_of-self : goal.invariant_of-self
 invariant_of-self c =
-    AreKeyed-set same_name name_of c.self.inside.groups.entries c.args.i c.index_mut.result.now c.reserve_members.new.group c.self.invariant c.index_mut.ensures.value (c.reserve_members.ensures.kept.name)
+    tied_same c.self.inside.due c.self.inside.groups.entries c.args.i c.index_mut.result.now c.reserve_members.new.group c.self.invariant c.index_mut.ensures.value (c.reserve_members.ensures.kept.name) (ap (λ (g : GroupState). g.due) c.reserve_members.ensures.kept.state)
 
 pub returns-clause-kept : goal.returns-clause-kept
 returns-clause-kept c =

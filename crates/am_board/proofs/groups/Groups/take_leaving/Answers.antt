@@ -1,11 +1,10 @@
 use Rattle.std.proofs.Common.{◌≡◌, map, ap, ◌∙◌}
 use Rattle.indexmap.specs.IndexMap.{spare}
-use Rattle.am_board.specs.GroupList.{name_of}
 use Rattle.am_board.specs.Kept.{group_state, member_state, stamped}
-use Rattle.am_model.specs.State.{GroupState, same_name}
+use Rattle.am_model.specs.State.{GroupState}
 use Rattle.am_board.specs.declared.group.Group.{Group}
 use Rattle.am_board.proofs.inserting.GroupRoom.{changes_at, lent_as}
-use Rattle.am_board.proofs.keeping.Keyed.{AreKeyed-set}
+use Rattle.am_board.proofs.keeping.DueKeys.{tied_same}
 use Rattle.std.specs.Prelude.{count_by}
 use Rattle.am_model.specs.Finish.{is_leaving}
 use Rattle.am_model.specs.Lists.{without}
@@ -13,7 +12,7 @@ use Rattle.am_board.proofs.groups.Groups.take_leaving.Goals as goal
 
 pub invariant_of-self : goal.invariant_of-self
 invariant_of-self c =
-    AreKeyed-set same_name name_of c.self.inside.groups.entries c.args.i c.index_mut.result.now c.take_leaving.new.group c.self.invariant c.index_mut.ensures.value (ap (λ (g : GroupState). g.name) c.take_leaving.ensures.group)
+    tied_same c.self.inside.due c.self.inside.groups.entries c.args.i c.index_mut.result.now c.take_leaving.new.group c.self.invariant c.index_mut.ensures.value (ap (λ (g : GroupState). g.name) c.take_leaving.ensures.group) (ap (λ (g : GroupState). g.due) c.take_leaving.ensures.group)
 
 pub returns-clause-group : goal.returns-clause-group
 returns-clause-group c =

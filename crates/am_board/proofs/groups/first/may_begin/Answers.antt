@@ -2,7 +2,7 @@ use Rattle.std.proofs.Common.{◌≡◌, true, not, ◌&&◌, nat_le, map, sym, 
 use Rattle.am_board.specs.Kept.{flush_state}
 use Rattle.am_model.specs.State.{is_flushing}
 use Rattle.am_board.proofs.beginning.FirstDue.{is_flushing-kept}
-use Rattle.am_board.proofs.begin.may_begin.Goals as goal
+use Rattle.am_board.proofs.groups.first.may_begin.Goals as goal
 
 pub returns-then-group-t : goal.returns-then-group-t
 returns-then-group-t c =

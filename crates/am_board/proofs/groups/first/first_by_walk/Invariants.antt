@@ -2,7 +2,7 @@ use Rattle.std.proofs.Common.{◌<◌, length, drop, map}
 use Rattle.std.specs.Prelude.{IfSome}
 use Rattle.am_board.specs.Kept.{group_state, flush_state}
 use Rattle.am_board.specs.Beginning.{first_of, IsFirst}
-use Rattle.am_board.proofs.begin.first_due.Given as goal
+use Rattle.am_board.proofs.groups.first.first_by_walk.Given as goal
 
 -- the best of the groups from here on is there, and it is the one that is taken of them
 abbrev pub invariant-loop-i : goal.invariant-loop-i

@@ -1,0 +1,17 @@
+use Rattle.std.proofs.Common.{true≢false, sym, ap, ◌∙◌}
+use Rattle.std.specs.Ordering.{is_eq}
+use Rattle.am_board.specs.Due.{has_key, key_cmp}
+use Rattle.am_board.specs.declared.due.DueSet.{DueSet}
+use Rattle.am_board.proofs.keeping.DueKeys.{had_or}
+use Rattle.am_board.proofs.due.DueSet.insert.Goals as goal
+use Rattle.am_board.proofs.due.DueSet.insert.Goals.{in-Ok, in-Err}
+
+pub returns-clause-keeps : goal.returns-clause-keeps
+returns-clause-keeps c other had whole =
+    elim c.match-insert.branch [
+      | in-Ok w ↦
+          let was = sym (ap (λ (s : DueSet). s.whole) w.self-is) ∙ whole in
+          ap (λ (s : DueSet). has_key s.keys.keys other) w.self-is
+          ∙ (w.in-Ok.ensures.updates.0 other ∙ had_or (is_eq (key_cmp c.args.key other)) (has_key c.args.self.now.keys.keys other) (had was))
+      | in-Err w ↦ absurd (true≢false (sym whole ∙ (ap (λ (s : DueSet). s.whole) w.self-is ∙ w.lose.ensures)))
+    ]

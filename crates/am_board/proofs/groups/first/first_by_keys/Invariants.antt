@@ -1,0 +1,15 @@
+use Rattle.std.proofs.Common.{map}
+use Rattle.std.specs.List.Sorted.{IsStrictlySortedBy}
+use Rattle.std.specs.Map.{values_of}
+use Rattle.am_board.specs.Due.{key_cmp}
+use Rattle.am_board.specs.Kept.{flush_state}
+use Rattle.am_board.proofs.beginning.DueWalk.{AreAhead}
+use Rattle.am_board.proofs.groups.first.first_by_keys.Given as goal
+
+-- the keys that are left are in order, and each group that may be taken has its own among them
+abbrev pub invariant-loop-key : goal.invariant-loop-key
+invariant-loop-key l =
+    (goal.iterator-loop-key).can_next l.key-iterator
+    × (goal.iterator-loop-key).is_finite l.key-iterator
+    × IsStrictlySortedBy key_cmp l.key-iterator
+    × AreAhead (map flush_state l.flushes) l.t (values_of l.groups.entries) l.key-iterator

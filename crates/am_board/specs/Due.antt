@@ -1,0 +1,56 @@
+-- When groups are due, as keys in order: what the set of them has, while it is whole.
+use Rattle.std.specs.Prelude.{◌≡◌, ◌<◌, ℕ, Bool, true, false, Option, Some, None, List, All, IsTrue, length, slice_index_or}
+use Rattle.std.specs.List.{list_any, IsDistinct}
+use Rattle.std.specs.Map.{keys_of, values_of}
+use Rattle.std.specs.Ordering.{is_eq, ordering_then, nat_cmp}
+use Rattle.std.specs.declared.cmp.Ordering.{Ordering}
+use Rattle.am_model.specs.State.{FlushState, is_flushing, name_cmp, same_name}
+use Rattle.am_model.specs.declared.group.GroupName.{GroupName}
+use Rattle.am_board.specs.declared.due.DueKey.{DueKey}
+use Rattle.am_board.specs.declared.due.DueSet.{DueSet}
+use Rattle.am_board.specs.declared.group.Group.{Group}
+use Rattle.am_board.specs.GroupList.{name_of}
+use Rattle.am_board.specs.Keyed.{AreKeyed}
+
+-- the order of keys: by due moment, then by name
+abbrev pub key_cmp : DueKey → DueKey → Ordering
+key_cmp a b = ordering_then (nat_cmp a.due b.due) (name_cmp a.name b.name)
+
+-- whether a key is among these
+abbrev pub has_key : List DueKey → DueKey → Bool
+has_key keys key = list_any (λ k. is_eq (key_cmp key k)) keys
+
+-- the set has a key, if it is whole
+abbrev pub HasKey : DueSet → DueKey → Type 0
+HasKey set key = IsTrue set.whole → IsTrue (has_key set.keys.keys key)
+
+-- the key of the group of a name that is due at this moment
+abbrev pub key_at : GroupName → ℕ → DueKey
+key_at name due = record { due = due; name = name }
+
+-- the key of a group
+abbrev pub key_of : Group → DueKey
+key_of g = key_at g.name g.due
+
+-- the set has the key of each group, if it is whole
+abbrev pub AreDue : DueSet → List Group → Type 0
+AreDue set groups = All (λ g. HasKey set (key_of g)) groups
+
+-- each group stands under its name, which no other has, and its key is in the set, if that is whole
+pub record IsTied (set : DueSet) (entries : List (GroupName × Group)) : Type 0 where
+  pub keyed : AreKeyed name_of entries
+  pub distinct : IsDistinct same_name (keys_of entries)
+  pub due : AreDue set (values_of entries)
+
+-- the group at this place is the only one that has the key, or none has it
+abbrev pub IsCurrent : List Group → DueKey → Option ℕ → Type 0
+IsCurrent groups key None = All (λ g. key_of g ≡ key → ⊥) groups
+IsCurrent groups key (Some i) =
+    (i < length groups)
+    × ((d : Group) → key_of (slice_index_or groups i d) ≡ key)
+    × ((j : ℕ) (d : Group) → j < length groups → key_of (slice_index_or groups j d) ≡ key → j ≡ i)
+
+-- the group at this place is the only one that has the key, and no flush of it is open; or none has it that has no open flush
+abbrev pub IsFree : List FlushState → List Group → DueKey → Option ℕ → Type 0
+IsFree flushes groups key None = All (λ g. key_of g ≡ key → is_flushing flushes key.name ≡ true) groups
+IsFree flushes groups key (Some i) = IsCurrent groups key (Some i) × (is_flushing flushes key.name ≡ false)

@@ -1,0 +1,146 @@
+//! The group that is due first.
+ghost use Rattle.std.specs.Prelude.{◌≡◌, ◌<◌, All, IfSome, IsTrue, length, map, slice_index_or};
+ghost use Rattle.std.specs.List.{IsDistinct};
+ghost use Rattle.std.specs.Map.{keys_of, values_of};
+ghost use Rattle.std.specs.Option.{option_map};
+ghost use Rattle.std.specs.Ordering.{is_gt};
+ghost use Rattle.am_model.specs.Begin.{due_cmp};
+ghost use Rattle.am_model.specs.Lists.{lesser};
+ghost use Rattle.am_model.specs.State.{same_name};
+ghost use Rattle.am_board.specs.Beginning.{may_take, first_of, IsFirst};
+ghost use Rattle.am_board.specs.Due.{has_key, key_of, IsCurrent, IsFree};
+ghost use Rattle.am_board.specs.GroupList.{name_of};
+ghost use Rattle.am_board.specs.Kept.{group_state, flush_state};
+ghost use Rattle.am_board.specs.Keyed.{AreKeyed};
+ghost use Rattle.am_board.specs.declared.group.Group.{Group};
+
+use super::Groups;
+use crate::due::DueKey;
+use crate::flush::{OpenFlush, is_open};
+use crate::group::{Group, GroupName};
+use indexmap::IndexMap;
+use std::collections::BTreeSet;
+
+impl Groups {
+    /// The place of the group to take at `t`: of those that are due and have no open flush the first,
+    /// by due moment, then by name.
+    pub(crate) fn first_due(&self, flushes: &[OpenFlush], t: u64) -> Option<usize>
+        ensures within { IfSome result (λ i. i < length self.now.items) }
+        ensures first { IsFirst self.now.items result (first_of (map flush_state flushes.now) t (map group_state self.now.items)) }
+    {
+        if self.due.whole {
+            first_by_keys(&self.groups, &self.due.keys, flushes, t)
+        } else {
+            first_by_walk(self.groups.values().as_slice(), flushes, t)
+        }
+    }
+}
+
+/// The place of the group to take at `t`, where each group has its key: that of the first key that
+/// isn't stale and whose group has no open flush, if that key's moment has come.
+fn first_by_keys(
+    groups: &IndexMap<GroupName, Group>,
+    keys: &BTreeSet<DueKey>,
+    flushes: &[OpenFlush],
+    t: u64,
+) -> Option<usize>
+    requires keyed { AreKeyed name_of groups.now.entries }
+    requires distinct { IsDistinct same_name (keys_of groups.now.entries) }
+    requires keys { All (λ g. IsTrue (has_key keys.now.keys (key_of g))) (values_of groups.now.entries) }
+    ensures within { IfSome result (λ i. i < length (values_of groups.now.entries)) }
+    ensures first { IsFirst (values_of groups.now.entries) result
+        (first_of (map flush_state flushes.now) t (map group_state (values_of groups.now.entries))) }
+{
+    for key in keys {
+        if key.due > t {
+            return None;
+        }
+        if let Some(place) = free_place(groups, key, flushes) {
+            return Some(place);
+        }
+    }
+    None
+}
+
+/// The place of the group that has a key, unless the key is stale or a flush of the group is open.
+fn free_place(
+    groups: &IndexMap<GroupName, Group>,
+    key: &DueKey,
+    flushes: &[OpenFlush],
+) -> Option<usize>
+    requires keyed { AreKeyed name_of groups.now.entries }
+    requires distinct { IsDistinct same_name (keys_of groups.now.entries) }
+    ensures { IsFree (map flush_state flushes.now) (values_of groups.now.entries) key.now result }
+{
+    let place = place_of(groups, key)?;
+    if is_open(flushes, &key.name) {
+        None
+    } else {
+        Some(place)
+    }
+}
+
+/// The place of the group that has a key, unless the key is stale.
+fn place_of(groups: &IndexMap<GroupName, Group>, key: &DueKey) -> Option<usize>
+    requires keyed { AreKeyed name_of groups.now.entries }
+    requires distinct { IsDistinct same_name (keys_of groups.now.entries) }
+    ensures { IsCurrent (values_of groups.now.entries) key.now result }
+{
+    let place = groups.get_index_of(&key.name)?;
+    if groups[place].due == key.due {
+        Some(place)
+    } else {
+        None
+    }
+}
+
+/// The same, by a walk over all groups.
+fn first_by_walk(groups: &[Group], flushes: &[OpenFlush], t: u64) -> Option<usize>
+    ensures within { IfSome result (λ i. i < length groups.now) }
+    ensures first { IsFirst groups.now result (first_of (map flush_state flushes.now) t (map group_state groups.now)) }
+{
+    let mut best: Option<usize> = None;
+    for i in (0..groups.len()).rev() {
+        if may_begin(&groups[i], flushes, t) {
+            best = Some(earlier(groups, i, best));
+        }
+    }
+    best
+}
+
+/// Whether a group may be taken at `t`: it is due, and no flush of it is open.
+fn may_begin(group: &Group, flushes: &[OpenFlush], t: u64) -> bool
+    ensures { result ≡ may_take (map flush_state flushes.now) t (group_state group.now) }
+{
+    group.due <= t && !is_open(flushes, &group.name)
+}
+
+/// The place of the group that is taken before the other, if there is another.
+fn earlier(groups: &[Group], i: usize, other: Option<usize>) -> usize
+    requires here { i < length groups.now }
+    requires there { IfSome other (λ j. j < length groups.now) }
+    ensures within { result < length groups.now }
+    ensures lesser { (d : Group) → group_state (slice_index_or groups.now result d)
+        ≡ lesser due_cmp (group_state (slice_index_or groups.now i d))
+        (option_map (λ j. group_state (slice_index_or groups.now j d)) other) }
+{
+    match other {
+        None => i,
+        Some(j) => if is_behind(&groups[i], &groups[j]) {
+            j
+        } else {
+            i
+        },
+    }
+}
+
+/// Whether a group is to be taken after another: by due moment, then by name.
+fn is_behind(group: &Group, other: &Group) -> bool
+    ensures { result ≡ is_gt (due_cmp (group_state group.now) (group_state other.now)) }
+{
+    group
+        .due
+        .cmp(&other.due)
+        .then_with(|| group.name.cmp(&other.name))
+        .is_gt()
+}

@@ -8,11 +8,11 @@ use Rattle.am_desk.specs.Known.{Seen}
 use Rattle.std.proofs.lemmas.List.FromFn.{length-enumerate_from, get_or-enumerate_from}
 
 -- one pass more has its seat, and one fewer is left
-pub seat_more : {S P : Type 0} (f : S → ℕ) (g : P → ℕ) (ss : List S) (s : S) (ps : List P) (p : P) → 0 < length ps → p ≡ get_or ps 0 p → f s ≡ g p → map f (ss ++ s ∷ []) ++ map g (remove ps 0) ≡ map f ss ++ map g ps
-seat_more f g ss s [] p some here same = absurd (omega arith)
-seat_more f g ss s (x ∷ ps) p some here same =
-    ap (λ ns. ns ++ map g ps) (map-append f ss (s ∷ []))
-    ∙ (append_assoc (map f ss) (f s ∷ []) (map g ps) ∙ ap (λ (n : ℕ). map f ss ++ n ∷ map g ps) (same ∙ ap g here))
+pub seat_more : {S P : Type 0} (f : S → P) (ss : List S) (s : S) (ps : List P) (p : P) → 0 < length ps → p ≡ get_or ps 0 p → f s ≡ p → map f (ss ++ s ∷ []) ++ remove ps 0 ≡ map f ss ++ ps
+seat_more f ss s [] p some here same = absurd (omega arith)
+seat_more f ss s (x ∷ ps) p some here same =
+    ap (λ qs. qs ++ ps) (map-append f ss (s ∷ []))
+    ∙ (append_assoc (map f ss) (f s ∷ []) ps ∙ ap (λ q. map f ss ++ q ∷ ps) (same ∙ here))
 
 -- one lane more has its seat
 pub lane_more : {S L C : Type 0} (f : S → C) (g : L → C) (ss : List S) (s : S) (ls : List L) (x : L) (n : ℕ) → n < length ss → n < length ls → x ≡ get_or ls n x → f s ≡ g x

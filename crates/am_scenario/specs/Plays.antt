@@ -1,10 +1,13 @@
 -- What the report on a scenario that was played tells.
-use Rattle.std.specs.Prelude.{ℕ, List}
+use Rattle.std.specs.Prelude.{◌≡◌, ℕ, ◌+◌, List}
 use Rattle.am_model.specs.declared.record.Record.{Record}
+use Rattle.am_scenario.specs.Lanes.{calls_by, lane_calls}
 use Rattle.am_scenario.specs.Report.{IsReportOn}
 use Rattle.am_scenario.specs.declared.scenario.Scenario.{Scenario}
 
--- the text is the report on a legal history of the board of this id, with the scenario's configuration
+-- the text is the report on a legal history of the board of this id, with the scenario's configuration, in which the pass after each
+-- lane's number has made just the calls of that lane
 pub record IsPlayOf (id : ℕ) (scenario : Scenario) (text : List ℕ) : Type 0 where
   pub history : List Record
   pub report : IsReportOn scenario.config id history text
+  pub lanes : (i : ℕ) → calls_by (i + 1) history ≡ lane_calls i scenario.phases.items

@@ -1,6 +1,8 @@
 //! The lanes of a phase, each in a thread of its own.
-ghost use Rattle.std.specs.Prelude.{◌≡◌, ◌<◌, ◌≤◌, All, IfOk, length, map, take, vec_len};
+ghost use Rattle.std.specs.Prelude.{◌≡◌, ◌<◌, ◌≤◌, ◌∷◌, [], All, IfOk, OnOk, length, map, take, vec_len};
 ghost use Rattle.am_pool.specs.Work.{IsReady};
+ghost use Rattle.am_scenario.specs.Lanes.{call_at};
+ghost use Rattle.am_scenario.specs.Seats.{AfterLanes, AllRan, MadeCalls, Ran};
 
 use crate::scenario::{Lane, LaneCall};
 use am_board::fault::Fault;
@@ -34,11 +36,15 @@ impl<N: Name> Seat<N> {
     }
 
     /// The position of the call that was refused, and why.
-    pub fn refused(&self) -> Option<(usize, Fault)> {
+    pub fn refused(&self) -> Option<(usize, Fault)>
+        ensures { result ≡ self.now.refused }
+    {
         self.refused
     }
 
-    pub fn into_pass(self) -> Pass<N> {
+    pub fn into_pass(self) -> Pass<N>
+        ensures { result ≡ self.pass }
+    {
         let Seat {
             pass,
             calls: _,
@@ -56,7 +62,9 @@ impl<N: Name> Seat<N> {
     }
 
     /// Makes the calls, up to the first that is refused.
-    fn run<R: Wait>(&mut self, rt: &R, alloc: Global, desk: &Desk<N>, at: u64) {
+    fn run<R: Wait>(&mut self, rt: &R, alloc: Global, desk: &Desk<N>, at: u64)
+        ensures { Ran at self.old self.new }
+    {
         let calls = replace(&mut self.calls, Vec::new(alloc));
         for (position, call) in calls.into_iter().enumerate() {
             if let Err(fault) = make(rt, alloc, desk, &mut self.pass, at, call) {
@@ -72,7 +80,7 @@ pub fn seats_for<N: Name>(
     alloc: Global,
     passes: &mut Vec<Pass<N>>,
 ) -> Result<Vec<Seat<N>>, AllocError>
-    ensures numbers { IfOk result (λ seats. map (λ s. s.pass.number) seats.items ≡ map (λ p. p.number) passes.old.items) }
+    ensures passes { IfOk result (λ seats. map (λ s. s.pass) seats.items ≡ passes.old.items) }
     ensures count { IfOk result (λ seats. vec_len seats ≡ vec_len passes.old) }
 {
     let mut seats = Vec::new(alloc);
@@ -107,6 +115,7 @@ pub fn run_beside<N: Name + Send + Sync, R: Threads + Wait + Sync, C: Courier + 
 ) -> Result<Vec<Report>, PoolFault>
     requires lanes { vec_len lanes ≤ length seats.old }
     requires ready { All IsReady jobs.now }
+    ensures { AfterLanes at lanes.items seats.old seats.new }
 {
     if lanes.is_empty() {
         return run_jobs(rt, alloc, couriers, jobs);
@@ -128,11 +137,13 @@ fn share<N: Name + Send + Sync, R: Threads + Wait + Sync, C: Courier + Send>(
 ) -> Result<Vec<Report>, PoolFault>
     requires seats { 0 < length seats.old }
     requires ready { All IsReady jobs.now }
+    ensures { AllRan at seats.old seats.new }
 {
     let (_, reports) = join_mut(
         rt,
         &mut ||
             requires { 0 < length seats.now }
+            ensures { AllRan at seats.entry.now seats.exit.now }
         { run_lanes(rt, alloc, desk, at, seats) },
         &mut ||
             requires { All IsReady jobs.now }
@@ -150,16 +161,20 @@ fn run_lanes<N: Name + Send + Sync, R: Threads + Wait + Sync>(
     seats: &mut [Seat<N>],
 )
     requires { 0 < length seats.old }
+    ensures { AllRan at seats.old seats.new }
 {
     let threads = seats.len();
     for_each_mut(
         rt,
         seats,
         threads,
-        &|_, seat: &mut Seat<N>| seat.run(rt, alloc, desk, at),
+        &|_, seat: &mut Seat<N>|
+            ensures { Ran at seat.entry.now seat.exit.now }
+        { seat.run(rt, alloc, desk, at) },
     );
 }
 
+/// Makes a call of a lane.
 fn make<N: Name, R: Wait>(
     rt: &R,
     alloc: Global,
@@ -167,7 +182,9 @@ fn make<N: Name, R: Wait>(
     pass: &mut Pass<N>,
     at: u64,
     call: LaneCall,
-) -> Result<(), Fault> {
+) -> Result<(), Fault>
+    ensures { OnOk result (MadeCalls (call_at at call ∷ []) pass.old pass.new) }
+{
     match call {
         LaneCall::Insert(alert) => {
             desk.insert(rt, alloc, pass, at, alert)?;

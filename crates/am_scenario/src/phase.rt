@@ -1,9 +1,12 @@
 //! The phases of a run.
-ghost use Rattle.std.specs.Prelude.{◌≡◌, ◌<◌, ◌≤◌, ◌+◌, IfOk, map, vec_len};
+ghost use Rattle.std.specs.Prelude.{◌≡◌, ◌<◌, ◌≤◌, ◌+◌, ◌++◌, ◌∷◌, [], ℕ, All, IfOk, OnOk, length, map, vec_len};
 ghost use Rattle.std.specs.List.{range_with_len};
 ghost use Rattle.am_alerts.specs.declared.limits.TheConstants.{MAX_MOMENT};
-ghost use Rattle.am_desk.specs.Desks.{AreFresh};
+ghost use Rattle.am_desk.specs.Desks.{AreFresh, Stands};
+ghost use Rattle.am_desk.specs.History.{made};
 ghost use Rattle.am_desk.specs.Terms.{terms_of};
+ghost use Rattle.am_scenario.specs.Seats.{HaveMade, MadeLanes, NoneRefused, passes_in};
+ghost use Rattle.am_scenario.specs.Troubles.{AreNone};
 
 use crate::lane::{Seat, run_beside, seats_for};
 use crate::scenario::{Lane, Phase};
@@ -40,9 +43,12 @@ pub struct Run<N: Name> {
 }
 
 impl<N: Name + Send + Sync> Run<N> {
+    ghost use Rattle.am_scenario.specs.Runs.{Keeps, RunsLanes, lanes_of};
+
     /// A run on a desk with all its passes. Refused for want of memory.
     pub fn new(alloc: Global, desk: Desk<N>, passes: Vec<Pass<N>>) -> Result<Run<N>, InputFault>
         requires { AreFresh 0 passes.items × (vec_len passes ≡ N.plan.passes) × (0 < N.plan.passes) }
+        ensures { IfOk result (λ run. HaveMade 0 [] (lanes_of run)) }
     {
         Run::seated(alloc, desk, passes)
     }
@@ -50,8 +56,9 @@ impl<N: Name + Send + Sync> Run<N> {
     /// A run in which lane i has the pass i + 1.
     fn seated(alloc: Global, desk: Desk<N>, mut passes: Vec<Pass<N>>) -> Result<Run<N>, InputFault>
         requires { AreFresh 0 passes.items × (vec_len passes ≡ N.plan.passes) × (0 < N.plan.passes) }
-        ensures { IfOk result (λ run. (run.main.number ≡ 0)
+        ensures numbers { IfOk result (λ run. (run.main.number ≡ 0)
             × (map (λ s. s.pass.number) run.seats.items ≡ range_with_len 1 (vec_len run.seats))) }
+        ensures lanes { IfOk result (λ run. HaveMade 0 [] (lanes_of run)) }
     {
         let main = passes.remove(0);
         let seats = seats_for(alloc, &mut passes)?;
@@ -68,7 +75,9 @@ impl<N: Name + Send + Sync> Run<N> {
 
     /// The closed desk, and the reports on the notices.
     pub fn close(self) -> Result<(Closed, Vec<Report>), InputFault>
-        ensures { IfOk result (λ r. terms_of r.0 ≡ N.terms) }
+        ensures terms { IfOk result (λ r. terms_of r.0 ≡ N.terms) }
+        ensures lanes { IfOk result (λ r. All (λ p. Stands p r.0.history) (lanes_of self)) }
+        ensures others { IfOk result (λ r. (k : ℕ) → length (lanes_of self) < k → made k r.0.history ≡ 0) }
     {
         let Run {
             alloc,
@@ -93,6 +102,7 @@ impl<N: Name + Send + Sync> Run<N> {
         phase: Phase,
     ) -> Result<(), InputFault>
         requires { vec_len phase.lanes < N.plan.passes }
+        ensures { OnOk result (MadeLanes phase.at phase.lanes.items (lanes_of self.old) (lanes_of self.new)) }
     {
         let Phase { at, flush, lanes } = phase;
         let mut tickets = Vec::new(self.alloc);
@@ -110,7 +120,9 @@ impl<N: Name + Send + Sync> Run<N> {
     }
 
     /// Begins flushes until no group is due, or as many are open as may be.
-    fn begin_all<R: Wait>(&mut self, rt: &R, at: u64, tickets: &mut Vec<OwnTicket<N>>) {
+    fn begin_all<R: Wait>(&mut self, rt: &R, at: u64, tickets: &mut Vec<OwnTicket<N>>)
+        ensures { Keeps self.old self.new }
+    {
         // Each begin leaves a record: the history is full before this ends.
         for _ in 0..MAX_HISTORY + 1 {
             if !self.begin(rt, at, tickets) {
@@ -120,7 +132,9 @@ impl<N: Name + Send + Sync> Run<N> {
     }
 
     /// Begins a flush. Answers whether there may be more to begin.
-    fn begin<R: Wait>(&mut self, rt: &R, at: u64, tickets: &mut Vec<OwnTicket<N>>) -> bool {
+    fn begin<R: Wait>(&mut self, rt: &R, at: u64, tickets: &mut Vec<OwnTicket<N>>) -> bool
+        ensures { Keeps self.old self.new }
+    {
         if tickets.reserve(1).is_err() {
             self.troubles.add_no_memory();
             return false;
@@ -158,6 +172,7 @@ impl<N: Name + Send + Sync> Run<N> {
     ) -> Vec<Report>
         requires start { at ≤ MAX_MOMENT }
         requires lanes { vec_len lanes < N.plan.passes }
+        ensures { RunsLanes at lanes.items self.old self.new }
     {
         let Ok(jobs) = jobs_of(self.alloc, tickets, at) else {
             self.troubles.add_no_memory();
@@ -178,7 +193,9 @@ impl<N: Name + Send + Sync> Run<N> {
     }
 
     /// The reports of the couriers.
-    fn hear_couriers(&mut self, sent: Result<Vec<Report>, PoolFault>) -> Vec<Report> {
+    fn hear_couriers(&mut self, sent: Result<Vec<Report>, PoolFault>) -> Vec<Report>
+        ensures { Keeps self.old self.new }
+    {
         match sent {
             Ok(reports) => {
                 if reports
@@ -201,7 +218,9 @@ impl<N: Name + Send + Sync> Run<N> {
     }
 
     /// Keeps the reports of a phase.
-    fn keep(&mut self, reports: &[Report]) {
+    fn keep(&mut self, reports: &[Report])
+        ensures { Keeps self.old self.new }
+    {
         if self.reports.extend_from_slice(reports).is_err() {
             self.troubles.add_no_memory();
         }
@@ -214,7 +233,9 @@ impl<N: Name + Send + Sync> Run<N> {
         at: u64,
         tickets: &mut Vec<OwnTicket<N>>,
         reports: &[Report],
-    ) {
+    )
+        ensures { Keeps self.old self.new }
+    {
         for own in tickets.iter_mut() {
             if !record_all(own, reports) {
                 self.troubles.add(Refused::Ending);
@@ -223,7 +244,9 @@ impl<N: Name + Send + Sync> Run<N> {
         }
     }
 
-    fn settle<R: Wait>(&mut self, rt: &R, at: u64, own: &OwnTicket<N>, reports: &[Report]) {
+    fn settle<R: Wait>(&mut self, rt: &R, at: u64, own: &OwnTicket<N>, reports: &[Report])
+        ensures { Keeps self.old self.new }
+    {
         let ticket = own.ticket();
         for (place, notice) in ticket.notices().iter().enumerate() {
             if notice.nothing() || ticket.outcome(place) == Some(Outcome::Delivered) {
@@ -238,7 +261,9 @@ impl<N: Name + Send + Sync> Run<N> {
     }
 
     /// Logs the success of a notice. Where the history has no room the finish logs it.
-    fn note<R: Wait>(&mut self, rt: &R, now: u64, own: &OwnTicket<N>, place: usize) {
+    fn note<R: Wait>(&mut self, rt: &R, now: u64, own: &OwnTicket<N>, place: usize)
+        ensures { Keeps self.old self.new }
+    {
         match self
             .desk
             .note(rt, self.alloc, &mut self.main, own.ticket(), place, now)
@@ -256,7 +281,9 @@ impl<N: Name + Send + Sync> Run<N> {
         at: u64,
         tickets: Vec<OwnTicket<N>>,
         reports: &[Report],
-    ) {
+    )
+        ensures { Keeps self.old self.new }
+    {
         let mut left = tickets;
         while !left.is_empty() {
             let own = left.remove(0);
@@ -270,7 +297,9 @@ impl<N: Name + Send + Sync> Run<N> {
 }
 
 /// Adds the refused calls of the lanes, by lane.
-fn hear_lanes<N: Name>(seats: &[Seat<N>], troubles: &mut Troubles) {
+fn hear_lanes<N: Name>(seats: &[Seat<N>], troubles: &mut Troubles)
+    ensures { AreNone troubles.new → AreNone troubles.old × NoneRefused seats.now }
+{
     for (lane, seat) in seats.iter().enumerate() {
         if let Some((call, fault)) = seat.refused() {
             troubles.refuse(fault, Refused::Call { lane, call });
@@ -294,7 +323,9 @@ fn put_back<N: Name>(
     passes: &mut Vec<Pass<N>>,
     main: Pass<N>,
     seats: Vec<Seat<N>>,
-) -> Result<(), InputFault> {
+) -> Result<(), InputFault>
+    ensures { OnOk result (passes.new.items ≡ passes.old.items ++ main ∷ passes_in seats.items) }
+{
     passes.push(main)?;
     for seat in seats {
         passes.push(seat.into_pass())?;
@@ -304,7 +335,9 @@ fn put_back<N: Name>(
 
 /// Closes the desk of a run. No flush is open, and no pass is missing.
 fn close<N: Name>(alloc: Global, desk: Desk<N>, passes: Vec<Pass<N>>) -> Result<Closed, InputFault>
-    ensures { IfOk result (λ closed. terms_of closed ≡ N.terms) }
+    ensures terms { IfOk result (λ closed. terms_of closed ≡ N.terms) }
+    ensures stand { IfOk result (λ closed. All (λ p. Stands p closed.history) passes.items) }
+    ensures others { IfOk result (λ closed. (k : ℕ) → N.plan.passes ≤ k → made k closed.history ≡ 0) }
 {
     match desk.close(passes) {
         Ok(closed) => Ok(closed),

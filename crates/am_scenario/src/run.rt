@@ -74,9 +74,10 @@ fn read(alloc: Global, input: &[u8]) -> Result<Scenario, InputFault> {
 
 /// Plays a scenario on a desk of its own, of the id `BOARD_ID`, and makes its report.
 ///
-/// The report is the text of a legal history of the scenario's own configuration. Refused with the
-/// place and the cause, as `run_scenario` tells them, where the configuration or a call is refused or
-/// memory is.
+/// The report is the text of a legal history of the scenario's own configuration. The pass 0 is the
+/// main thread's; the calls of the pass i + 1 in the history are just those of lane i, phase after
+/// phase, in their order, each at the moment of its phase. Refused with the place and the cause, as
+/// `run_scenario` tells them, where the configuration or a call is refused or memory is.
 pub fn play_scenario<R: Threads + Wait + Sync>(
     rt: &R,
     alloc: Global,

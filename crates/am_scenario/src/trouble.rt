@@ -1,4 +1,7 @@
 //! What goes wrong in a phase.
+ghost use Rattle.std.specs.Prelude.{◌≡◌, ◌↔◌, IsOk, IsTrue};
+ghost use Rattle.am_scenario.specs.Troubles.{AreNone};
+
 use am_board::fault::Fault;
 use am_cli::fault::{InputFault, Word};
 use am_cli::place::Place;
@@ -41,23 +44,31 @@ impl Refused {
 }
 
 impl Troubles {
-    pub fn none() -> Troubles {
+    pub fn none() -> Troubles
+        ensures { AreNone result }
+    {
         Troubles {
             no_memory: false,
             first_refused: None,
         }
     }
 
-    pub fn are_none(&self) -> bool {
+    pub fn are_none(&self) -> bool
+        ensures { IsTrue result ↔ AreNone self.now }
+    {
         !self.no_memory && self.first_refused.is_none()
     }
 
-    pub fn add_no_memory(&mut self) {
+    pub fn add_no_memory(&mut self)
+        ensures { ¬ AreNone self.new }
+    {
         self.no_memory = true;
     }
 
     /// Adds a call that was refused for this cause.
-    pub fn refuse(&mut self, fault: Fault, refused: Refused) {
+    pub fn refuse(&mut self, fault: Fault, refused: Refused)
+        ensures { ¬ AreNone self.new }
+    {
         match fault {
             Fault::NoMemory => self.add_no_memory(),
             _ => self.add(refused),
@@ -65,14 +76,18 @@ impl Troubles {
     }
 
     /// Adds a refusal. The first one counts.
-    pub fn add(&mut self, refused: Refused) {
+    pub fn add(&mut self, refused: Refused)
+        ensures { ¬ AreNone self.new }
+    {
         if self.first_refused.is_none() {
             self.first_refused = Some(refused);
         }
     }
 
     /// The fault of the phase of this index, if there was trouble: want of memory comes first.
-    pub fn verdict(&self, alloc: Global, phase: usize) -> Result<(), InputFault> {
+    pub fn verdict(&self, alloc: Global, phase: usize) -> Result<(), InputFault>
+        ensures { IsOk result ↔ AreNone self.now }
+    {
         if self.no_memory {
             return Err(InputFault::NoMemory);
         }

@@ -1,4 +1,4 @@
-use Rattle.std.proofs.Common.{◌∙◌, ap, arith}
+use Rattle.std.proofs.Common.{◌∙◌, arith}
 use Rattle.am_desk.specs.Known.{Seen}
 use Rattle.am_scenario.specs.declared.lane.Seat.{Seat}
 use Rattle.am_scenario.proofs.Lanes.{seat_more}
@@ -8,9 +8,9 @@ pub loop-alloc-preserved : goal.loop-alloc-preserved
 loop-alloc-preserved g c =
     let i = c.loop-alloc.invariant in
     record {
-      numbers = rw (c.push_reserved.ensures.items, c.remove.ensures.items)
-          (seat_more {S = Seat g.row.N.Denot} {P = Seen} (λ s. s.pass.number) (λ p. p.number) c.loop-alloc.seats.items c.new.result c.loop-alloc.passes.items c.remove.result
-          (omega (arith, c.remove.ensures.len, c.loop-alloc.passes.ok.0)) c.remove.ensures.value (ap (λ (p : Seen). p.number) c.new.ensures) ∙ i.numbers);
+      passes = rw (c.push_reserved.ensures.items, c.remove.ensures.items)
+          (seat_more {S = Seat g.row.N.Denot} {P = Seen} (λ s. s.pass) c.loop-alloc.seats.items c.new.result c.loop-alloc.passes.items c.remove.result
+          (omega (arith, c.remove.ensures.len, c.loop-alloc.passes.ok.0)) c.remove.ensures.value c.new.ensures ∙ i.passes);
       count = omega arith;
       room = omega arith;
     }

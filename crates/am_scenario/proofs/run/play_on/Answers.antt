@@ -1,7 +1,76 @@
+use Rattle.std.proofs.Common.{◌≡◌, ◌∙◌, ◌+◌, ◌<◌, ℕ, All, List, ◌∷◌, ◌++◌, [], length, take, vec_len, sym, ap, subst, arith}
+use Rattle.std.specs.Iterator.Adapters.{enumerate_count, enumerate_source}
+use Rattle.std.proofs.lemmas.List.{length-map, length_push, take_all}
+use Rattle.std.proofs.lemmas.List.FromFn.{length-enumerate_from}
+use Rattle.std.proofs.lemmas.Iterator.Adapters.{YieldsList-from_vec}
+use Rattle.std.proofs.lemmas.Iterator.Consumers.{YieldsList-end, YieldsList-from_enumerate, YieldsList-turn}
+use Rattle.am_model.specs.declared.config.Config.{Config}
+use Rattle.am_model.specs.Replay.{IsLegal}
 use Rattle.am_desk.proofs.Crossing.{every}
+use Rattle.am_desk.specs.Plans.{Plan}
+use Rattle.am_desk.specs.declared.word.Terms.{Terms}
 use Rattle.am_trail.proofs.trail.Trail.TheSendSync as trail
+use Rattle.am_scenario.specs.Report.{report_text}
+use Rattle.am_scenario.specs.Runs.{lanes_of}
+use Rattle.am_scenario.specs.Seats.{HaveMade}
+use Rattle.am_scenario.specs.declared.lane.Seat.{Seat}
+use Rattle.am_scenario.specs.declared.run.TheConstants.{BOARD_ID}
+use Rattle.am_scenario.specs.declared.scenario.Phase.{Phase}
 use Rattle.am_scenario.proofs.Crossing.{script_sync}
+use Rattle.am_scenario.proofs.Lanes.{numbered}
+use Rattle.am_scenario.proofs.Phases.{all_played, of_source, turn_made}
 use Rattle.am_scenario.proofs.run.play_on.Goals as goal
 
 pub run_phase-requires-send-C : goal.run_phase-requires-send-C
 run_phase-requires-send-C g c κs within = search (every, script_sync, trail.the_send) depth 40 fits 10000
+
+pub loop-index-preserved : goal.loop-index-preserved
+loop-index-preserved g c =
+    let ls = c.args.scenario.phases.items in
+    let all = c.into_iter-index-iterator.result in
+    let gives = c.into_iter-index-iterator.ensures.into_iter_gives in
+    let items : all.iter.rest.items ≡ ls = cc (gives, c.enumerate-index-items.ensures.source, c.into_iter.ensures.rest) in
+    let len : all.iter.rest.len ≡ length ls = cc (gives, c.enumerate-index-items.ensures.source, c.into_iter.ensures.len, c.args.scenario.phases.ok.0) in
+    let count : all.count ≡ 0 = cc (gives, c.enumerate-index-items.ensures.count) in
+    let so_far = c.loop-index.yielded in
+    let turn = YieldsList-turn (YieldsList-from_enumerate {s = all} (YieldsList-from_vec {s = all.iter} ls items len) count) so_far c.loop-index.index-iterator c.loop-index.yielded_by c.next.result c.next.new.self (c.in-Some.index, c.in-Some.phase) c.in-Some.is c.next.ensures.steps in
+    let at = numbered ls (length so_far) c.in-Some.index c.in-Some.phase turn.0 turn.1 in
+    turn_made ls (length so_far) (length (so_far ++ (c.in-Some.index, c.in-Some.phase) ∷ [])) c.in-Some.phase (lanes_of c.loop-index.run) (lanes_of c.run_phase.new.self)
+    (length_push so_far (c.in-Some.index, c.in-Some.phase)) at.0 at.2 c.loop-index.invariant c.in_ok-run_phase.ensures
+
+pub returns : goal.returns
+returns g c =
+    let ls = c.args.scenario.phases.items in
+    let all = c.into_iter-index-iterator.result in
+    let gives = c.into_iter-index-iterator.ensures.into_iter_gives in
+    let items : all.iter.rest.items ≡ ls = of_source enumerate_source all c.enumerate-index-items.result c.into_iter.result (λ it. it.rest.items) ls gives c.enumerate-index-items.ensures.source c.into_iter.ensures.rest in
+    let len : all.iter.rest.len ≡ length ls =
+        of_source enumerate_source all c.enumerate-index-items.result c.into_iter.result (λ it. it.rest.len) (length ls) gives c.enumerate-index-items.ensures.source (c.into_iter.ensures.len ∙ c.args.scenario.phases.ok.0)
+    in
+    let count : all.count ≡ 0 = ap enumerate_count gives ∙ c.enumerate-index-items.ensures.count in
+    let n = length c.loop-index.yielded in
+    let end = YieldsList-end (YieldsList-from_enumerate {s = all} (YieldsList-from_vec {s = all.iter} ls items len) count) c.loop-index.yielded c.loop-index.index-iterator c.loop-index.yielded_by c.next.result c.next.new.self c.in-None.is c.next.ensures.steps in
+    let run = c.loop-index.run in
+    let closed = c.in_ok-closed.closed in
+    let terms = c.in_ok-closed.ensures.terms ∙ sym c.requires.name.1 in
+    let config : closed.config ≡ c.args.scenario.config = ap (λ (t : Terms). t.config) terms in
+    let id : closed.id ≡ BOARD_ID = ap (λ (t : Terms). t.id) terms ∙ c.requires.id in
+    let passes = ap (λ (p : Plan). p.passes) c.requires.name.0 in
+    record {
+      history = closed.history;
+      report =
+          record {
+            reports = c.as_slice-2.result.now;
+            legal = subst (λ (k : Config). IsLegal k BOARD_ID closed.history) config (subst (λ (n : ℕ). IsLegal closed.config n closed.history) id c.report_text.ensures.legal);
+            is = c.in_ok-report_text.ensures.text ∙ ap (λ (k : Config). report_text k c.as_slice-2.result.now closed.history) config;
+          };
+      lanes =
+          all_played ls (lanes_of run) closed.history c.args.blank.passes
+          record {
+            have = subst (λ (xs : List Phase). HaveMade 0 xs (lanes_of run)) (take_all n ls (omega (arith, end.1, length-enumerate_from 0 ls))) c.loop-index.invariant;
+            stand = c.in_ok-closed.ensures.lanes;
+            others = c.in_ok-closed.ensures.others;
+            few = c.requires.lanes;
+            seated = omega (arith, passes, run.seated, run.seats.ok.0, length-map run.seats.items (λ (s : Seat g.row.N.Denot). s.pass));
+          };
+    }

@@ -1,17 +1,31 @@
-use Rattle.std.proofs.Common.{◌≡◌, ◌∙◌, ◌<◌, ℕ, List, length, map, ap, arith, vec_len}
+use Rattle.std.proofs.Common.{◌≡◌, ◌∙◌, ◌<◌, ℕ, List, [], length, map, ap, arith, subst, sym, vec_len}
+use Rattle.std.proofs.lemmas.Simd.{map-map}
 use Rattle.std.specs.List.{range_with_len}
 use Rattle.am_desk.specs.Known.{Seen}
+use Rattle.am_scenario.specs.Seats.{HaveMade}
+use Rattle.am_scenario.specs.declared.lane.Seat.{Seat}
+use Rattle.am_scenario.proofs.Calls.{fresh_made}
 use Rattle.am_scenario.proofs.Lanes.{first_fresh, fresh_numbers}
 use Rattle.am_scenario.proofs.phase.Run.seated.Goals as goal
 
-pub returns : goal.returns
-returns g c =
+pub returns-clause-numbers : goal.returns-clause-numbers
+returns-clause-numbers g c =
     let ps = c.args.passes.items in
     let some : 0 < length ps = omega (arith, c.requires, c.args.passes.ok.0) in
     let first = first_fresh 0 ps c.remove-main.result c.requires.0 some c.remove-main.ensures.value in
     let rest = c.remove-main.new.self in
     let count : length rest.items ≡ vec_len c.in_ok-seats.seats = omega (arith, rest.ok.0, c.in_ok-seats.ensures.count) in
-    let numbers = rw c.remove-main.ensures.items at c.in_ok-seats.ensures.numbers in (
+    let passes = rw c.remove-main.ensures.items at c.in_ok-seats.ensures.passes in (
       first.0,
-      numbers ∙ (fresh_numbers 1 _ first.1 ∙ ap (λ (n : ℕ). range_with_len 1 n) (rw c.remove-main.ensures.items at count)),
+      sym (map-map (λ (p : Seen). p.number) (λ (s : Seat g.row.N.Denot). s.pass) c.in_ok-seats.seats.items)
+          ∙ (ap (map (λ (p : Seen). p.number)) passes
+          ∙ (fresh_numbers 1 _ first.1 ∙ ap (λ (n : ℕ). range_with_len 1 n) (rw c.remove-main.ensures.items at count))),
     )
+
+pub returns-clause-lanes : goal.returns-clause-lanes
+returns-clause-lanes g c =
+    let ps = c.args.passes.items in
+    let some : 0 < length ps = omega (arith, c.requires, c.args.passes.ok.0) in
+    let first = first_fresh 0 ps c.remove-main.result c.requires.0 some c.remove-main.ensures.value in
+    let passes = rw c.remove-main.ensures.items at c.in_ok-seats.ensures.passes in
+    subst (λ (qs : List Seen). HaveMade 0 [] qs) (sym passes) (fresh_made 0 _ first.1)

@@ -1,0 +1,8 @@
+use Rattle.std.proofs.Common.{length, take}
+use Rattle.am_scenario.specs.Runs.{lanes_of}
+use Rattle.am_scenario.specs.Seats.{HaveMade}
+use Rattle.am_scenario.proofs.run.play_on.Given as goal
+
+-- the lanes have made their calls of the phases so far
+abbrev pub invariant-loop-index : goal.invariant-loop-index
+invariant-loop-index g l = HaveMade 0 (take (length l.yielded) l.fn.scenario.phases.items) (lanes_of l.run)

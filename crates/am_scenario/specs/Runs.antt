@@ -1,0 +1,20 @@
+-- A run, by its lanes.
+use Rattle.std.specs.Prelude.{◌≡◌, ℕ, List}
+use Rattle.am_desk.specs.Known.{Seen}
+use Rattle.am_desk.specs.declared.name.Name.{Ghosts}
+use Rattle.am_scenario.specs.Seats.{passes_in, MadeLanes}
+use Rattle.am_scenario.specs.Troubles.{AreNone}
+use Rattle.am_scenario.specs.declared.phase.Run.{Run}
+use Rattle.am_scenario.specs.declared.scenario.Lane.{Lane}
+
+-- the passes of its lanes
+abbrev pub lanes_of : {N : Type 0} {names : Ghosts N} → Run N names → List Seen
+lanes_of run = passes_in run.seats.items
+
+-- the lanes are as they were, and what went wrong stays so
+abbrev pub Keeps : {N : Type 0} {names : Ghosts N} → Run N names → Run N names → Type 0
+Keeps was is = (is.seats ≡ was.seats) × (AreNone is.troubles → AreNone was.troubles)
+
+-- the lanes have made their calls at this moment, but where something went wrong
+abbrev pub RunsLanes : {N : Type 0} {names : Ghosts N} → ℕ → List Lane → Run N names → Run N names → Type 0
+RunsLanes at lanes was is = AreNone is.troubles → AreNone was.troubles × MadeLanes at lanes (lanes_of was) (lanes_of is)

@@ -1,8 +1,7 @@
 -- The calls of passes, and of lanes.
-use Rattle.std.proofs.Common.{◌≡◌, ◌≢◌, ℕ, suc, ◌+◌, ◌<◌, ◌≤◌, ◌⊎◌, ⊎_elim, All, subst, List, [], ◌∷◌, ◌++◌, length, map, None, slice_get, refl, sym, ap, ◌∙◌, append_assoc, arith}
+use Rattle.std.proofs.Common.{◌≡◌, ◌≢◌, ℕ, suc, ◌+◌, ◌<◌, ◌≤◌, ⊎_elim, All, subst, List, [], ◌∷◌, ◌++◌, length, map, slice_get, refl, sym, ap, ◌∙◌, append_assoc, arith}
 use mathlib.Core.Logic.{dite}
 use native.Mathlib.Decide.{ℕ_discrete}
-use Rattle.std.specs.List.{flat_map}
 use Rattle.std.proofs.lemmas.Grind.{flat_map-append}
 use Rattle.std.proofs.lemmas.List.{append-nil, map-append, nil_from_length}
 use Rattle.std.proofs.lemmas.List.Elements.{All-head, All-rest}
@@ -76,7 +75,7 @@ lane_none i [] all = refl
 lane_none i (p ∷ ps) all =
     let few : length p.lanes.items ≤ i = All-head (λ (p : Phase). length p.lanes.items ≤ i) p ps all in
     let none : phase_calls i p ≡ [] =
-        ⊎_elim (λ found. absurd (omega (arith, few, found.1))) (λ past. ap (calls_at p.at) past.1) (slice_get_cases p.lanes.items i).1
+    ⊎_elim (λ found. absurd (omega (arith, few, found.1))) (λ past. ap (calls_at p.at) past.1) (slice_get_cases p.lanes.items i).1
     in
     ap (λ (cs : List Call). cs ++ lane_calls i ps) none ∙ lane_none i ps (All-rest (λ (p : Phase). length p.lanes.items ≤ i) p ps (p ∷ ps) refl all)
 

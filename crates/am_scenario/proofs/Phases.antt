@@ -15,7 +15,7 @@ pub turn_made : (phases : List Phase) (n m : ℕ) (phase : Phase) (ps qs : List 
     → HaveMade 0 (take n phases) ps → MadeLanes phase.at phase.lanes.items ps qs → HaveMade 0 (take m phases) qs
 turn_made phases n m phase ps qs next there is have since =
     let longer : take m phases ≡ take n phases ++ phase ∷ [] =
-        ap (λ (k : ℕ). take k phases) next ∙ (take_more phases n phase there ∙ ap (λ (p : Phase). take n phases ++ p ∷ []) (sym is))
+    ap (λ (k : ℕ). take k phases) next ∙ (take_more phases n phase there ∙ ap (λ (p : Phase). take n phases ++ p ∷ []) (sym is))
     in
     subst (λ (xs : List Phase). HaveMade 0 xs qs) (sym longer)
     (phase_made 0 (take n phases) phase phase.lanes.items ps qs (λ k. ap (slice_get phase.lanes.items) (omega arith)) have since)

@@ -1,12 +1,12 @@
 -- The seats of lanes, over a phase.
-use Rattle.std.proofs.Common.{◌≡◌, ℕ, suc, ◌+◌, ◌<◌, ◌≤◌, All, subst, List, [], ◌∷◌, ◌++◌, length, get_or, take, map, None, refl, sym, ap, ◌∙◌, arith}
+use Rattle.std.proofs.Common.{◌≡◌, ℕ, suc, ◌+◌, ◌<◌, All, subst, List, [], ◌∷◌, ◌++◌, length, get_or, take, map, None, refl, sym, ap, ◌∙◌, arith}
 use Rattle.std.specs.List.{AllZip}
 use Rattle.std.proofs.lemmas.List.{map-append, take_more}
 use Rattle.std.proofs.lemmas.List.Elements.{All-head, All-rest}
 use Rattle.am_desk.specs.Known.{Seen}
 use Rattle.am_scenario.proofs.Calls.{more_made}
 use Rattle.am_scenario.specs.Lanes.{call_at}
-use Rattle.am_scenario.specs.Seats.{AfterLanes, AllRan, MadeCalls, MadeLanes, NoneRefused, passes_in, Ran}
+use Rattle.am_scenario.specs.Seats.{AfterLanes, AllRan, MadeCalls, passes_in}
 use Rattle.am_scenario.specs.declared.lane.Seat.{Seat}
 use Rattle.am_scenario.specs.declared.scenario.Lane.{Lane}
 use Rattle.am_scenario.specs.declared.scenario.call.LaneCall.{LaneCall}
@@ -53,8 +53,8 @@ pub call_more : (at : ℕ) (cs : List LaneCall) (n : ℕ) (c : LaneCall) (p q r 
 call_more at cs n c p q r there is so_far one =
     let f = call_at at in
     let all : map f (take (n + 1) cs) ≡ map f (take n cs) ++ f c ∷ [] =
-        ap (map f) (take_more cs n c there)
-        ∙ (map-append f (take n cs) (get_or cs n c ∷ []) ∙ ap (λ (x : LaneCall). map f (take n cs) ++ f x ∷ []) (sym is))
+    ap (map f) (take_more cs n c there)
+    ∙ (map-append f (take n cs) (get_or cs n c ∷ []) ∙ ap (λ (x : LaneCall). map f (take n cs) ++ f x ∷ []) (sym is))
     in
     subst (λ xs. MadeCalls xs p r) (sym all) (more_made (map f (take n cs)) (f c ∷ []) p q r so_far one)
 

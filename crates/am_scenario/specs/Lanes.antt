@@ -1,5 +1,5 @@
 -- What the lanes of a scenario do.
-use Rattle.std.specs.Prelude.{ℕ, ◌+◌, List, [], map, slice_get, Option, Some, None}
+use Rattle.std.specs.Prelude.{ℕ, List, [], map, slice_get, Option, Some, None}
 use Rattle.std.specs.List.{flat_map}
 use Rattle.am_model.specs.Records.{call_of_silence}
 use Rattle.am_model.specs.declared.record.Call.{Call}

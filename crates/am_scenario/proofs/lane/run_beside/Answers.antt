@@ -15,7 +15,7 @@ returns g c =
     let ran : List (Seat g.row.N.Denot) = c.share.new.seats in
     let ls = c.args.lanes.items in
     let long : length taken ≡ length front =
-        sym (length-map taken (λ (s : Seat g.row.N.Denot). s.pass)) ∙ (ap (λ (ps : List Seen). length ps) c.take_seats.ensures.passes ∙ length-map front (λ (s : Seat g.row.N.Denot). s.pass))
+    sym (length-map taken (λ (s : Seat g.row.N.Denot). s.pass)) ∙ (ap (λ (ps : List Seen). length ps) c.take_seats.ensures.passes ∙ length-map front (λ (s : Seat g.row.N.Denot). s.pass))
     in
     let calls = ap (map (λ (s : Seat g.row.N.Denot). s.calls)) (sym (take_all _ taken (omega (arith, long, split.ensures.front_len, c.len.ensures)))) ∙ c.take_seats.ensures.calls in
     subst (λ (ss : List (Seat g.row.N.Denot)). AfterLanes c.args.at ls ss (ran ++ back)) (sym split.ensures.value)

@@ -1,4 +1,4 @@
-use Rattle.std.proofs.Common.{◌≡◌, ◌∙◌, ◌+◌, ◌<◌, ℕ, All, List, ◌∷◌, ◌++◌, [], length, take, vec_len, sym, ap, subst, arith}
+use Rattle.std.proofs.Common.{◌≡◌, ◌∙◌, ℕ, List, ◌∷◌, ◌++◌, [], length, sym, ap, subst, arith}
 use Rattle.std.specs.Iterator.Adapters.{enumerate_count, enumerate_source}
 use Rattle.std.proofs.lemmas.List.{length-map, length_push, take_all}
 use Rattle.std.proofs.lemmas.List.FromFn.{length-enumerate_from}
@@ -45,7 +45,7 @@ returns g c =
     let gives = c.into_iter-index-iterator.ensures.into_iter_gives in
     let items : all.iter.rest.items ≡ ls = of_source enumerate_source all c.enumerate-index-items.result c.into_iter.result (λ it. it.rest.items) ls gives c.enumerate-index-items.ensures.source c.into_iter.ensures.rest in
     let len : all.iter.rest.len ≡ length ls =
-        of_source enumerate_source all c.enumerate-index-items.result c.into_iter.result (λ it. it.rest.len) (length ls) gives c.enumerate-index-items.ensures.source (c.into_iter.ensures.len ∙ c.args.scenario.phases.ok.0)
+    of_source enumerate_source all c.enumerate-index-items.result c.into_iter.result (λ it. it.rest.len) (length ls) gives c.enumerate-index-items.ensures.source (c.into_iter.ensures.len ∙ c.args.scenario.phases.ok.0)
     in
     let count : all.count ≡ 0 = ap enumerate_count gives ∙ c.enumerate-index-items.ensures.count in
     let n = length c.loop-index.yielded in

@@ -1,11 +1,12 @@
 -- The members of an object, and the items of an array.
-use Rattle.std.proofs.Common.{◌≡◌, ◌&&◌, ◌∙◌, ℕ, Bool, true, false, not, List, [], ◌∷◌, Option, Some, length, map, find, option_map, refl, sym, ap, is_none, if◌then◌else◌}
+use Rattle.std.proofs.Common.{◌≡◌, ◌&&◌, ◌∙◌, ◌++◌, ℕ, Bool, true, false, not, List, [], ◌∷◌, Option, Some, length, map, find, option_map, refl, sym, ap, is_none, if◌then◌else◌}
 use Rattle.std.specs.List.{list_all}
-use Rattle.serde_json.specs.Data.{Items}
+use Rattle.serde_json.specs.Data.{Data, Items}
 use Rattle.serde_json.specs.Events.{items_len}
-use Rattle.serde_json.specs.View.{items_view}
+use Rattle.serde_json.specs.View.{items_view, view}
 use Rattle.serde_json.specs.declared.value.Value.{Value}
 use Rattle.serde_json.proofs.Views.{items_len-items_view}
+use Rattle.am_cli.specs.Told.{TellEach}
 
 -- an array has as many items as there are values
 pub has_all : (array : Option Items) (values : List Value) (n : ℕ) → Some (items_view values) ≡ array → n ≡ length values → option_map items_len array ≡ Some n
@@ -20,3 +21,11 @@ none_fails test f (x ∷ xs) = step (test (f x)) (none_fails test f xs)
         → is_none (if not b then Some (f x) else find (λ y. not (test y)) (map f xs)) ≡ (b && list_all (λ z. test (f z)) xs)
     step true later = later
     step false later = refl
+
+-- one more value, and what it tells
+pub tell_more : {X : Type 0} (tells : Data → X → Type 0) (values : List Value) (xs : List X) (value : Value) (x : X)
+    → TellEach tells (items_view values) xs → tells (view value) x → TellEach tells (items_view (values ++ value ∷ [])) (xs ++ x ∷ [])
+tell_more tells [] [] value x so_far more = (more, tt)
+tell_more tells [] (y ∷ ys) value x so_far more = absurd so_far
+tell_more tells (v ∷ vs) [] value x so_far more = absurd so_far
+tell_more tells (v ∷ vs) (y ∷ ys) value x so_far more = (so_far.0, tell_more tells vs ys value x so_far.1 more)

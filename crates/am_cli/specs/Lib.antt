@@ -1,2 +1,5 @@
 pub mod Bytes
+pub mod Configured
 pub mod Read
+pub mod Routed
+pub mod Told

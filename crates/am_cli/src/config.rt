@@ -1,13 +1,17 @@
 //! The configuration of a dispatcher.
-ghost use Rattle.std.specs.Prelude.{◌≡◌, IfOk, None};
-ghost use Rattle.am_model.specs.Config.{config_fault};
+ghost use Rattle.std.specs.Prelude.{◌≡◌, IfOk, None, codes};
+ghost use Rattle.am_alerts.specs.RoutingTree.{tree_of};
+ghost use Rattle.am_model.specs.Config.{config_fault, greatest_limits};
+ghost use Rattle.am_cli.specs.Configured.{TellsConfig, TellsLimits};
+ghost use Rattle.am_cli.specs.Told.{IsNumber, HasOr};
+ghost use Rattle.serde_json.specs.View.{members_view, view};
 
 use crate::duration::duration_or;
 use crate::fault::InputFault;
 use crate::reader::{FromJson, Object, Reader};
 use crate::refusal::{refuse_config, refuse_routes};
 use crate::route::read_root;
-use am_alerts::route::{Child, Routes};
+use am_alerts::route::{Child, Route, Routes};
 use am_alerts::sequence::Sequence;
 use am_model::config::{Config, Integration, Limits, Receiver};
 use am_mute::inhibit::InhibitRule;
@@ -17,7 +21,8 @@ const RETENTION: u64 = 432_000_000;
 
 /// Reads a configuration. One that no dispatcher may have is refused.
 pub fn read_config(reader: &Reader<'_, '_>) -> Result<Config, InputFault>
-    ensures { IfOk result (λ config. config_fault config ≡ None) }
+    ensures fault { IfOk result (λ config. config_fault config ≡ None) }
+    ensures told { IfOk result (TellsConfig reader.now.manner (view reader.now.value)) }
 {
     let config = read_parts(reader)?;
     match config.check() {
@@ -27,7 +32,9 @@ pub fn read_config(reader: &Reader<'_, '_>) -> Result<Config, InputFault>
 }
 
 /// Reads the parts of a configuration.
-fn read_parts(reader: &Reader<'_, '_>) -> Result<Config, InputFault> {
+fn read_parts(reader: &Reader<'_, '_>) -> Result<Config, InputFault>
+    ensures { IfOk result (TellsConfig reader.now.manner (view reader.now.value)) }
+{
     let config = reader.object()?;
     config.only(&[
         "retention",
@@ -38,22 +45,48 @@ fn read_parts(reader: &Reader<'_, '_>) -> Result<Config, InputFault> {
         "inhibit",
     ])?;
     let retention = duration_or(&config, "retention", RETENTION)?;
-    let limits = config.optional_as::<Limits>("limits")?;
+    let limits = read_limits(&config)?;
     let receivers = config.required("receivers")?.list::<Receiver>()?;
     let root = read_root(&config.required("route")?)?;
     let children = config.list_or_none::<Child>("children")?;
     let rules = config.list_or_none::<InhibitRule>("inhibit")?;
-    let routes = Routes::new(root, children).map_err(|cause| refuse_routes(reader, cause))?;
+    let routes = make_routes(reader, root, children)?;
     Ok(Config {
         routes,
         receivers: Sequence::from(receivers),
         rules: Sequence::from(rules),
         retention,
-        limits: limits.unwrap_or(Limits::default()),
+        limits,
     })
 }
 
+/// The routing tree of a root and its children.
+fn make_routes(
+    reader: &Reader<'_, '_>,
+    root: Route,
+    children: Vec<Child>,
+) -> Result<Routes, InputFault>
+    ensures { IfOk result (λ routes. routes ≡ tree_of root children.items) }
+{
+    match Routes::new(root, children) {
+        Ok(routes) => Ok(routes),
+        Err(cause) => Err(refuse_routes(reader, cause)),
+    }
+}
+
+/// The limits of a configuration, or the greatest where it tells none.
+fn read_limits(config: &Object<'_, '_>) -> Result<Limits, InputFault>
+    ensures { IfOk result (HasOr TellsLimits greatest_limits (codes "limits") (members_view config.now.members)) }
+{
+    match config.optional("limits") {
+        None => Ok(Limits::default()),
+        Some(member) => Limits::read(&member),
+    }
+}
+
 impl<'v> FromJson<'v> for Limits {
+    ghost tells = { λ manner value limits. TellsLimits value limits };
+
     fn read(reader: &Reader<'v, '_>) -> Result<Limits, InputFault> {
         let limits = reader.object()?;
         limits.only(&["names", "groups", "silences", "flushes", "history"])?;
@@ -68,11 +101,17 @@ impl<'v> FromJson<'v> for Limits {
     }
 }
 
-fn read_limit(limits: &Object<'_, '_>, name: &str, absent: usize) -> Result<usize, InputFault> {
+fn read_limit(limits: &Object<'_, '_>, name: &str, absent: usize) -> Result<usize, InputFault>
+    ensures { IfOk result (HasOr IsNumber absent name.now (members_view limits.now.members)) }
+{
     Ok(limits.number_or(name, absent as u64)? as usize)
 }
 
 impl<'v> FromJson<'v> for Receiver {
+    ghost use Rattle.am_cli.specs.Configured.{TellsReceiver};
+
+    ghost tells = { λ manner value receiver. TellsReceiver value receiver };
+
     fn read(reader: &Reader<'v, '_>) -> Result<Receiver, InputFault> {
         let receiver = reader.object()?;
         receiver.only(&["name", "integrations"])?;
@@ -86,6 +125,10 @@ impl<'v> FromJson<'v> for Receiver {
 }
 
 impl<'v> FromJson<'v> for Integration {
+    ghost use Rattle.am_cli.specs.Configured.{TellsIntegration};
+
+    ghost tells = { λ manner value integration. TellsIntegration value integration };
+
     fn read(reader: &Reader<'v, '_>) -> Result<Integration, InputFault> {
         let integration = reader.object()?;
         integration.only(&["kind", "send_resolved"])?;

@@ -1,4 +1,9 @@
 //! Label sets.
+ghost use Rattle.std.specs.Prelude.{IfOk};
+ghost use Rattle.am_alerts.specs.Labels.{labels_in};
+ghost use Rattle.serde_json.specs.View.{view};
+ghost use Rattle.am_cli.specs.Configured.{TellsLabels, TellsPairs};
+
 use crate::fault::{InputFault, Word};
 use crate::reader::{FromJson, Manner, Reader};
 use am_alerts::labels::{LabelFault, Labels, is_label_name};
@@ -6,6 +11,10 @@ use am_alerts::limits::MAX_LABEL_BYTES;
 
 /// The name of a label and its value: an array of two texts.
 impl<'v> FromJson<'v> for (&'v str, &'v str) {
+    ghost use Rattle.am_cli.specs.Configured.{IsPair};
+
+    ghost tells = { λ manner value pair. IsPair value pair };
+
     fn read(reader: &Reader<'v, '_>) -> Result<(&'v str, &'v str), InputFault> {
         let (name, value) = reader.pair()?;
         Ok((name.text()?, value.text()?))
@@ -15,7 +24,9 @@ impl<'v> FromJson<'v> for (&'v str, &'v str) {
 /// Reads a label set: an array of pairs of a name and a value, or in the strict manner also an object
 /// whose members are the labels. Refused as a whole, or in the strict manner at the label at fault: of
 /// two of one name the second.
-pub fn read_labels(reader: &Reader<'_, '_>) -> Result<Labels, InputFault> {
+pub fn read_labels(reader: &Reader<'_, '_>) -> Result<Labels, InputFault>
+    ensures { IfOk result (TellsLabels reader.now.manner (view reader.now.value)) }
+{
     let pairs = read_pairs(reader)?;
     match Labels::read(reader.alloc(), pairs.as_slice()) {
         Ok(labels) => Ok(labels),
@@ -24,7 +35,9 @@ pub fn read_labels(reader: &Reader<'_, '_>) -> Result<Labels, InputFault> {
     }
 }
 
-fn read_pairs<'v>(reader: &Reader<'v, '_>) -> Result<Vec<(&'v str, &'v str)>, InputFault> {
+fn read_pairs<'v>(reader: &Reader<'v, '_>) -> Result<Vec<(&'v str, &'v str)>, InputFault>
+    ensures { IfOk result (λ pairs. TellsPairs reader.now.manner (view reader.now.value) pairs.items) }
+{
     if reader.manner() == Manner::Strict && reader.is_object() {
         return reader.object()?.texts();
     }

@@ -1,4 +1,8 @@
 //! Matchers, and the inhibition rules that are made of them.
+ghost use Rattle.std.specs.Prelude.{◌≡◌, IfOk, IfSome};
+ghost use Rattle.serde_json.specs.View.{view};
+ghost use Rattle.am_cli.specs.Configured.{IsMatcher, operator_text};
+
 use crate::fault::{InputFault, Word};
 use crate::matcher_text::parts_of_text;
 use crate::reader::{FromJson, Manner, Reader};
@@ -18,6 +22,10 @@ const VALUE: usize = 2;
 
 /// Three texts, or in the strict manner also one.
 impl<'v> FromJson<'v> for Matcher {
+    ghost use Rattle.am_cli.specs.Configured.{TellsMatcher};
+
+    ghost tells = { λ manner value matcher. TellsMatcher manner value matcher };
+
     fn read(reader: &Reader<'v, '_>) -> Result<Matcher, InputFault> {
         if reader.manner() == Manner::Strict && reader.is_text() {
             return read_one_text(reader);
@@ -37,7 +45,9 @@ fn read_one_text(reader: &Reader<'_, '_>) -> Result<Matcher, InputFault> {
     }
 }
 
-fn read_three_texts(reader: &Reader<'_, '_>) -> Result<Matcher, InputFault> {
+fn read_three_texts(reader: &Reader<'_, '_>) -> Result<Matcher, InputFault>
+    ensures { IfOk result (IsMatcher (view reader.now.value)) }
+{
     let place = reader.place();
     let (name, operator, value) = reader.three_texts()?;
     let Some(op) = operator_of(operator) else {
@@ -65,7 +75,9 @@ fn part_at_fault(fault: MatcherFault, name: &str) -> usize {
 }
 
 /// The operator that is written so.
-fn operator_of(text: &str) -> Option<Operator> {
+fn operator_of(text: &str) -> Option<Operator>
+    ensures { IfSome result (λ op. operator_text op ≡ text.now) }
+{
     match text {
         "=" => Some(Operator::Equal),
         "!=" => Some(Operator::NotEqual),
@@ -76,6 +88,10 @@ fn operator_of(text: &str) -> Option<Operator> {
 }
 
 impl<'v> FromJson<'v> for InhibitRule {
+    ghost use Rattle.am_cli.specs.Configured.{TellsRule};
+
+    ghost tells = { λ manner value rule. TellsRule manner value rule };
+
     fn read(reader: &Reader<'v, '_>) -> Result<InhibitRule, InputFault> {
         let rule = reader.object()?;
         rule.only(&["source", "target", "equal"])?;
@@ -83,10 +99,13 @@ impl<'v> FromJson<'v> for InhibitRule {
         let target = rule.list_or_none::<Matcher>("target")?;
         let equal = rule.list_or_none::<Text>("equal")?;
         let sources = source.len();
-        InhibitRule::new(source, target, equal).map_err(|fault| {
-            let list = list_at_fault(fault, sources);
-            reader.refuse_at(&reader.place().member(list), Word::Value)
-        })
+        match InhibitRule::new(source, target, equal) {
+            Ok(rule) => Ok(rule),
+            Err(fault) => {
+                let list = list_at_fault(fault, sources);
+                Err(reader.refuse_at(&reader.place().member(list), Word::Value))
+            }
+        }
     }
 }
 

@@ -1,13 +1,15 @@
 //! Going down a JSON value, with the place at each step.
 ghost use Rattle.std.specs.Prelude.{◌≡◌, ◌<◌, ◌≤◌, [], Some, IfErr, IfOk, IfSome, MatchOption};
-ghost use Rattle.std.specs.Prelude.{find, is_ok, is_some, not, option_and_then, option_map, string_bytes, vec_len};
+ghost use Rattle.std.specs.Prelude.{find, is_ok, is_some, not, option_map, string_bytes, vec_len};
 ghost use Rattle.std.specs.BTreeMap.{keys};
 ghost use Rattle.std.specs.Option.{option_copied};
 ghost use Rattle.std.specs.Result.{result_ok};
+ghost use Rattle.serde_json.specs.Data.{no_items, item, string};
 ghost use Rattle.serde_json.specs.Find.{as_array, as_bool, as_null, as_object, as_str, get_member};
 ghost use Rattle.serde_json.specs.Read.{read as read_text};
 ghost use Rattle.serde_json.specs.View.{items_view, members_view, view};
 ghost use Rattle.am_cli.specs.Read.{HasItems, IsRefusedBy, RefusesText, are_named, is_one_of, number_in};
+ghost use Rattle.am_cli.specs.Told.{Has, HasOr, IsList, IsText};
 
 use crate::fault::{InputFault, Word};
 use crate::place::Place;
@@ -71,8 +73,16 @@ impl<'v, 'p> Model for Object<'v, 'p> {
 
 /// What is read from a JSON value.
 pub trait FromJson<'v>: Drop + Sized {
+    ghost use Rattle.std.specs.Prelude.{⊤};
+    ghost use Rattle.serde_json.specs.Data.{Data};
+    ghost use Rattle.am_cli.specs.declared.reader.Manner.{Manner};
+
+    // What a JSON value tells in a manner; where nothing is said here, nothing is known of it.
+    ghost tells: { Manner → Data → Self → Type 0 } = { λ _ _ _. ⊤ };
+
     /// Reads it. The first fault is answered, at its place.
-    fn read(reader: &Reader<'v, '_>) -> Result<Self, InputFault>;
+    fn read(reader: &Reader<'v, '_>) -> Result<Self, InputFault>
+        ensures { IfOk result (tells reader.now.manner (view reader.now.value)) };
 }
 
 /// The JSON value that these bytes are. Refused as `NotJson` or for want of memory, with no place.
@@ -238,7 +248,8 @@ impl<'v, 'p> Reader<'v, 'p> {
 
     /// The items of an array, each read wholly before the next. `Kind` where there is no array.
     pub fn list<T: FromJson<'v>>(&self) -> Result<Vec<T>, InputFault>
-        ensures { IfOk result (λ items. HasItems (view self.now.value) (vec_len items)) }
+        ensures count { IfOk result (λ items. HasItems (view self.now.value) (vec_len items)) }
+        ensures told { IfOk result (λ items. IsList (T.tells self.now.manner) (view self.now.value) items.items) }
     {
         let mut items = Vec::new(self.alloc);
         let values = self.array()?;
@@ -252,6 +263,7 @@ impl<'v, 'p> Reader<'v, 'p> {
     /// counted.
     pub fn list_up_to<T: FromJson<'v>>(&self, most: usize) -> Result<Vec<T>, InputFault>
         ensures count { IfOk result (λ items. HasItems (view self.now.value) (vec_len items)) }
+        ensures told { IfOk result (λ items. IsList (T.tells self.now.manner) (view self.now.value) items.items) }
         ensures bound { IfOk result (λ items. vec_len items ≤ most) }
     {
         let items = self.list::<T>()?;
@@ -262,7 +274,12 @@ impl<'v, 'p> Reader<'v, 'p> {
     }
 
     /// The items of an array of length two, or `Kind`.
-    pub fn pair<'q>(&'q self) -> Result<(Reader<'v, 'q>, Reader<'v, 'q>), InputFault> {
+    pub fn pair<'q>(&'q self) -> Result<(Reader<'v, 'q>, Reader<'v, 'q>), InputFault>
+        ensures items { IfOk result (λ pair. as_array (view self.now.value)
+            ≡ Some (item (view pair.0.value) (item (view pair.1.value) no_items))) }
+        ensures manner { IfOk result (λ pair. (pair.0.manner ≡ self.now.manner) × (pair.1.manner ≡ self.now.manner)) }
+        ensures refused { IfErr result (IsRefusedBy Word.Kind) }
+    {
         match self.array()? {
             [first, second] => Ok((self.item(0, first), self.item(1, second))),
             _ => Err(self.refuse(Word::Kind)),
@@ -270,7 +287,11 @@ impl<'v, 'p> Reader<'v, 'p> {
     }
 
     /// The texts of an array of length three, or `Kind`.
-    pub fn three_texts(&self) -> Result<(&'v str, &'v str, &'v str), InputFault> {
+    pub fn three_texts(&self) -> Result<(&'v str, &'v str, &'v str), InputFault>
+        ensures texts { IfOk result (λ texts. as_array (view self.now.value)
+            ≡ Some (item (string texts.0.now) (item (string texts.1.now) (item (string texts.2.now) no_items)))) }
+        ensures refused { IfErr result (IsRefusedBy Word.Kind) }
+    {
         match self.array()? {
             [first, second, third] => {
                 let first = self.item(0, first).text()?;
@@ -385,14 +406,6 @@ impl<'v> Object<'v, '_> {
         }
     }
 
-    /// What is read from a member, if it is there.
-    pub fn optional_as<T: FromJson<'v>>(&self, name: &str) -> Result<Option<T>, InputFault> {
-        match self.optional(name) {
-            None => Ok(None),
-            Some(member) => Ok(Some(T::read(&member)?)),
-        }
-    }
-
     /// A number, or what it is if the member isn't there.
     pub fn number_or(&self, name: &str, absent: u64) -> Result<u64, InputFault>
         ensures value { MatchOption (get_member name.now (members_view self.now.members)) (result ≡ Ok absent)
@@ -419,9 +432,11 @@ impl<'v> Object<'v, '_> {
 
     /// The items of an array, or none if the member isn't there.
     pub fn list_or_none<T: FromJson<'v>>(&self, name: &str) -> Result<Vec<T>, InputFault>
-        ensures { IfOk result (λ items.
+        ensures count { IfOk result (λ items.
             MatchOption (get_member name.now (members_view self.now.members)) (items.items ≡ [])
             (λ member. HasItems member (vec_len items))) }
+        ensures told { IfOk result (λ items.
+            HasOr (IsList (T.tells self.now.manner)) [] name.now (members_view self.now.members) items.items) }
     {
         match self.optional(name) {
             None => Ok(Vec::new(self.alloc)),
@@ -431,7 +446,9 @@ impl<'v> Object<'v, '_> {
 
     /// The items of an array that has at most so many, or none if the member isn't there.
     pub fn list_up_to<T: FromJson<'v>>(&self, name: &str, most: usize) -> Result<Vec<T>, InputFault>
-        ensures { IfOk result (λ items. vec_len items ≤ most) }
+        ensures told { IfOk result (λ items.
+            HasOr (IsList (T.tells self.now.manner)) [] name.now (members_view self.now.members) items.items) }
+        ensures bound { IfOk result (λ items. vec_len items ≤ most) }
     {
         match self.optional(name) {
             None => Ok(Vec::new(self.alloc)),
@@ -441,8 +458,7 @@ impl<'v> Object<'v, '_> {
 
     /// A copy of a text that must be there, or `Missing`.
     pub fn required_text(&self, name: &str) -> Result<Text, InputFault>
-        ensures { IfOk result (λ text.
-            option_and_then as_str (get_member name.now (members_view self.now.members)) ≡ Some text) }
+        ensures { IfOk result (Has IsText name.now (members_view self.now.members)) }
     {
         Ok(Text::new(self.alloc, self.required(name)?.text()?)?)
     }
@@ -471,6 +487,10 @@ pub fn is_one_of(names: &[&str], name: &str) -> bool
 }
 
 impl<'v> FromJson<'v> for Text {
+    ghost use Rattle.am_cli.specs.Told.{IsText};
+
+    ghost tells = { λ manner value text. IsText value text };
+
     fn read(reader: &Reader<'v, '_>) -> Result<Text, InputFault> {
         Ok(Text::new(reader.alloc(), reader.text()?)?)
     }

@@ -1,4 +1,13 @@
 //! The routing tree of a configuration.
+ghost use Rattle.std.specs.Prelude.{◌≡◌, [], IfOk, List, ℕ, codes};
+ghost use Rattle.std.specs.List.{list_any};
+ghost use Rattle.std.specs.Str.{bytes_eq};
+ghost use Rattle.am_alerts.specs.declared.route.GroupBy.TheVariants.{Names};
+ghost use Rattle.am_cli.specs.Configured.{IsGroupBy, all_labels, TellsOptions, TellsRoot};
+ghost use Rattle.am_cli.specs.Routed.{routed};
+ghost use Rattle.am_cli.specs.Told.{HasOr};
+ghost use Rattle.serde_json.specs.View.{members_view, view};
+
 use crate::duration::{duration_or, interval_or};
 use crate::fault::{InputFault, Word};
 use crate::reader::{FromJson, Object, Reader};
@@ -31,7 +40,9 @@ struct Options {
 }
 
 impl Options {
-    fn read(route: &Object<'_, '_>) -> Result<Options, InputFault> {
+    fn read(route: &Object<'_, '_>) -> Result<Options, InputFault>
+        ensures { (name : List ℕ) → IfOk result (λ options. TellsOptions (members_view route.now.members) (routed name options)) }
+    {
         let receiver = route.required_text("receiver")?;
         let group_by = read_group_by(route)?;
         let group_wait = duration_or(route, "group_wait", GROUP_WAIT)?;
@@ -46,7 +57,9 @@ impl Options {
         })
     }
 
-    fn named(self, name: Text) -> Route {
+    fn named(self, name: Text) -> Route
+        ensures { result ≡ routed name self }
+    {
         let Options {
             receiver,
             group_by,
@@ -66,7 +79,9 @@ impl Options {
 }
 
 /// Reads the root route.
-pub fn read_root(reader: &Reader<'_, '_>) -> Result<Route, InputFault> {
+pub fn read_root(reader: &Reader<'_, '_>) -> Result<Route, InputFault>
+    ensures { IfOk result (TellsRoot (view reader.now.value)) }
+{
     let root = reader.object()?;
     root.only(&[
         "receiver",
@@ -80,6 +95,10 @@ pub fn read_root(reader: &Reader<'_, '_>) -> Result<Route, InputFault> {
 }
 
 impl<'v> FromJson<'v> for Child {
+    ghost use Rattle.am_cli.specs.Configured.{TellsChild};
+
+    ghost tells = { λ manner value child. TellsChild manner value child };
+
     fn read(reader: &Reader<'v, '_>) -> Result<Child, InputFault> {
         let child = reader.object()?;
         child.only(&[
@@ -104,17 +123,32 @@ impl<'v> FromJson<'v> for Child {
     }
 }
 
-/// The labels by which a route groups. `...` stands for all of them, and alone.
-fn read_group_by(route: &Object<'_, '_>) -> Result<GroupBy, InputFault> {
-    let Some(member) = route.optional("group_by") else {
-        return Ok(GroupBy::Names(Sequence::empty(route.alloc())));
-    };
+/// The labels by which a route groups.
+fn read_group_by(route: &Object<'_, '_>) -> Result<GroupBy, InputFault>
+    ensures { IfOk result (HasOr IsGroupBy (Names []) (codes "group_by") (members_view route.now.members)) }
+{
+    match route.optional("group_by") {
+        None => Ok(GroupBy::Names(Sequence::empty(route.alloc()))),
+        Some(member) => read_names(&member),
+    }
+}
+
+/// Names of labels. `...` stands for all of them, and alone.
+fn read_names(member: &Reader<'_, '_>) -> Result<GroupBy, InputFault>
+    ensures { IfOk result (IsGroupBy (view member.now.value)) }
+{
     let names = member.list_up_to::<Text>(MAX_NAMES)?;
-    if !names.iter().any(|name| name.as_str() == ALL_LABELS) {
+    if !has_all_labels(names.as_slice()) {
         return Ok(GroupBy::Names(Sequence::from(names)));
     }
     if names.len() > 1 {
         return Err(member.refuse(Word::Value));
     }
     Ok(GroupBy::All)
+}
+
+fn has_all_labels(names: &[Text]) -> bool
+    ensures { result ≡ list_any (λ name. bytes_eq name all_labels) names.now }
+{
+    names.iter().any(|name| name.as_str() == ALL_LABELS)
 }

@@ -1,0 +1,13 @@
+-- What is made unless there is a fault.
+use Rattle.std.proofs.Common.{◌≡◌, Option, Some, None, Ok, refl}
+use Rattle.am_alerts.specs.Fault.{ok_unless}
+
+-- what was made is the value
+pub made_is : {F T : Type 0} (fault : Option F) (value made : T) → Ok made ≡ ok_unless fault value → made ≡ value
+made_is None value made is = cc
+made_is (Some f) value made is = absurd (cc)
+
+-- what was made has no fault
+pub made_well : {F T : Type 0} (fault : Option F) (value made : T) → Ok made ≡ ok_unless fault value → fault ≡ None
+made_well None value made is = refl
+made_well (Some f) value made is = absurd (cc)

@@ -6,3 +6,4 @@ pub mod Seats
 pub mod Troubles
 pub mod Runs
 pub mod FirstRun
+pub mod Told

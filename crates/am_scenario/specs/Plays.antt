@@ -3,6 +3,7 @@ use Rattle.std.specs.Prelude.{◌≡◌, ℕ, ◌+◌, List}
 use Rattle.am_model.specs.declared.record.Record.{Record}
 use Rattle.am_scenario.specs.Lanes.{calls_by, lane_calls}
 use Rattle.am_scenario.specs.Report.{IsReportOn}
+use Rattle.am_scenario.specs.Told.{IsScenarioIn}
 use Rattle.am_scenario.specs.declared.scenario.Scenario.{Scenario}
 
 -- the text is the report on a legal history of the board of this id, with the scenario's configuration, in which the pass after each
@@ -11,3 +12,9 @@ pub record IsPlayOf (id : ℕ) (scenario : Scenario) (text : List ℕ) : Type 0 
   pub history : List Record
   pub report : IsReportOn scenario.config id history text
   pub lanes : (i : ℕ) → calls_by (i + 1) history ≡ lane_calls i scenario.phases.items
+
+-- the text is the report on the scenario that an input tells, which was played on the board of this id
+pub record IsPlay (id : ℕ) (input text : List ℕ) : Type 0 where
+  pub scenario : Scenario
+  pub told : IsScenarioIn input scenario
+  pub played : IsPlayOf id scenario text

@@ -1,4 +1,10 @@
 //! The calls of a lane.
+ghost use Rattle.std.specs.Prelude.{◌≡◌, None, IfOk, IsSomeAnd, MatchOption, codes};
+ghost use Rattle.serde_json.specs.Find.{get_member};
+ghost use Rattle.serde_json.specs.View.{members_view, view};
+ghost use Rattle.am_cli.specs.Told.{HasOr};
+ghost use Rattle.am_scenario.specs.Told.{IsEnd, TellsAlert, TellsSilence};
+
 use am_alerts::alert::Alert;
 use am_alerts::matcher::Matcher;
 use am_cli::fault::{InputFault, Word};
@@ -15,6 +21,10 @@ pub enum LaneCall {
 }
 
 impl<'v> FromJson<'v> for LaneCall {
+    ghost use Rattle.am_scenario.specs.Told.{TellsCall};
+
+    ghost tells = { λ manner value call. TellsCall manner value call };
+
     fn read(reader: &Reader<'v, '_>) -> Result<LaneCall, InputFault> {
         let call = reader.object()?;
         let insert = read_insert(&call)?;
@@ -31,36 +41,70 @@ impl<'v> FromJson<'v> for LaneCall {
 }
 
 /// The alert of an insert, if the call has one.
-fn read_insert(call: &Object<'_, '_>) -> Result<Option<Alert>, InputFault> {
-    let Some(reader) = call.optional("insert") else {
-        return Ok(None);
-    };
+fn read_insert(call: &Object<'_, '_>) -> Result<Option<Alert>, InputFault>
+    ensures { IfOk result (λ insert. MatchOption (get_member (codes "insert") (members_view call.now.members))
+        (insert ≡ None) (λ value. IsSomeAnd insert (TellsAlert call.now.manner value))) }
+{
+    match call.optional("insert") {
+        None => Ok(None),
+        Some(reader) => Ok(Some(read_alert(&reader)?)),
+    }
+}
+
+fn read_alert(reader: &Reader<'_, '_>) -> Result<Alert, InputFault>
+    ensures { IfOk result (TellsAlert reader.now.manner (view reader.now.value)) }
+{
     let insert = reader.object()?;
     let labels = read_labels(&insert.required("labels")?)?;
     let starts = insert.required("starts")?.number()?;
-    let ends = match insert.optional("ends") {
-        None => None,
-        Some(member) if member.is_null() => None,
-        Some(member) => Some(member.number()?),
-    };
+    let ends = read_ends(&insert)?;
     match Alert::new(labels, starts, ends) {
-        Ok(alert) => Ok(Some(alert)),
+        Ok(alert) => Ok(alert),
         Err(_) => Err(reader.refuse(Word::Value)),
     }
 }
 
-/// The silence that is set, if the call has one.
-fn read_silence(call: &Object<'_, '_>) -> Result<Option<Silence>, InputFault> {
-    let Some(reader) = call.optional("silence") else {
+/// When an alert ends, if it tells that.
+fn read_ends(insert: &Object<'_, '_>) -> Result<Option<u64>, InputFault>
+    ensures { IfOk result (HasOr IsEnd None (codes "ends") (members_view insert.now.members)) }
+{
+    match insert.optional("ends") {
+        None => Ok(None),
+        Some(member) => read_end(&member),
+    }
+}
+
+/// A moment, or `null` for none.
+fn read_end(member: &Reader<'_, '_>) -> Result<Option<u64>, InputFault>
+    ensures { IfOk result (IsEnd (view member.now.value)) }
+{
+    if member.is_null() {
         return Ok(None);
-    };
+    }
+    Ok(Some(member.number()?))
+}
+
+/// The silence that is set, if the call has one.
+fn read_silence(call: &Object<'_, '_>) -> Result<Option<Silence>, InputFault>
+    ensures { IfOk result (λ silence. MatchOption (get_member (codes "silence") (members_view call.now.members))
+        (silence ≡ None) (λ value. IsSomeAnd silence (TellsSilence call.now.manner value))) }
+{
+    match call.optional("silence") {
+        None => Ok(None),
+        Some(reader) => Ok(Some(read_set(&reader)?)),
+    }
+}
+
+fn read_set(reader: &Reader<'_, '_>) -> Result<Silence, InputFault>
+    ensures { IfOk result (TellsSilence reader.now.manner (view reader.now.value)) }
+{
     let silence = reader.object()?;
     let id = silence.required("id")?.number()?;
     let matchers = silence.required("matchers")?.list::<Matcher>()?;
     let start = silence.required("start")?.number()?;
     let end = silence.required("end")?.number()?;
     match Silence::new(id, matchers, start, end) {
-        Ok(silence) => Ok(Some(silence)),
+        Ok(silence) => Ok(silence),
         Err(_) => Err(reader.refuse(Word::Value)),
     }
 }

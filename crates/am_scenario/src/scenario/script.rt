@@ -1,4 +1,9 @@
 //! What is answered to the attempts of a notice.
+ghost use Rattle.std.specs.Prelude.{◌≡◌, Some, IfOk};
+ghost use Rattle.serde_json.specs.Find.{as_str};
+ghost use Rattle.serde_json.specs.View.{view};
+ghost use Rattle.am_scenario.specs.Told.{answer_text};
+
 use am_alerts::limits::MAX_DURATION;
 use am_cli::fault::{InputFault, Word};
 use am_cli::reader::{FromJson, Reader};
@@ -46,6 +51,10 @@ impl Planned {
 }
 
 impl<'v> FromJson<'v> for Script {
+    ghost use Rattle.am_scenario.specs.Told.{TellsScript};
+
+    ghost tells = { λ manner value script. TellsScript value script };
+
     fn read(reader: &Reader<'v, '_>) -> Result<Script, InputFault> {
         let script = reader.object()?;
         Ok(Script {
@@ -57,6 +66,10 @@ impl<'v> FromJson<'v> for Script {
 }
 
 impl<'v> FromJson<'v> for Planned {
+    ghost use Rattle.am_scenario.specs.Told.{TellsPlanned};
+
+    ghost tells = { λ manner value planned. TellsPlanned value planned };
+
     fn read(reader: &Reader<'v, '_>) -> Result<Planned, InputFault> {
         let (word, lasts) = reader.pair()?;
         let answer = read_answer(&word)?;
@@ -65,7 +78,9 @@ impl<'v> FromJson<'v> for Planned {
     }
 }
 
-fn read_answer(reader: &Reader<'_, '_>) -> Result<Answer, InputFault> {
+fn read_answer(reader: &Reader<'_, '_>) -> Result<Answer, InputFault>
+    ensures { IfOk result (λ answer. as_str (view reader.now.value) ≡ Some (answer_text answer)) }
+{
     match reader.text()? {
         "done" => Ok(Answer::Done),
         "again" => Ok(Answer::Again),

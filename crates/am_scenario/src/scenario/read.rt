@@ -1,0 +1,78 @@
+//! How a scenario is read.
+ghost use Rattle.std.specs.Prelude.{◌≤◌, IfOk, codes};
+ghost use Rattle.am_cli.specs.Told.{IsNumber, HasOr};
+ghost use Rattle.am_pool.specs.declared.limits.TheConstants.{MAX_WORKERS};
+ghost use Rattle.am_scenario.specs.Told.{TellsScenario};
+ghost use Rattle.serde_json.specs.View.{members_view, view};
+
+use super::{Lane, LaneCall, MAX_LANES, Phase, Scenario, Script};
+use am_alerts::limits::MAX_MOMENT;
+use am_cli::config::read_config;
+use am_cli::fault::{InputFault, Word};
+use am_cli::reader::{FromJson, Object, Reader};
+use am_pool::MAX_WORKERS;
+use serde_json::Value;
+use std::alloc::Global;
+
+/// How many workers there are, where the scenario doesn't say.
+const USUAL_WORKERS: usize = 2;
+
+/// Reads a whole scenario. The first fault in the order of reading is answered.
+pub fn read_scenario(alloc: Global, value: &Value) -> Result<Scenario, InputFault>
+    ensures { IfOk result (TellsScenario (view value.now)) }
+{
+    let reader = Reader::top(alloc, value);
+    let top = reader.object()?;
+    let config = read_config(&top.required("config")?)?;
+    let workers = read_workers(&top)?;
+    let scripts = top.list_or_none::<Script>("answers")?;
+    let phases = top.required("phases")?.list::<Phase>()?;
+    Ok(Scenario {
+        config,
+        workers,
+        scripts,
+        phases,
+    })
+}
+
+/// How many workers there are to be.
+fn read_workers(top: &Object<'_, '_>) -> Result<usize, InputFault>
+    ensures bounds { IfOk result (λ workers. (1 ≤ workers) × (workers ≤ MAX_WORKERS)) }
+    ensures told { IfOk result (HasOr IsNumber 2 (codes "workers") (members_view top.now.members)) }
+{
+    match top.optional("workers") {
+        None => Ok(USUAL_WORKERS),
+        Some(member) => {
+            let number = member.number()?;
+            if number < 1 || number > MAX_WORKERS as u64 {
+                return Err(member.refuse(Word::Value));
+            }
+            Ok(number as usize)
+        }
+    }
+}
+
+impl<'v> FromJson<'v> for Phase {
+    ghost use Rattle.am_scenario.specs.Told.{TellsPhase};
+
+    ghost tells = { λ manner value phase. TellsPhase manner value phase };
+
+    fn read(reader: &Reader<'v, '_>) -> Result<Phase, InputFault> {
+        let phase = reader.object()?;
+        let at = phase.required("at")?.number_up_to(MAX_MOMENT)?;
+        let flush = phase.flag_or("flush", false)?;
+        let lanes = phase.list_up_to::<Lane>("lanes", MAX_LANES)?;
+        Ok(Phase { at, flush, lanes })
+    }
+}
+
+impl<'v> FromJson<'v> for Lane {
+    ghost use Rattle.am_scenario.specs.Told.{TellsLane};
+
+    ghost tells = { λ manner value lane. TellsLane manner value lane };
+
+    fn read(reader: &Reader<'v, '_>) -> Result<Lane, InputFault> {
+        let calls = reader.list::<LaneCall>()?;
+        Ok(Lane { calls })
+    }
+}

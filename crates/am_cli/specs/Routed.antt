@@ -5,6 +5,11 @@ use Rattle.am_cli.specs.declared.route.Options.{Options}
 
 -- the route of this name with these options
 abbrev pub routed : List ℕ → Options → Route
-routed name o = record
-    { name = name; receiver = o.receiver; group_by = o.group_by; group_wait = o.group_wait; group_interval = o.group_interval;
-      repeat_interval = o.repeat_interval }
+routed name o = record {
+  name = name;
+  receiver = o.receiver;
+  group_by = o.group_by;
+  group_wait = o.group_wait;
+  group_interval = o.group_interval;
+  repeat_interval = o.repeat_interval;
+}

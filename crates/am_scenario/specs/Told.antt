@@ -71,7 +71,7 @@ abbrev pub IsCall : Manner → Members → LaneCall → Type 0
 IsCall manner members (Insert alert) = Has (TellsAlert manner) (codes "insert") members alert × HasNone (codes "silence") members × HasNone (codes "maintain") members
 IsCall manner members (Silence silence) = Has (TellsSilence manner) (codes "silence") members silence × HasNone (codes "insert") members × HasNone (codes "maintain") members
 IsCall manner members Maintain = HasNone (codes "insert") members × HasNone (codes "silence") members
-  × (value : Data) × (get_member (codes "maintain") members ≡ Some value)
+    × (value : Data) × (get_member (codes "maintain") members ≡ Some value)
 
 pub record TellsCall (manner : Manner) (value : Data) (call : LaneCall) : Type 0 where
   pub members : Members

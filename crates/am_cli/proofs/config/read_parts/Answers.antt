@@ -26,14 +26,14 @@ returns c =
       retention = told_or duration_in 432000000 c.in_ok-retention.retention (get_member (codes "retention") members) c.in_ok-retention.ensures;
       limits = c.in_ok-limits.ensures;
       receivers = subst (λ (rs : List Receiver). Has (IsList TellsReceiver) (codes "receivers") members rs) (sym c.from.ensures)
-        (told_by (IsList TellsReceiver) (get_member (codes "receivers") members) (view c.in_ok-required.field-0.value) c.in_ok-receivers.receivers.items
+          (told_by (IsList TellsReceiver) (get_member (codes "receivers") members) (view c.in_ok-required.field-0.value) c.in_ok-receivers.receivers.items
           c.in_ok-required.ensures.value c.in_ok-receivers.ensures.told);
       root = subst (λ (r : Route). Has TellsRoot (codes "route") members r) (sym (ap (λ (t : RoutingTree). t.root) routes))
-        (told_by TellsRoot (get_member (codes "route") members) (view c.in_ok-required-2.field-0.value) c.in_ok-root.root
+          (told_by TellsRoot (get_member (codes "route") members) (view c.in_ok-required-2.field-0.value) c.in_ok-root.root
           c.in_ok-required-2.ensures.value c.in_ok-root.ensures);
       children = subst (λ (cs : List Child). HasOr (IsList (TellsChild c.args.reader.now.manner)) [] (codes "children") members cs)
-        (sym (ap (λ (t : RoutingTree). t.children) routes))
-        (subst (λ (m : Manner). HasOr (IsList (TellsChild m)) [] (codes "children") members children) manner c.in_ok-children.ensures.told);
+          (sym (ap (λ (t : RoutingTree). t.children) routes))
+          (subst (λ (m : Manner). HasOr (IsList (TellsChild m)) [] (codes "children") members children) manner c.in_ok-children.ensures.told);
       rules = subst (λ (rs : List RuleData). HasOr (IsList (TellsRule c.args.reader.now.manner)) [] (codes "inhibit") members rs) (sym c.from-2.ensures)
-        (subst (λ (m : Manner). HasOr (IsList (TellsRule m)) [] (codes "inhibit") members rules) manner c.in_ok-rules.ensures.told);
+          (subst (λ (m : Manner). HasOr (IsList (TellsRule m)) [] (codes "inhibit") members rules) manner c.in_ok-rules.ensures.told);
     }

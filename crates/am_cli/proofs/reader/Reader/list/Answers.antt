@@ -15,16 +15,16 @@ loop-index-preserved g c =
     let x = c.in_ok-read.field-0 in
     let here : i < length values = omega arith in
     let taken : take (i + 1) values ≡ take i values ++ value ∷ [] =
-        take_more values i value here ∙ ap (λ (v : Value). take i values ++ v ∷ []) (sym c.index-values-index.is) in
+    take_more values i value here ∙ ap (λ (v : Value). take i values ++ v ∷ []) (sym c.index-values-index.is) in
     let read : tells (view value) x =
-        subst (λ (v : Value). tells (view v) x) c.item.ensures.value
-        (subst (λ manner. g.T.FromJson.tells manner (view c.item.result.value) x) c.item.ensures.manner c.in_ok-read.ensures) in
+    subst (λ (v : Value). tells (view v) x) c.item.ensures.value
+    (subst (λ manner. g.T.FromJson.tells manner (view c.item.result.value) x) c.item.ensures.manner c.in_ok-read.ensures) in
     let more = tell_more tells (take i values) c.loop-index.items.items value x c.loop-index.invariant.told read in
     let pushed = c.in_ok-push.ensures.items in
     record {
       count = omega (arith, c.in_ok-push.ensures.len, c.loop-index.invariant.count);
       told = subst (λ xs. TellEach tells (items_view (take (i + 1) values)) xs) (sym pushed)
-        (subst (λ (vs : List Value). TellEach tells (items_view vs) (c.loop-index.items.items ++ x ∷ [])) (sym taken) more);
+          (subst (λ (vs : List Value). TellEach tells (items_view vs) (c.loop-index.items.items ++ x ∷ [])) (sym taken) more);
     }
 
 -- the walk ends where the array does

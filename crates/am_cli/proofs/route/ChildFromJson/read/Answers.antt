@@ -21,6 +21,6 @@ returns c =
       options = subst (λ (r : Route). TellsOptions members r) (sym route) (c.in_ok-options.ensures c.in_ok-name.name);
       name = subst (λ (n : List ℕ). Has IsText (codes "name") members n) (sym (ap (λ (r : Route). r.name) route)) c.in_ok-name.ensures;
       matchers = subst (λ (ms : List MatcherParts). HasOr (IsList (TellsMatcher c.args.reader.now.manner)) [] (codes "matchers") members ms) (sym c.from.ensures)
-        (subst (λ (m : Manner). HasOr (IsList (TellsMatcher m)) [] (codes "matchers") members matchers) c.in_ok-child.ensures.manner c.in_ok-matchers.ensures.told);
+          (subst (λ (m : Manner). HasOr (IsList (TellsMatcher m)) [] (codes "matchers") members matchers) c.in_ok-child.ensures.manner c.in_ok-matchers.ensures.told);
       goes_on = told_or as_bool false c.in_ok-goes_on.goes_on (get_member (codes "continue") members) c.in_ok-goes_on.ensures.value;
     }

@@ -18,17 +18,17 @@ returns-in-Ok c =
     let set : SilenceData = silence_of c.in_ok-id.id matchers c.in_ok-start.start c.in_ok-end.end in
     let made : c.in-Ok.silence ≡ set = made_is (silence_fault set) set c.in-Ok.silence c.in-Ok.ensures in
     let listed : Has (IsList (TellsMatcher c.in_ok-required-2.field-0.manner)) (codes "matchers") members matchers =
-        told_by (IsList (TellsMatcher c.in_ok-required-2.field-0.manner)) (get_member (codes "matchers") members) (view c.in_ok-required-2.field-0.value) matchers
-        c.in_ok-required-2.ensures.value c.in_ok-matchers.ensures.told in
+    told_by (IsList (TellsMatcher c.in_ok-required-2.field-0.manner)) (get_member (codes "matchers") members) (view c.in_ok-required-2.field-0.value) matchers
+    c.in_ok-required-2.ensures.value c.in_ok-matchers.ensures.told in
     subst (λ (s : SilenceData). TellsSilence c.args.reader.now.manner (view c.args.reader.now.value) s) (sym made) (record {
       members = members;
       object = sym c.in_ok-silence.ensures.members;
       id = told_by IsNumber (get_member (codes "id") members) (view c.in_ok-required.field-0.value) set.id
-        c.in_ok-required.ensures.value (sym c.in_ok-id.ensures.number);
+          c.in_ok-required.ensures.value (sym c.in_ok-id.ensures.number);
       matchers = subst (λ (m : Manner). Has (IsList (TellsMatcher m)) (codes "matchers") members matchers) c.in_ok-silence.ensures.manner
-        (subst (λ (m : Manner). Has (IsList (TellsMatcher m)) (codes "matchers") members matchers) c.in_ok-required-2.ensures.manner listed);
+          (subst (λ (m : Manner). Has (IsList (TellsMatcher m)) (codes "matchers") members matchers) c.in_ok-required-2.ensures.manner listed);
       start = told_by IsNumber (get_member (codes "start") members) (view c.in_ok-required-3.field-0.value) set.start
-        c.in_ok-required-3.ensures.value (sym c.in_ok-start.ensures.number);
+          c.in_ok-required-3.ensures.value (sym c.in_ok-start.ensures.number);
       end = told_by IsNumber (get_member (codes "end") members) (view c.in_ok-required-4.field-0.value) set.end
-        c.in_ok-required-4.ensures.value (sym c.in_ok-end.ensures.number);
+          c.in_ok-required-4.ensures.value (sym c.in_ok-end.ensures.number);
     })

@@ -23,11 +23,11 @@ returns c =
       members = members;
       object = ap (λ (v : Value). as_object (view v)) (sym c.top-reader.ensures.value) ∙ sym c.in_ok-top.ensures.members;
       config = subst (λ (m : Manner). Has (TellsConfig m) (codes "config") members c.in_ok-config.config) first
-        (told_by (TellsConfig c.in_ok-required.field-0.manner) (get_member (codes "config") members) (view c.in_ok-required.field-0.value) c.in_ok-config.config
+          (told_by (TellsConfig c.in_ok-required.field-0.manner) (get_member (codes "config") members) (view c.in_ok-required.field-0.value) c.in_ok-config.config
           c.in_ok-required.ensures.value c.in_ok-config.ensures.told);
       workers = c.in_ok-workers.ensures.told;
       scripts = c.in_ok-scripts.ensures.told;
       phases = subst (λ (m : Manner). Has (IsList (TellsPhase m)) (codes "phases") members phases) second
-        (told_by (IsList (TellsPhase c.in_ok-required-2.field-0.manner)) (get_member (codes "phases") members) (view c.in_ok-required-2.field-0.value) phases
+          (told_by (IsList (TellsPhase c.in_ok-required-2.field-0.manner)) (get_member (codes "phases") members) (view c.in_ok-required-2.field-0.value) phases
           c.in_ok-required-2.ensures.value c.in_ok-phases.ensures.told);
     }

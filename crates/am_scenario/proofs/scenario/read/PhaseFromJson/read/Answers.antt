@@ -16,7 +16,7 @@ returns c =
       members = members;
       object = sym c.in_ok-phase.ensures.members;
       at = told_by IsNumber (get_member (codes "at") members) (view c.in_ok-required.field-0.value) c.in_ok-at.at
-        c.in_ok-required.ensures.value c.in_ok-at.ensures.number;
+          c.in_ok-required.ensures.value c.in_ok-at.ensures.number;
       flush = told_or as_bool false c.in_ok-flush.flush (get_member (codes "flush") members) c.in_ok-flush.ensures.value;
       lanes = subst (λ (m : Manner). HasOr (IsList (TellsLane m)) [] (codes "lanes") members lanes) c.in_ok-phase.ensures.manner c.in_ok-lanes.ensures.told;
     }

@@ -11,3 +11,7 @@ pub record IsPlayOf (id : ℕ) (scenario : Scenario) (text : List ℕ) : Type 0 
   pub history : List Record
   pub report : IsReportOn scenario.config id history text
   pub lanes : (i : ℕ) → calls_by (i + 1) history ≡ lane_calls i scenario.phases.items
+
+-- the text is the report on some scenario that was played on the board of this id
+abbrev pub IsPlay : ℕ → List ℕ → Type 0
+IsPlay id text = (scenario : Scenario) × IsPlayOf id scenario text

@@ -127,9 +127,3 @@ pub record IsReportOn (config : Config) (id : ℕ) (history : List Record) (text
   pub reports : List Report
   pub legal : IsLegal config id history
   pub is : text ≡ report_text config reports history
-
--- the text is the report on a legal history of the board of this id
-pub record IsReportOf (id : ℕ) (text : List ℕ) : Type 0 where
-  pub config : Config
-  pub history : List Record
-  pub report : IsReportOn config id history text

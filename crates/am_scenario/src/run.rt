@@ -3,8 +3,7 @@ ghost use Rattle.std.specs.Prelude.{◌≡◌, ◌≢◌, ◌≤◌, ◌<◌, �
 ghost use Rattle.std.specs.Prelude.{IfErr, IfOk, OnOk, string_bytes};
 ghost use Rattle.am_desk.specs.Desks.{AreFresh};
 ghost use Rattle.am_desk.specs.Terms.{terms};
-ghost use Rattle.am_scenario.specs.Plays.{IsPlayOf};
-ghost use Rattle.am_scenario.specs.Report.{IsReportOf};
+ghost use Rattle.am_scenario.specs.Plays.{IsPlay, IsPlayOf};
 ghost use Rattle.am_scenario.specs.declared.run.TheConstants.{BOARD_ID};
 ghost use Rattle.am_scenario.specs.declared.scenario.TheConstants.{MAX_LANES};
 
@@ -29,8 +28,8 @@ pub const BOARD_ID: u64 = 1;
 
 /// Reads a scenario from the source, runs it and writes its report to the sink.
 ///
-/// The report is the text of a history that is legal. It is made whole before its first byte is
-/// written: on every fault but `Unwritable` the sink wasn't asked.
+/// The report is the one of a scenario that was played, as `play_scenario` says it. It is made
+/// whole before its first byte is written: on every fault but `Unwritable` the sink wasn't asked.
 pub fn run_scenario<R: AllocGlobal + Threads + Wait + Sync, S: Source, K: Sink>(
     rt: &R,
     source: &mut S,
@@ -45,7 +44,7 @@ pub fn run_scenario<R: AllocGlobal + Threads + Wait + Sync, S: Source, K: Sink>(
     ensures unwritten { IfErr result (λ fault.
         fault ≢ RunFault.Unwritable → sink.new ≡ sink.old) }
     ensures ended { OnOk result (S.ended source.new ≡ S.ended source.old + 1) }
-    ensures written { OnOk result ((report : List ℕ) × IsReportOf BOARD_ID report
+    ensures written { OnOk result ((report : List ℕ) × IsPlay BOARD_ID report
         × (K.taken sink.new ≡ K.taken sink.old ++ report)) }
 {
     let alloc = rt.alloc();
@@ -60,7 +59,7 @@ fn report_of<R: Threads + Wait + Sync>(
     alloc: Global,
     input: &[u8],
 ) -> Result<String, InputFault>
-    ensures { IfOk result (λ text. IsReportOf BOARD_ID (string_bytes text)) }
+    ensures { IfOk result (λ text. IsPlay BOARD_ID (string_bytes text)) }
 {
     let scenario = read(alloc, input)?;
     play_scenario(rt, alloc, scenario)

@@ -5,3 +5,7 @@ pub mod Lanes
 pub mod Phases
 pub mod Seats
 pub mod Crossing
+pub mod Sendings
+pub mod Steps
+pub mod Turns
+pub mod Written

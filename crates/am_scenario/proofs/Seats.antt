@@ -62,3 +62,8 @@ call_more at cs n c p q r there is so_far one =
 pub all_last : {X : Type 0} (P : X → Type 0) (xs : List X) (y : X) (ys : List X) → All P (xs ++ y ∷ ys) → All P ys
 all_last P [] y ys all = All-rest P y ys (y ∷ ys) refl all
 all_last P (x ∷ xs) y ys all = all_last P xs y ys (All-rest P x (xs ++ y ∷ ys) (x ∷ (xs ++ y ∷ ys)) refl all)
+
+-- what holds of all holds of one between them
+pub all_middle : {X : Type 0} (P : X → Type 0) (xs : List X) (y : X) (ys : List X) → All P (xs ++ y ∷ ys) → P y
+all_middle P [] y ys all = All-head P y ys all
+all_middle P (x ∷ xs) y ys all = all_middle P xs y ys (All-rest P x (xs ++ y ∷ ys) (x ∷ (xs ++ y ∷ ys)) refl all)

@@ -1,8 +1,10 @@
 pub mod Faults
 pub mod Report
 pub mod Lanes
+pub mod Turns
 pub mod Plays
 pub mod Seats
+pub mod Steps
 pub mod Troubles
 pub mod Runs
 pub mod FirstRun

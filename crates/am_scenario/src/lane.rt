@@ -1,5 +1,6 @@
 //! The lanes of a phase, each in a thread of its own.
 ghost use Rattle.std.specs.Prelude.{◌≡◌, ◌<◌, ◌≤◌, ◌∷◌, [], All, IfOk, OnOk, length, map, take, vec_len};
+ghost use Rattle.am_pool.specs.Sent.{AreReportsOf};
 ghost use Rattle.am_pool.specs.Work.{IsReady};
 ghost use Rattle.am_scenario.specs.Lanes.{call_at};
 ghost use Rattle.am_scenario.specs.Seats.{AfterLanes, AllRan, MadeCalls, Ran};
@@ -115,7 +116,8 @@ pub fn run_beside<N: Name + Send + Sync, R: Threads + Wait + Sync, C: Courier + 
 ) -> Result<Vec<Report>, PoolFault>
     requires lanes { vec_len lanes ≤ length seats.old }
     requires ready { All IsReady jobs.now }
-    ensures { AfterLanes at lanes.items seats.old seats.new }
+    ensures lanes { AfterLanes at lanes.items seats.old seats.new }
+    ensures reports { IfOk result (λ reports. AreReportsOf jobs.now reports.items) }
 {
     if lanes.is_empty() {
         return run_jobs(rt, alloc, couriers, jobs);
@@ -137,7 +139,8 @@ fn share<N: Name + Send + Sync, R: Threads + Wait + Sync, C: Courier + Send>(
 ) -> Result<Vec<Report>, PoolFault>
     requires seats { 0 < length seats.old }
     requires ready { All IsReady jobs.now }
-    ensures { AllRan at seats.old seats.new }
+    ensures lanes { AllRan at seats.old seats.new }
+    ensures reports { IfOk result (λ reports. AreReportsOf jobs.now reports.items) }
 {
     let (_, reports) = join_mut(
         rt,
@@ -147,6 +150,7 @@ fn share<N: Name + Send + Sync, R: Threads + Wait + Sync, C: Courier + Send>(
         { run_lanes(rt, alloc, desk, at, seats) },
         &mut ||
             requires { All IsReady jobs.now }
+            ensures { IfOk result (λ reports. AreReportsOf jobs.entry.now reports.items) }
         { run_jobs(rt, alloc, couriers, jobs) },
     );
     reports

@@ -1,16 +1,19 @@
 //! The phases of a run.
-ghost use Rattle.std.specs.Prelude.{◌≡◌, ◌<◌, ◌≤◌, ◌+◌, ◌++◌, ◌∷◌, [], ℕ, All, IfOk, OnOk, length, map, vec_len};
-ghost use Rattle.std.specs.List.{range_with_len};
+ghost use Rattle.std.specs.Prelude.{◌≡◌, ◌<◌, ◌≤◌, ◌+◌, ◌++◌, ◌∷◌, [], ℕ, true, All, IfOk, IsTrue, OnOk, Ok, length, map, vec_len};
+ghost use Rattle.std.specs.List.{AllZip, range_with_len};
 ghost use Rattle.am_alerts.specs.declared.limits.TheConstants.{MAX_MOMENT};
 ghost use Rattle.am_desk.specs.Desks.{AreFresh, Stands};
 ghost use Rattle.am_desk.specs.History.{made};
 ghost use Rattle.am_desk.specs.Terms.{terms_of};
 ghost use Rattle.am_scenario.specs.Seats.{HaveMade, MadeLanes, NoneRefused, passes_in};
+ghost use Rattle.am_scenario.specs.Steps.{Begins, Finishes, FinishesOne, HadTurns, MadeOnly, NotesAny, NotesAt, NotesOf, Sends};
+ghost use Rattle.am_scenario.specs.Steps.{TookTurn, opened_of, recorded_all};
 ghost use Rattle.am_scenario.specs.Troubles.{AreNone};
+ghost use Rattle.am_scenario.specs.Turns.{IsSentFrom, to_send};
 
 use crate::lane::{Seat, run_beside, seats_for};
 use crate::scenario::{Lane, Phase};
-use crate::sending::{jobs_of, last_end, report_on};
+use crate::sending::{end_on, jobs_of, last_end};
 use crate::trouble::{Refused, Troubles};
 use am_board::begin::Begun;
 use am_board::config::MAX_HISTORY;
@@ -18,7 +21,7 @@ use am_board::fault::{Fault, NoteFault};
 use am_board::notice::Report;
 use am_cli::fault::{InputFault, Word};
 use am_cli::place::Place;
-use am_desk::{CloseFault, Closed, Desk, Name, OwnTicket, Pass};
+use am_desk::{CloseFault, Closed, Desk, Name, NotOpen, OwnTicket, Pass};
 use am_pool::{Courier, PoolFault};
 use am_retry::Outcome;
 use std::alloc::Global;
@@ -43,12 +46,13 @@ pub struct Run<N: Name> {
 }
 
 impl<N: Name + Send + Sync> Run<N> {
-    ghost use Rattle.am_scenario.specs.Runs.{Keeps, RunsLanes, lanes_of};
+    ghost use Rattle.am_scenario.specs.Runs.{Gathers, Keeps, Rests, RunsLanes, lanes_of};
 
     /// A run on a desk with all its passes. Refused for want of memory.
     pub fn new(alloc: Global, desk: Desk<N>, passes: Vec<Pass<N>>) -> Result<Run<N>, InputFault>
         requires { AreFresh 0 passes.items × (vec_len passes ≡ N.plan.passes) × (0 < N.plan.passes) }
-        ensures { IfOk result (λ run. HaveMade 0 [] (lanes_of run)) }
+        ensures lanes { IfOk result (λ run. HaveMade 0 [] (lanes_of run)) }
+        ensures main { IfOk result (λ run. HadTurns [] run.main run.reports.items) }
     {
         Run::seated(alloc, desk, passes)
     }
@@ -59,6 +63,7 @@ impl<N: Name + Send + Sync> Run<N> {
         ensures numbers { IfOk result (λ run. (run.main.number ≡ 0)
             × (map (λ s. s.pass.number) run.seats.items ≡ range_with_len 1 (vec_len run.seats))) }
         ensures lanes { IfOk result (λ run. HaveMade 0 [] (lanes_of run)) }
+        ensures main { IfOk result (λ run. HadTurns [] run.main run.reports.items) }
     {
         let main = passes.remove(0);
         let seats = seats_for(alloc, &mut passes)?;
@@ -76,6 +81,8 @@ impl<N: Name + Send + Sync> Run<N> {
     /// The closed desk, and the reports on the notices.
     pub fn close(self) -> Result<(Closed, Vec<Report>), InputFault>
         ensures terms { IfOk result (λ r. terms_of r.0 ≡ N.terms) }
+        ensures main { IfOk result (λ r. Stands self.main r.0.history) }
+        ensures reports { IfOk result (λ r. r.1 ≡ self.reports) }
         ensures lanes { IfOk result (λ r. All (λ p. Stands p r.0.history) (lanes_of self)) }
         ensures others { IfOk result (λ r. (k : ℕ) → length (lanes_of self) < k → made k r.0.history ≡ 0) }
     {
@@ -102,18 +109,15 @@ impl<N: Name + Send + Sync> Run<N> {
         phase: Phase,
     ) -> Result<(), InputFault>
         requires { vec_len phase.lanes < N.plan.passes }
-        ensures { OnOk result (MadeLanes phase.at phase.lanes.items (lanes_of self.old) (lanes_of self.new)) }
+        ensures lanes { OnOk result (MadeLanes phase.at phase.lanes.items (lanes_of self.old) (lanes_of self.new)) }
+        ensures turn { OnOk result (TookTurn phase self.old.main self.new.main self.old.reports.items self.new.reports.items) }
     {
         let Phase { at, flush, lanes } = phase;
         let mut tickets = Vec::new(self.alloc);
-        let mut reports = Vec::new(self.alloc);
         if flush {
             self.begin_all(rt, at, &mut tickets);
         }
-        if self.troubles.are_none() {
-            reports = self.run_beside(rt, couriers, at, tickets.as_slice(), lanes);
-            self.settle_all(rt, at, &mut tickets, reports.as_slice());
-        }
+        let reports = self.send_all(rt, couriers, at, &mut tickets, lanes);
         self.finish_all(rt, at, tickets, reports.as_slice());
         self.keep(reports.as_slice());
         self.troubles.verdict(self.alloc, index)
@@ -121,7 +125,8 @@ impl<N: Name + Send + Sync> Run<N> {
 
     /// Begins flushes until no group is due, or as many are open as may be.
     fn begin_all<R: Wait>(&mut self, rt: &R, at: u64, tickets: &mut Vec<OwnTicket<N>>)
-        ensures { Keeps self.old self.new }
+        ensures keeps { Keeps self.old self.new }
+        ensures begins { Begins true at self.old.main self.new.main tickets.old.items tickets.new.items }
     {
         // Each begin leaves a record: the history is full before this ends.
         for _ in 0..MAX_HISTORY + 1 {
@@ -133,7 +138,8 @@ impl<N: Name + Send + Sync> Run<N> {
 
     /// Begins a flush. Answers whether there may be more to begin.
     fn begin<R: Wait>(&mut self, rt: &R, at: u64, tickets: &mut Vec<OwnTicket<N>>) -> bool
-        ensures { Keeps self.old self.new }
+        ensures keeps { Keeps self.old self.new }
+        ensures begins { Begins true at self.old.main self.new.main tickets.old.items tickets.new.items }
     {
         if tickets.reserve(1).is_err() {
             self.troubles.add_no_memory();
@@ -160,6 +166,31 @@ impl<N: Name + Send + Sync> Run<N> {
         }
     }
 
+    /// Runs the lanes, sends the notices and settles what was sent; does nothing where something has
+    /// gone wrong. Answers the reports, by ticket and integration.
+    fn send_all<R: Threads + Wait + Sync, C: Courier + Send>(
+        &mut self,
+        rt: &R,
+        couriers: &mut [C],
+        at: u64,
+        tickets: &mut Vec<OwnTicket<N>>,
+        lanes: Vec<Lane>,
+    ) -> Vec<Report>
+        requires start { at ≤ MAX_MOMENT }
+        requires lanes { vec_len lanes < N.plan.passes }
+        ensures lanes { RunsLanes at lanes.items self.old self.new }
+        ensures reports { self.new.reports ≡ self.old.reports }
+        ensures sent { AreNone self.new.troubles
+            → Sends at result.items tickets.old.items tickets.new.items self.old.main self.new.main }
+    {
+        if !self.troubles.are_none() {
+            return Vec::new(self.alloc);
+        }
+        let reports = self.run_beside(rt, couriers, at, tickets.as_slice(), lanes);
+        self.settle_all(rt, at, tickets, reports.as_slice());
+        reports
+    }
+
     /// Runs the lanes, and sends beside them the notices that have something to send. Answers the
     /// reports, by ticket and integration.
     fn run_beside<R: Threads + Wait + Sync, C: Courier + Send>(
@@ -172,7 +203,10 @@ impl<N: Name + Send + Sync> Run<N> {
     ) -> Vec<Report>
         requires start { at ≤ MAX_MOMENT }
         requires lanes { vec_len lanes < N.plan.passes }
-        ensures { RunsLanes at lanes.items self.old self.new }
+        ensures lanes { RunsLanes at lanes.items self.old self.new }
+        ensures rests { Rests self.old self.new }
+        ensures sent { AreNone self.new.troubles
+            → AllZip (IsSentFrom at) (to_send (map opened_of tickets.now)) result.items }
     {
         let Ok(jobs) = jobs_of(self.alloc, tickets, at) else {
             self.troubles.add_no_memory();
@@ -194,7 +228,9 @@ impl<N: Name + Send + Sync> Run<N> {
 
     /// The reports of the couriers.
     fn hear_couriers(&mut self, sent: Result<Vec<Report>, PoolFault>) -> Vec<Report>
-        ensures { Keeps self.old self.new }
+        ensures keeps { Keeps self.old self.new }
+        ensures rests { Rests self.old self.new }
+        ensures heard { AreNone self.new.troubles → sent ≡ Ok result }
     {
         match sent {
             Ok(reports) => {
@@ -219,7 +255,7 @@ impl<N: Name + Send + Sync> Run<N> {
 
     /// Keeps the reports of a phase.
     fn keep(&mut self, reports: &[Report])
-        ensures { Keeps self.old self.new }
+        ensures { Gathers reports.now self.old self.new }
     {
         if self.reports.extend_from_slice(reports).is_err() {
             self.troubles.add_no_memory();
@@ -234,27 +270,37 @@ impl<N: Name + Send + Sync> Run<N> {
         tickets: &mut Vec<OwnTicket<N>>,
         reports: &[Report],
     )
-        ensures { Keeps self.old self.new }
+        ensures keeps { Keeps self.old self.new }
+        ensures recorded { AreNone self.new.troubles
+            → tickets.new.items ≡ map (recorded_all reports.now) tickets.old.items }
+        ensures noted { MadeOnly (NotesAny at reports.now tickets.new.items) self.old.main self.new.main }
     {
-        for own in tickets.iter_mut() {
-            if !record_all(own, reports) {
-                self.troubles.add(Refused::Ending);
-            }
+        if !record_all(tickets, reports) {
+            self.troubles.add(Refused::Ending);
+            return;
+        }
+        self.note_all(rt, at, tickets.as_slice(), reports);
+    }
+
+    /// Notes each success of these flushes.
+    fn note_all<R: Wait>(&mut self, rt: &R, at: u64, tickets: &[OwnTicket<N>], reports: &[Report])
+        ensures keeps { Keeps self.old self.new }
+        ensures noted { MadeOnly (NotesAny at reports.now tickets.now) self.old.main self.new.main }
+    {
+        for own in tickets {
             self.settle(rt, at, own, reports);
         }
     }
 
+    /// Notes each success of a flush, when the sending of its notice was over.
     fn settle<R: Wait>(&mut self, rt: &R, at: u64, own: &OwnTicket<N>, reports: &[Report])
-        ensures { Keeps self.old self.new }
+        ensures keeps { Keeps self.old self.new }
+        ensures noted { MadeOnly (NotesOf at reports.now own.now) self.old.main self.new.main }
     {
         let ticket = own.ticket();
         for (place, notice) in ticket.notices().iter().enumerate() {
             if notice.nothing() || ticket.outcome(place) == Some(Outcome::Delivered) {
-                let report = report_on(reports, ticket.number(), notice.integration);
-                let end = match report {
-                    None => at,
-                    Some(report) => report.ended.max(at),
-                };
+                let end = end_on(reports, ticket.number(), notice.integration, at);
                 self.note(rt, end, own, place);
             }
         }
@@ -262,7 +308,8 @@ impl<N: Name + Send + Sync> Run<N> {
 
     /// Logs the success of a notice. Where the history has no room the finish logs it.
     fn note<R: Wait>(&mut self, rt: &R, now: u64, own: &OwnTicket<N>, place: usize)
-        ensures { Keeps self.old self.new }
+        ensures keeps { Keeps self.old self.new }
+        ensures noted { MadeOnly (NotesAt now own.now place) self.old.main self.new.main }
     {
         match self
             .desk
@@ -282,17 +329,27 @@ impl<N: Name + Send + Sync> Run<N> {
         tickets: Vec<OwnTicket<N>>,
         reports: &[Report],
     )
-        ensures { Keeps self.old self.new }
+        ensures keeps { Keeps self.old self.new }
+        ensures finished { AreNone self.new.troubles
+            → Finishes at reports.now tickets.items self.old.main self.new.main }
     {
         let mut left = tickets;
         while !left.is_empty() {
             let own = left.remove(0);
             let now = last_end(reports, own.ticket().number(), at);
-            if self.desk.finish_own(rt, &mut self.main, own, now).is_err() {
-                self.troubles.add(Refused::Ending);
-            }
+            self.finish(rt, own, now);
         }
         left.destroy_empty();
+    }
+
+    fn finish<R: Wait>(&mut self, rt: &R, own: OwnTicket<N>, now: u64)
+        ensures keeps { Keeps self.old self.new }
+        ensures finished { AreNone self.new.troubles → FinishesOne now own self.old.main self.new.main }
+    {
+        match self.desk.finish_own(rt, &mut self.main, own, now) {
+            Ok(_) => {}
+            Err(NotOpen) => self.troubles.add(Refused::Ending),
+        }
     }
 }
 
@@ -307,15 +364,29 @@ fn hear_lanes<N: Name>(seats: &[Seat<N>], troubles: &mut Troubles)
     }
 }
 
-/// Records those of the reports that are on this ticket. Answers whether none was refused.
-fn record_all<N: Name>(own: &mut OwnTicket<N>, reports: &[Report]) -> bool {
-    let mut all = true;
-    for report in reports {
-        if report.ticket == own.ticket().number() && own.record(*report).is_err() {
-            all = false;
+/// Records in each ticket those of the reports that are on it. Answers whether none was refused.
+fn record_all<N: Name>(tickets: &mut Vec<OwnTicket<N>>, reports: &[Report]) -> bool
+    ensures { IsTrue result → tickets.new.items ≡ map (recorded_all reports.now) tickets.old.items }
+{
+    for own in tickets.iter_mut() {
+        if !record_on(own, reports) {
+            return false;
         }
     }
-    all
+    true
+}
+
+/// Records those of the reports that are on this ticket. Answers whether none was refused.
+fn record_on<N: Name>(own: &mut OwnTicket<N>, reports: &[Report]) -> bool
+    ensures { IsTrue result → own.new ≡ recorded_all reports.now own.old }
+{
+    let number = own.ticket().number();
+    for report in reports {
+        if report.ticket == number && own.record(*report).is_err() {
+            return false;
+        }
+    }
+    true
 }
 
 /// Puts the passes of a run together again.

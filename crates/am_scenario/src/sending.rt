@@ -1,7 +1,9 @@
 //! The sending of notices.
-ghost use Rattle.std.specs.Prelude.{◌≤◌, All, IfOk, OnOk};
+ghost use Rattle.std.specs.Prelude.{◌≡◌, ◌≤◌, ◌++◌, All, IfOk, OnOk, map};
 ghost use Rattle.am_alerts.specs.declared.limits.TheConstants.{MAX_MOMENT};
 ghost use Rattle.am_pool.specs.Work.{IsReady};
+ghost use Rattle.am_scenario.specs.Steps.{StartsAt, end_on, notices_of, opened_of};
+ghost use Rattle.am_scenario.specs.Turns.{last_end, report_on, reports_on, sendable, to_send};
 
 use am_board::notice::{Notice, Report};
 use am_desk::{Name, OwnTicket};
@@ -16,7 +18,9 @@ pub fn jobs_of<'t, N: Name>(
     at: u64,
 ) -> Result<Vec<Job<'t>>, AllocError>
     requires { at ≤ MAX_MOMENT }
-    ensures { IfOk result (λ jobs. All IsReady jobs.items) }
+    ensures ready { IfOk result (λ jobs. All IsReady jobs.items) }
+    ensures starts { IfOk result (λ jobs. All (StartsAt at) jobs.items) }
+    ensures notices { IfOk result (λ jobs. notices_of jobs.items ≡ to_send (map opened_of tickets.now)) }
 {
     let mut jobs = Vec::new(alloc);
     for own in tickets {
@@ -29,7 +33,10 @@ pub fn jobs_of<'t, N: Name>(
 fn add_jobs<'t>(notices: &'t [Notice], at: u64, jobs: &mut Vec<Job<'t>>) -> Result<(), AllocError>
     requires start { at ≤ MAX_MOMENT }
     requires ready { All IsReady jobs.old.items }
-    ensures { OnOk result (All IsReady jobs.new.items) }
+    requires starts { All (StartsAt at) jobs.old.items }
+    ensures ready { OnOk result (All IsReady jobs.new.items) }
+    ensures starts { OnOk result (All (StartsAt at) jobs.new.items) }
+    ensures notices { OnOk result (notices_of jobs.new.items ≡ notices_of jobs.old.items ++ sendable notices.now) }
 {
     for notice in notices {
         if !notice.nothing() {
@@ -39,18 +46,22 @@ fn add_jobs<'t>(notices: &'t [Notice], at: u64, jobs: &mut Vec<Job<'t>>) -> Resu
     Ok(())
 }
 
-/// The report on a ticket's notice for an integration, if there is one.
-pub fn report_on(reports: &[Report], ticket: u64, integration: u32) -> Option<Report> {
+/// When the sending of a ticket's notice for an integration was over, which started at `at`.
+pub fn end_on(reports: &[Report], ticket: u64, integration: u32, at: u64) -> u64
+    ensures { result ≡ end_on at (report_on ticket integration reports.now) }
+{
     for report in reports {
         if report.ticket == ticket && report.integration == integration {
-            return Some(*report);
+            return report.ended;
         }
     }
-    None
+    at
 }
 
 /// When the sending of a ticket's notices, which started at `at`, was over.
-pub fn last_end(reports: &[Report], ticket: u64, at: u64) -> u64 {
+pub fn last_end(reports: &[Report], ticket: u64, at: u64) -> u64
+    ensures { result ≡ last_end at (reports_on ticket reports.now) }
+{
     let mut end = at;
     for report in reports {
         if report.ticket == ticket {

@@ -6,8 +6,8 @@ use Rattle.am_desk.specs.Known.{Seen}
 use Rattle.am_scenario.proofs.Seats.{after_lanes}
 use Rattle.am_scenario.proofs.lane.run_beside.Goals as goal
 
-pub returns : goal.returns
-returns g c =
+pub returns-clause-lanes : goal.returns-clause-lanes
+returns-clause-lanes g c =
     let split = c.split_at_mut-taken in
     let front : List (Seat g.row.N.Denot) = split.result.0.now in
     let back : List (Seat g.row.N.Denot) = split.result.1.now in
@@ -19,4 +19,4 @@ returns g c =
     in
     let calls = ap (map (λ (s : Seat g.row.N.Denot). s.calls)) (sym (take_all _ taken (omega (arith, long, split.ensures.front_len, c.len.ensures)))) ∙ c.take_seats.ensures.calls in
     subst (λ (ss : List (Seat g.row.N.Denot)). AfterLanes c.args.at ls ss (ran ++ back)) (sym split.ensures.value)
-    (after_lanes c.args.at ls front taken ran back c.take_seats.ensures.passes calls c.share.ensures)
+    (after_lanes c.args.at ls front taken ran back c.take_seats.ensures.passes calls c.share.ensures.lanes)

@@ -5,6 +5,7 @@ use Rattle.std.proofs.lemmas.List.FromFn.{length-enumerate_from}
 use Rattle.std.proofs.lemmas.Iterator.Adapters.{YieldsList-from_vec}
 use Rattle.std.proofs.lemmas.Iterator.Consumers.{YieldsList-end, YieldsList-from_enumerate, YieldsList-turn}
 use Rattle.am_model.specs.declared.config.Config.{Config}
+use Rattle.am_model.specs.declared.notice.Report.{Report}
 use Rattle.am_model.specs.Replay.{IsLegal}
 use Rattle.am_desk.proofs.Crossing.{every}
 use Rattle.am_desk.specs.Plans.{Plan}
@@ -13,12 +14,14 @@ use Rattle.am_trail.proofs.trail.Trail.TheSendSync as trail
 use Rattle.am_scenario.specs.Report.{report_text}
 use Rattle.am_scenario.specs.Runs.{lanes_of}
 use Rattle.am_scenario.specs.Seats.{HaveMade}
+use Rattle.am_scenario.specs.Steps.{HadTurns}
 use Rattle.am_scenario.specs.declared.lane.Seat.{Seat}
 use Rattle.am_scenario.specs.declared.run.TheConstants.{BOARD_ID}
 use Rattle.am_scenario.specs.declared.scenario.Phase.{Phase}
 use Rattle.am_scenario.proofs.Crossing.{script_sync}
 use Rattle.am_scenario.proofs.Lanes.{numbered}
 use Rattle.am_scenario.proofs.Phases.{all_played, of_source, turn_made}
+use Rattle.am_scenario.proofs.Turns.{turn_next, turns_stand}
 use Rattle.am_scenario.proofs.run.play_on.Goals as goal
 
 pub run_phase-requires-send-C : goal.run_phase-requires-send-C
@@ -35,8 +38,15 @@ loop-index-preserved g c =
     let so_far = c.loop-index.yielded in
     let turn = YieldsList-turn (YieldsList-from_enumerate {s = all} (YieldsList-from_vec {s = all.iter} ls items len) count) so_far c.loop-index.index-iterator c.loop-index.yielded_by c.next.result c.next.new.self (c.in-Some.index, c.in-Some.phase) c.in-Some.is c.next.ensures.steps in
     let at = numbered ls (length so_far) c.in-Some.index c.in-Some.phase turn.0 turn.1 in
-    turn_made ls (length so_far) (length (so_far ++ (c.in-Some.index, c.in-Some.phase) ∷ [])) c.in-Some.phase (lanes_of c.loop-index.run) (lanes_of c.run_phase.new.self)
-    (length_push so_far (c.in-Some.index, c.in-Some.phase)) at.0 at.2 c.loop-index.invariant c.in_ok-run_phase.ensures
+    let n = length so_far in
+    let m = length (so_far ++ (c.in-Some.index, c.in-Some.phase) ∷ []) in
+    let next = length_push so_far (c.in-Some.index, c.in-Some.phase) in
+    let was = c.loop-index.run in
+    let is = c.run_phase.new.self in
+    record {
+      lanes = turn_made ls n m c.in-Some.phase (lanes_of was) (lanes_of is) next at.0 at.2 c.loop-index.invariant.lanes c.in_ok-run_phase.ensures.lanes;
+      main = turn_next ls n m c.in-Some.phase was.main is.main was.reports.items is.reports.items next at.0 at.2 c.loop-index.invariant.main c.in_ok-run_phase.ensures.turn;
+    }
 
 pub returns : goal.returns
 returns g c =
@@ -56,6 +66,11 @@ returns g c =
     let config : closed.config ≡ c.args.scenario.config = ap (λ (t : Terms). t.config) terms in
     let id : closed.id ≡ BOARD_ID = ap (λ (t : Terms). t.id) terms ∙ c.requires.id in
     let passes = ap (λ (p : Plan). p.passes) c.requires.name.0 in
+    let reports : c.as_slice-2.result.now ≡ run.reports.items = c.as_slice-2.ensures.value ∙ ap (λ v. v.items) c.in_ok-closed.ensures.reports in
+    let had : HadTurns ls run.main c.as_slice-2.result.now =
+    subst (λ (rs : List Report). HadTurns ls run.main rs) (sym reports)
+    (subst (λ (xs : List Phase). HadTurns xs run.main run.reports.items) (take_all n ls (omega (arith, end.1, length-enumerate_from 0 ls))) c.loop-index.invariant.main)
+    in
     record {
       history = closed.history;
       report =
@@ -67,10 +82,11 @@ returns g c =
       lanes =
           all_played ls (lanes_of run) closed.history c.args.blank.passes
           record {
-            have = subst (λ (xs : List Phase). HaveMade 0 xs (lanes_of run)) (take_all n ls (omega (arith, end.1, length-enumerate_from 0 ls))) c.loop-index.invariant;
+            have = subst (λ (xs : List Phase). HaveMade 0 xs (lanes_of run)) (take_all n ls (omega (arith, end.1, length-enumerate_from 0 ls))) c.loop-index.invariant.lanes;
             stand = c.in_ok-closed.ensures.lanes;
             others = c.in_ok-closed.ensures.others;
             few = c.requires.lanes;
             seated = omega (arith, passes, run.seated, run.seats.ok.0, length-map run.seats.items (λ (s : Seat g.row.N.Denot). s.pass));
           };
+      main = turns_stand ls run.main c.as_slice-2.result.now closed.history had c.in_ok-closed.ensures.main;
     }

@@ -4,8 +4,14 @@ use Rattle.am_desk.specs.Desks.{Stands}
 use Rattle.am_desk.specs.Known.{Seen}
 use Rattle.am_scenario.specs.Runs.{lanes_of}
 use Rattle.am_scenario.specs.declared.lane.Seat.{Seat}
-use Rattle.am_scenario.proofs.Seats.{all_last}
+use Rattle.am_scenario.proofs.Seats.{all_last, all_middle}
 use Rattle.am_scenario.proofs.phase.Run.close.Goals as goal
+
+pub returns-clause-main : goal.returns-clause-main
+returns-clause-main g c =
+    let run = c.args.self in
+    let stands = λ (p : Seen). Stands p c.in_ok-close.field-0.history in
+    all_middle stands run.passes.items run.main (lanes_of run) (subst (λ (ps : List Seen). All stands ps) c.in_ok-put_back.ensures c.in_ok-close.ensures.stand)
 
 pub returns-clause-lanes : goal.returns-clause-lanes
 returns-clause-lanes g c =

@@ -6,6 +6,7 @@ use Rattle.am_scenario.specs.Seats.{HaveMade}
 use Rattle.am_scenario.specs.declared.lane.Seat.{Seat}
 use Rattle.am_scenario.proofs.Calls.{fresh_made}
 use Rattle.am_scenario.proofs.Lanes.{first_fresh, fresh_numbers}
+use Rattle.am_scenario.proofs.Turns.{first_is_fresh, no_turns}
 use Rattle.am_scenario.proofs.phase.Run.seated.Goals as goal
 
 pub returns-clause-numbers : goal.returns-clause-numbers
@@ -29,3 +30,9 @@ returns-clause-lanes g c =
     let first = first_fresh 0 ps c.remove-main.result c.requires.0 some c.remove-main.ensures.value in
     let passes = rw c.remove-main.ensures.items at c.in_ok-seats.ensures.passes in
     subst (λ (qs : List Seen). HaveMade 0 [] qs) (sym passes) (fresh_made 0 _ first.1)
+
+pub returns-clause-main : goal.returns-clause-main
+returns-clause-main g c =
+    let ps = c.args.passes.items in
+    let some : 0 < length ps = omega (arith, c.requires, c.args.passes.ok.0) in
+    no_turns c.remove-main.result c.new.result.items (first_is_fresh 0 ps c.remove-main.result c.requires.0 some c.remove-main.ensures.value) c.new.ensures.items

@@ -1,0 +1,13 @@
+-- The alerts of a group as they are kept: under their labels, in the order in which these came into the group.
+use Rattle.std.specs.Prelude.{ℕ, List}
+use Rattle.am_alerts.specs.declared.labels.Label.{Label}
+use Rattle.am_board.specs.declared.group.Member.{Member}
+
+-- alerts of a group, with room for so many more
+pub record MemberList : Type 0 where
+  pub items : List Member
+  pub room : ℕ
+
+-- the labels that an alert of a group stands under
+abbrev pub labels_of : Member → List Label
+labels_of m = m.alert.labels

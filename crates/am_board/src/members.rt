@@ -1,0 +1,140 @@
+//! The alerts of a group, found by their labels.
+ghost use Rattle.std.specs.Prelude.{◌≡◌, ◌+◌, ◌<◌, ◌≤◌, ◌↔◌, ◌&&◌, ◌==◌, IfOk, IsTrue, OnOk, [], count_by, length, map, not};
+ghost use Rattle.std.specs.List.{list_any};
+ghost use Rattle.am_alerts.specs.AlertData.{is_resolved};
+ghost use Rattle.am_alerts.specs.Labels.{same_label_set};
+ghost use Rattle.am_model.specs.Finish.{is_leaving};
+ghost use Rattle.am_model.specs.Insert.{same_member};
+ghost use Rattle.am_model.specs.Lists.{put_in, without};
+ghost use Rattle.am_board.specs.Kept.{member_state, stamped};
+
+use crate::flush::LeavingAlert;
+use crate::group::Member;
+use am_alerts::labels::Labels;
+use indexmap::IndexMap;
+use std::alloc::{AllocError, Global};
+use std::marker::Model;
+
+/// Alerts of different labels, in the order in which these came into the group, with room for more.
+#[derive(Debug, Drop)]
+pub(crate) struct Members {
+    members: IndexMap<Labels, Member>,
+}
+
+impl Model for Members {
+    ghost use Rattle.std.specs.Map.{values_of};
+    ghost use Rattle.indexmap.specs.IndexMap.{spare};
+    ghost use Rattle.am_board.specs.Keyed.{AreKeyed};
+    ghost use Rattle.am_board.specs.Members.{MemberList, labels_of};
+
+    ghost Value = { MemberList };
+
+    ghost view = { λ m. record { items = values_of m.members.entries; room = spare m.members } };
+
+    ghost invariant = { λ m. AreKeyed labels_of m.members.entries };
+}
+
+impl Members {
+    /// No alerts.
+    pub(crate) fn new(alloc: Global) -> Members
+        ensures { result.items ≡ [] }
+    {
+        Members {
+            members: IndexMap::new(alloc),
+        }
+    }
+
+    /// No alerts, with room for so many.
+    pub(crate) fn with_capacity(alloc: Global, room: usize) -> Result<Members, AllocError>
+        ensures empty { IfOk result (λ members. members.items ≡ []) }
+        ensures room { IfOk result (λ members. room ≤ members.room) }
+    {
+        Ok(Members {
+            members: IndexMap::with_capacity(alloc, room)?,
+        })
+    }
+
+    /// How many alerts there are.
+    pub(crate) fn len(&self) -> usize
+        ensures { result ≡ length self.now.items }
+    {
+        self.as_slice().len()
+    }
+
+    pub(crate) fn is_empty(&self) -> bool
+        ensures { IsTrue result ↔ (length self.now.items ≡ 0) }
+    {
+        self.len() == 0
+    }
+
+    /// The alerts, in the order in which their labels came into the group.
+    pub(crate) fn as_slice(&self) -> &[Member]
+        ensures value { result.now ≡ self.now.items }
+    {
+        self.members.values().as_slice()
+    }
+
+    /// Makes room for so many more alerts.
+    pub(crate) fn reserve(&mut self, more: usize) -> Result<(), AllocError>
+        ensures items { self.new.items ≡ self.old.items }
+        ensures kept { self.old.room ≤ self.new.room }
+        ensures room { OnOk result (more ≤ self.new.room) }
+    {
+        self.members.reserve(more)
+    }
+
+    /// Puts an alert in place of the one with its labels, or adds it, for which there is room.
+    pub(crate) fn put(&mut self, labels: Labels, member: Member)
+        requires labels { labels ≡ member.alert.labels }
+        requires room { 0 < self.old.room }
+        ensures members { map member_state self.new.items
+            ≡ put_in same_member (member_state member) (map member_state self.old.items) }
+        ensures room { self.old.room ≤ self.new.room + 1 }
+    {
+        self.members.insert(labels, member).unwrap();
+    }
+
+    /// Takes the alerts out that are resolved at `t`, and answers how many.
+    pub(crate) fn take_resolved(&mut self, t: u64) -> usize
+        ensures members { map member_state self.new.items ≡ without (λ m. is_resolved m.alert t) (map member_state self.old.items) }
+        ensures count { result ≡ count_by (λ m. is_resolved m.alert t) (map member_state self.old.items) }
+    {
+        let before = self.members.len();
+        self.members.retain(
+            |_labels: &Labels, member: &mut Member| -> bool
+                ensures { (result ≡ not (is_resolved member.old.alert t)) × (member.new ≡ member.old) }
+            { !member.alert.resolved_at(t) },
+        );
+        before - self.members.len()
+    }
+
+    /// Takes the alerts out that stand here as they did when they were found resolved, and answers how
+    /// many.
+    pub(crate) fn take_leaving(&mut self, leaving: &[LeavingAlert]) -> usize
+        ensures members { map member_state self.new.items ≡ without (is_leaving (map stamped leaving.now)) (map member_state self.old.items) }
+        ensures count { result ≡ count_by (is_leaving (map stamped leaving.now)) (map member_state self.old.items) }
+    {
+        let before = self.members.len();
+        self.members.retain(
+            |_labels: &Labels, member: &mut Member| -> bool
+                ensures { (result ≡ not (list_any (λ l. same_label_set l.labels member.old.alert.labels && (l.stamp == member.old.stamp)) leaving.entry.now))
+                    × (member.new ≡ member.old) }
+            { !leaves(leaving, member) },
+        );
+        before - self.members.len()
+    }
+}
+
+/// Whether a member stands in its group as it did when it was found resolved.
+fn leaves(leaving: &[LeavingAlert], member: &Member) -> bool
+    ensures { result ≡ list_any (λ l. same_label_set l.labels member.now.alert.labels && (l.stamp == member.now.stamp)) leaving.now }
+{
+    leaving.iter().any(|l| stands_as(l, member))
+}
+
+/// Whether a member has the labels and the stamp of one that was found resolved.
+fn stands_as(l: &LeavingAlert, member: &Member) -> bool
+    ensures { result ≡ (same_label_set l.now.labels member.now.alert.labels && (l.now.stamp == member.now.stamp)) }
+{
+    l.labels == *member.alert.labels() && l.stamp == member.stamp
+}

@@ -17,6 +17,8 @@ use std::alloc::AllocError;
 pub(crate) struct Member {
     pub(crate) alert: Alert,
     pub(crate) stamp: u64,
+    /// Whether it is being taken out.
+    pub(crate) leaves: bool,
 }
 
 /// The alerts of one route that share their group labels.

@@ -251,7 +251,11 @@ fn prepare(
         wait: routes.route(name.route).group_wait,
         name,
         place,
-        member: Member { alert, stamp },
+        member: Member {
+            alert,
+            stamp,
+            leaves: false,
+        },
         members: list_for(alloc, place, room)?,
     })
 }

@@ -1,12 +1,14 @@
 //! The alerts of a group, found by their labels.
-ghost use Rattle.std.specs.Prelude.{◌≡◌, ◌+◌, ◌<◌, ◌≤◌, ◌↔◌, ◌&&◌, ◌==◌, IfOk, IsTrue, OnOk, [], count_by, length, map, not};
-ghost use Rattle.std.specs.List.{list_any};
+ghost use Rattle.std.specs.Prelude.{◌≡◌, ◌+◌, ◌<◌, ◌≤◌, ◌↔◌, All, IfOk, IsTrue, OnOk, [], count_by, length, map, not};
+ghost use Rattle.std.specs.Map.{values_of};
 ghost use Rattle.am_alerts.specs.AlertData.{is_resolved};
-ghost use Rattle.am_alerts.specs.Labels.{same_label_set};
 ghost use Rattle.am_model.specs.Finish.{is_leaving};
 ghost use Rattle.am_model.specs.Insert.{same_member};
-ghost use Rattle.am_model.specs.Lists.{put_in, without};
+ghost use Rattle.am_model.specs.Lists.{changed_where, put_in, without};
+ghost use Rattle.am_board.specs.Finishing.{marked, stands_as};
+ghost use Rattle.am_board.specs.Keyed.{AreKeyed};
 ghost use Rattle.am_board.specs.Kept.{member_state, stamped};
+ghost use Rattle.am_board.specs.Members.{AreMembers, labels_of};
 
 use crate::flush::LeavingAlert;
 use crate::group::Member;
@@ -24,14 +26,13 @@ pub(crate) struct Members {
 impl Model for Members {
     ghost use Rattle.std.specs.Map.{values_of};
     ghost use Rattle.indexmap.specs.IndexMap.{spare};
-    ghost use Rattle.am_board.specs.Keyed.{AreKeyed};
-    ghost use Rattle.am_board.specs.Members.{MemberList, labels_of};
+    ghost use Rattle.am_board.specs.Members.{MemberList, AreMembers};
 
     ghost Value = { MemberList };
 
     ghost view = { λ m. record { items = values_of m.members.entries; room = spare m.members } };
 
-    ghost invariant = { λ m. AreKeyed labels_of m.members.entries };
+    ghost invariant = { λ m. AreMembers m.members.entries };
 }
 
 impl Members {
@@ -84,13 +85,14 @@ impl Members {
     }
 
     /// Puts an alert in place of the one with its labels, or adds it, for which there is room.
-    pub(crate) fn put(&mut self, labels: Labels, member: Member)
+    pub(crate) fn put(&mut self, labels: Labels, mut member: Member)
         requires labels { labels ≡ member.alert.labels }
         requires room { 0 < self.old.room }
         ensures members { map member_state self.new.items
             ≡ put_in same_member (member_state member) (map member_state self.old.items) }
         ensures room { self.old.room ≤ self.new.room + 1 }
     {
+        member.leaves = false;
         self.members.insert(labels, member).unwrap();
     }
 
@@ -109,32 +111,48 @@ impl Members {
     }
 
     /// Takes the alerts out that stand here as they did when they were found resolved, and answers how
-    /// many.
+    /// many: each is looked up and marked, and all that are marked go at once.
     pub(crate) fn take_leaving(&mut self, leaving: &[LeavingAlert]) -> usize
         ensures members { map member_state self.new.items ≡ without (is_leaving (map stamped leaving.now)) (map member_state self.old.items) }
         ensures count { result ≡ count_by (is_leaving (map stamped leaving.now)) (map member_state self.old.items) }
     {
+        if leaving.is_empty() {
+            return 0;
+        }
+        mark_all(&mut self.members, leaving);
         let before = self.members.len();
         self.members.retain(
             |_labels: &Labels, member: &mut Member| -> bool
-                ensures { (result ≡ not (list_any (λ l. same_label_set l.labels member.old.alert.labels && (l.stamp == member.old.stamp)) leaving.entry.now))
-                    × (member.new ≡ member.old) }
-            { !leaves(leaving, member) },
+                ensures { (result ≡ not member.old.leaves) × (member.new ≡ member.old) }
+            { !member.leaves },
         );
         before - self.members.len()
     }
 }
 
-/// Whether a member stands in its group as it did when it was found resolved.
-fn leaves(leaving: &[LeavingAlert], member: &Member) -> bool
-    ensures { result ≡ list_any (λ l. same_label_set l.labels member.now.alert.labels && (l.stamp == member.now.stamp)) leaving.now }
+/// Marks the alerts of a group that stand there as they did when they were found resolved.
+fn mark_all(members: &mut IndexMap<Labels, Member>, leaving: &[LeavingAlert])
+    requires { AreMembers members.old.entries }
+    ensures keyed { AreKeyed labels_of members.new.entries }
+    ensures states { map member_state (values_of members.new.entries) ≡ map member_state (values_of members.old.entries) }
+    ensures marks { All (λ m. m.leaves ≡ is_leaving (map stamped leaving.now) (member_state m)) (values_of members.new.entries) }
 {
-    leaving.iter().any(|l| stands_as(l, member))
+    for found in leaving {
+        mark(members, found);
+    }
 }
 
-/// Whether a member has the labels and the stamp of one that was found resolved.
-fn stands_as(l: &LeavingAlert, member: &Member) -> bool
-    ensures { result ≡ (same_label_set l.now.labels member.now.alert.labels && (l.now.stamp == member.now.stamp)) }
+/// Marks the alert of a group that stands there as it did when it was found resolved, if there is one.
+fn mark(members: &mut IndexMap<Labels, Member>, found: &LeavingAlert)
+    requires { AreKeyed labels_of members.old.entries }
+    ensures keyed { AreKeyed labels_of members.new.entries }
+    ensures marked { values_of members.new.entries ≡ changed_where (stands_as found.now) marked (values_of members.old.entries) }
 {
-    l.labels == *member.alert.labels() && l.stamp == member.stamp
+    let Some(place) = members.get_index_of(&found.labels) else {
+        return;
+    };
+    let member = &mut members[place];
+    if found.stamp == member.stamp {
+        member.leaves = true;
+    }
 }

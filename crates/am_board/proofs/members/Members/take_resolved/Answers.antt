@@ -5,7 +5,7 @@ use Rattle.am_model.specs.Lists.{without}
 use Rattle.am_model.specs.State.{MemberState}
 use Rattle.am_board.specs.Kept.{member_state}
 use Rattle.am_board.specs.Members.{MemberList}
-use Rattle.am_board.proofs.keeping.Members.{keyed_left, members_left, members_gone}
+use Rattle.am_board.proofs.keeping.Members.{are_left, members_left, members_gone}
 use Rattle.am_board.proofs.members.Members.take_resolved.Goals as goal
 use Rattle.am_board.proofs.members.Members.take_resolved.Goals.{After-retain}
 
@@ -14,7 +14,7 @@ stay c = filter-RetainsPairs _ _ _ (λ k v b w g call. search rules) _ _ c.retai
 
 pub invariant_of-self : goal.invariant_of-self
 invariant_of-self c =
-    keyed_left (λ (m : MemberState). is_resolved m.alert c.args.t) c.self.inside.members.entries c.retain.new.self.entries (stay ((goal.at.invariant_of-self c).After-retain)) c.self.invariant
+    are_left (λ (m : MemberState). is_resolved m.alert c.args.t) c.self.inside.members.entries c.retain.new.self.entries (stay ((goal.at.invariant_of-self c).After-retain)) c.self.invariant
 
 pub returns-clause-members : goal.returns-clause-members
 returns-clause-members c =

@@ -7,6 +7,7 @@ pub mod GroupNames
 pub mod Keyed
 pub mod Limits
 pub mod LogRows
+pub mod Members
 pub mod Shown
 pub mod Sound
 pub mod Staying

@@ -1,6 +1,7 @@
 -- What a finish and a note put into the log that is kept.
 use Rattle.std.specs.Prelude.{◌≡◌, ℕ, ◌+◌, ◌==◌, Bool, true, not, ◌&&◌, List}
 use Rattle.std.specs.Prelude.{map, filter, fold, position, slice_set, slice_index_or, Option, Some, None, IsSome}
+use Rattle.am_alerts.specs.Labels.{same_label_set}
 use Rattle.am_alerts.specs.declared.labels.Label.{Label}
 use Rattle.am_nflog.specs.Log.{Slots, is_known}
 use Rattle.am_nflog.specs.declared.key.LogKey.{LogKey}
@@ -9,6 +10,7 @@ use Rattle.am_board.specs.declared.flush.Asked.{Asked}
 use Rattle.am_board.specs.declared.flush.LeavingAlert.{LeavingAlert}
 use Rattle.am_board.specs.declared.flush.OpenFlush.{OpenFlush}
 use Rattle.am_board.specs.declared.flush.ToldSets.{ToldSets}
+use Rattle.am_board.specs.declared.group.Member.{Member}
 use Rattle.am_model.specs.declared.group.GroupName.{GroupName}
 use Rattle.am_model.specs.declared.views.RowView.{RowView}
 use Rattle.am_model.specs.Finish.{has_succeeded, is_leaving, log_with}
@@ -41,6 +43,14 @@ logged_of outcomes asked = filter (λ a. has_succeeded outcomes a && not a.noted
 abbrev pub rows_with : OpenFlush → ℕ → List (ℕ × Outcome) → List Asked → List RowView → List RowView
 rows_with f t outcomes asked rows =
     fold (λ log a. log_with (row_for f t a.integration) log) rows (logged_of outcomes asked)
+
+-- whether an alert of a group stands there as it did when it was found resolved
+abbrev pub stands_as : LeavingAlert → Member → Bool
+stands_as l m = same_label_set l.labels m.alert.labels && (l.stamp == m.stamp)
+
+-- an alert of a group that is marked to leave
+abbrev pub marked : Member → Member
+marked m = record { alert = m.alert; stamp = m.stamp; leaves = true }
 
 -- whether a member leaves its group: all succeeded, and it stands there as one that was found resolved
 abbrev pub leaves_where : Bool → List LeavingAlert → MemberState → Bool

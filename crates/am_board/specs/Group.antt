@@ -1,6 +1,6 @@
 -- Groups as they are kept, and what is done to one of them.
 use Rattle.std.specs.Prelude.{◌≡◌, ℕ, ◌+◌, ◌≤◌, ◌⊎◌, List, [], ◌∷◌, ◌++◌, map, length, All}
-use Rattle.std.specs.Prelude.{slice_index_or, slice_set, vec_len, vec_capacity}
+use Rattle.std.specs.Prelude.{slice_index_or, slice_set}
 use Rattle.am_alerts.specs.RoutingTree.{RoutingTree}
 use Rattle.am_model.specs.declared.group.GroupName.{GroupName}
 use Rattle.am_board.specs.declared.group.Group.{Group}
@@ -23,7 +23,7 @@ AddsAtMost old name new = (new ≡ old) ⊎ (new ≡ old ++ name ∷ [])
 
 -- a group has room for so many more alerts
 abbrev pub Fits : ℕ → Group → Type 0
-Fits n g = vec_len g.members + n ≤ vec_capacity g.members
+Fits n g = n ≤ g.members.room
 
 -- a group of this name has room for so many more alerts
 abbrev pub HasRoom : ℕ → GroupName → List Group → Type 0
@@ -32,8 +32,7 @@ HasRoom n name groups = All (λ g. g.name ≡ name → Fits n g) groups
 -- the group is the same, with no less room
 pub record IsReserved (old new : Group) : Type 0 where
   pub name : new.name ≡ old.name
-  pub len : vec_len new.members ≡ vec_len old.members
-  pub capacity : vec_capacity old.members ≤ vec_capacity new.members
+  pub room : old.members.room ≤ new.members.room
   pub state : group_state new ≡ group_state old
 
 -- the group at a place was changed, but not its name
@@ -48,6 +47,5 @@ pub record Changes (change : Group → Group → Type 0) (i : ℕ) (old new : Gr
 
 -- a member was put into the group, which waits so long before its first flush
 pub record Gets (m : MemberState) (wait t : ℕ) (from to : Group) : Type 0 where
-  pub len : vec_len to.members ≤ vec_len from.members + 1
-  pub capacity : vec_capacity to.members ≡ vec_capacity from.members
+  pub room : from.members.room ≤ to.members.room + 1
   pub state : (config : Config) → wait ≡ wait_of config from.name → group_state to ≡ group_with config t m (group_state from)

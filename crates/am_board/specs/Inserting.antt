@@ -1,6 +1,6 @@
 -- The placements of an insert: what they put into groups, and the room that they need.
 use Rattle.std.specs.List.{IsDistinct}
-use Rattle.std.specs.Prelude.{◌≡◌, ℕ, ◌+◌, ◌≤◌, ◌==◌, Option, List, length, position, All, vec_len, vec_capacity}
+use Rattle.std.specs.Prelude.{◌≡◌, ℕ, ◌+◌, ◌≤◌, ◌==◌, Option, None, List, [], length, position, All, vec_len, vec_capacity}
 use Rattle.am_alerts.specs.AlertData.{AlertData}
 use Rattle.am_alerts.specs.Route.{group_labels_of}
 use Rattle.am_alerts.specs.RoutingTree.{RoutingTree, route_at}
@@ -35,9 +35,13 @@ AreFound groups placements = All (λ p. IsFound groups (target_of p)) placements
 abbrev pub AreApart : List Placement → Type 0
 AreApart placements = IsDistinct (λ p q. p.name.route == q.name.route) placements
 
--- the list for a group that has to be made has room for so many, and its name is there once more
+-- the list for a group that has to be made has room for so many, and the group's name and the alert's labels are there once more
 abbrev pub IsEmptyWithRoom : ℕ → Placement → Type 0
-IsEmptyWithRoom n placement = (vec_len placement.members ≡ 0) × (n ≤ vec_capacity placement.members) × (placement.key ≡ placement.name)
+IsEmptyWithRoom n placement =
+    (placement.members.items ≡ [])
+    × (placement.place ≡ None → n ≤ placement.members.room)
+    × (placement.key ≡ placement.name)
+    × (placement.labels ≡ placement.member.alert.labels)
 
 -- the group of each placement has room for so many more
 abbrev pub HaveRoom : ℕ → List Group → List Placement → Type 0

@@ -11,6 +11,7 @@ pub mod Kept
 pub mod Keyed
 pub mod Known
 pub mod LogRows
+pub mod Members
 pub mod Noting
 pub mod Outlook
 pub mod Step

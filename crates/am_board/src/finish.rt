@@ -1,8 +1,7 @@
 //! Finishes.
-ghost use Rattle.std.specs.Prelude.{◌≡◌, ℕ, ◌+◌, ◌<◌, ◌^◌, ◌==◌, ◌&&◌, not, List, [], ◌∷◌};
+ghost use Rattle.std.specs.Prelude.{◌≡◌, ℕ, ◌+◌, ◌<◌, ◌^◌, List, [], ◌∷◌};
 ghost use Rattle.std.specs.Prelude.{length, map, count_by, slice_index_or, vec_len, IsTrue, All, IsPermutation};
-ghost use Rattle.std.specs.List.{list_all, list_any, IsDistinct};
-ghost use Rattle.am_alerts.specs.Labels.{same_label_set};
+ghost use Rattle.std.specs.List.{list_all, IsDistinct};
 ghost use Rattle.am_nflog.specs.Log.{is_known};
 ghost use Rattle.am_model.specs.Finish.{has_succeeded as succeeds, is_delivered as says_delivered, is_leaving, log_with};
 ghost use Rattle.am_board.specs.Group.{names_of};
@@ -18,7 +17,7 @@ ghost use Rattle.am_model.specs.declared.config.Config.{Config as ConfigData};
 ghost use Rattle.am_model.specs.declared.views.RowView.{RowView};
 
 use crate::flush::{Asked, LeavingAlert, OpenFlush, ToldSets};
-use crate::group::{Group, GroupName, Member};
+use crate::group::{Group, GroupName};
 use crate::groups::Groups;
 use crate::record::{Call, Finished, Record, Reply};
 use crate::state::State;
@@ -181,9 +180,7 @@ pub(crate) fn take_leaving(group: &mut Group, leaving: &[LeavingAlert]) -> usize
     } }
     ensures count { result ≡ count_by (is_leaving (map stamped leaving.now)) (map member_state group.old.members.items) }
 {
-    let before = group.members.len();
-    group.members.retain(|member| !leaves(leaving, member));
-    before - group.members.len()
+    group.members.take_leaving(leaving)
 }
 
 /// Whether an integration that was asked succeeded.
@@ -203,18 +200,4 @@ pub(crate) fn is_delivered(outcome: Option<Outcome>) -> bool
         Some(Outcome::Delivered) => true,
         _ => false,
     }
-}
-
-/// Whether a member stands in its group as it did when it was found resolved.
-fn leaves(leaving: &[LeavingAlert], member: &Member) -> bool
-    ensures { result ≡ list_any (λ l. same_label_set l.labels member.now.alert.labels && (l.stamp == member.now.stamp)) leaving.now }
-{
-    leaving.iter().any(|l| stands_as(l, member))
-}
-
-/// Whether a member has the labels and the stamp of one that was found resolved.
-fn stands_as(l: &LeavingAlert, member: &Member) -> bool
-    ensures { result ≡ (same_label_set l.now.labels member.now.alert.labels && (l.now.stamp == member.now.stamp)) }
-{
-    l.labels == *member.alert.labels() && l.stamp == member.stamp
 }

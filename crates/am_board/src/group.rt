@@ -1,14 +1,12 @@
 //! Aggregation groups.
-ghost use Rattle.std.specs.Prelude.{◌≡◌, ◌+◌, ◌<◌, ◌≤◌, ◌&&◌, length, map, min};
-ghost use Rattle.std.specs.Prelude.{nat_lt, not, position, true, if◌then◌else◌, vec_len, vec_capacity, IfSome, OnOk};
-ghost use Rattle.am_alerts.specs.Labels.{same_label_set};
+ghost use Rattle.std.specs.Prelude.{◌≡◌, ◌+◌, ◌<◌, ◌≤◌, ◌&&◌, min, nat_lt, not, true, if◌then◌else◌, OnOk};
 ghost use Rattle.am_model.specs.Begin.{count_resolved, without_resolved};
 ghost use Rattle.am_board.specs.Group.{Fits, IsReserved};
-ghost use Rattle.am_model.specs.Insert.{same_member, wait_of, group_with};
+ghost use Rattle.am_model.specs.Insert.{wait_of, group_with};
 ghost use Rattle.am_board.specs.Kept.{member_state, group_state};
-ghost use Rattle.am_model.specs.Lists.{put_in};
 ghost use Rattle.am_model.specs.declared.config.Config.{Config};
 
+use crate::members::Members;
 use am_alerts::alert::Alert;
 use am_alerts::labels::Labels;
 pub use am_model::group::GroupName;
@@ -19,6 +17,8 @@ use std::alloc::AllocError;
 pub(crate) struct Member {
     pub(crate) alert: Alert,
     pub(crate) stamp: u64,
+    /// Whether it is being taken out.
+    pub(crate) leaves: bool,
 }
 
 /// The alerts of one route that share their group labels.
@@ -29,40 +29,23 @@ pub(crate) struct Group {
     pub(crate) due: u64,
     /// Whether it was flushed since it was made.
     pub(crate) flushed: bool,
-    pub(crate) members: Vec<Member>,
+    pub(crate) members: Members,
 }
 
 impl Group {
     /// Puts an alert in place of the one with its labels, or adds it; there is room for one more. An
     /// alert whose wait is over makes the group due at `t`, if it wasn't flushed.
-    pub(crate) fn insert(&mut self, member: Member, wait: u64, t: u64)
-        requires { vec_len self.old.members < vec_capacity self.old.members }
+    pub(crate) fn insert(&mut self, labels: Labels, member: Member, wait: u64, t: u64)
+        requires labels { labels ≡ member.alert.labels }
+        requires room { 0 < self.old.members.room }
         ensures name { self.new.name ≡ self.old.name }
-        ensures len { vec_len self.new.members ≤ vec_len self.old.members + 1 }
-        ensures capacity { vec_capacity self.new.members ≡ vec_capacity self.old.members }
+        ensures room { self.old.members.room ≤ self.new.members.room + 1 }
         ensures state { (config : Config) → wait ≡ wait_of config self.old.name
             → group_state self.new ≡ group_with config t (member_state member) (group_state self.old) }
     {
         let started = member.alert.starts();
-        self.put(member);
+        self.members.put(labels, member);
         self.hasten(started, wait, t);
-    }
-
-    /// Puts an alert in place of the one with its labels, or adds it.
-    fn put(&mut self, member: Member)
-        requires { vec_len self.old.members < vec_capacity self.old.members }
-        ensures name { self.new.name ≡ self.old.name }
-        ensures due { self.new.due ≡ self.old.due }
-        ensures flushed { self.new.flushed ≡ self.old.flushed }
-        ensures members { map member_state self.new.members.items
-            ≡ put_in same_member (member_state member) (map member_state self.old.members.items) }
-        ensures len { vec_len self.new.members ≤ vec_len self.old.members + 1 }
-        ensures capacity { vec_capacity self.new.members ≡ vec_capacity self.old.members }
-    {
-        match position_of(self.members.as_slice(), member.alert.labels()) {
-            Some(i) => self.members[i] = member,
-            None => self.members.push_reserved(member),
-        }
     }
 
     /// A group that hasn't been flushed is due at once at `t` for an alert that started so long ago
@@ -77,16 +60,6 @@ impl Group {
             self.due = self.due.min(t);
         }
     }
-}
-
-/// The place of a member with these labels.
-pub(crate) fn position_of(members: &[Member], labels: &Labels) -> Option<usize>
-    ensures place { result ≡ position (λ m. same_label_set labels.now m.alert.labels) members.now }
-    ensures within { IfSome result (λ i. i < length members.now) }
-{
-    members
-        .iter()
-        .position(|member| *labels == *member.alert.labels())
 }
 
 /// Makes room for so many more alerts in a group.
@@ -110,7 +83,5 @@ pub(crate) fn take_resolved(group: &mut Group, t: u64) -> usize
     ensures group { group_state group.new ≡ without_resolved t (group_state group.old) }
     ensures count { result ≡ count_resolved t (group_state group.old) }
 {
-    let before = group.members.len();
-    group.members.retain(|member| !member.alert.resolved_at(t));
-    before - group.members.len()
+    group.members.take_resolved(t)
 }

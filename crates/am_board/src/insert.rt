@@ -1,6 +1,6 @@
 //! Inserts.
-ghost use Rattle.std.specs.Prelude.{◌≡◌, ℕ, suc, ◌+◌, ◌<◌, ◌≤◌, count_by, false, fold, is_none, length, map, position, None, All};
-ghost use Rattle.std.specs.Prelude.{IfSome, IfOk, IfErr, OnOk, MatchResult, vec_len, vec_capacity};
+ghost use Rattle.std.specs.Prelude.{◌≡◌, ℕ, suc, ◌+◌, ◌<◌, ◌≤◌, [], count_by, false, fold, is_none, length, map, position, None, All};
+ghost use Rattle.std.specs.Prelude.{IfSome, IfOk, IfErr, OnOk, MatchResult, vec_len};
 ghost use Rattle.am_alerts.specs.RoutingTree.{RoutingTree, routes_of};
 ghost use Rattle.am_board.specs.Group.{names_of, AreRouted, AddsAtMost, HasRoom};
 ghost use Rattle.am_model.specs.Causes.{insert_cause, is_full, is_name_too_many};
@@ -20,6 +20,7 @@ use crate::config::Config;
 use crate::fault::Fault;
 use crate::group::{Group, GroupName, Member};
 use crate::groups::Groups;
+use crate::members::Members;
 use crate::record::{Call, Inserted, Record, Reply};
 use crate::state::State;
 use am_alerts::alert::Alert;
@@ -43,11 +44,13 @@ pub(crate) struct Placement {
     pub(crate) place: Option<usize>,
     /// The name once more, for a group that has to be made to stand under.
     pub(crate) key: GroupName,
+    /// The labels of the alert, for it to stand under.
+    pub(crate) labels: Labels,
     pub(crate) member: Member,
     /// How long the group waits for its first flush, in milliseconds.
     pub(crate) wait: u64,
     /// An empty list with room, for a group that has to be made.
-    pub(crate) members: Vec<Member>,
+    pub(crate) members: Members,
 }
 
 /// Puts an alert in place of the known one with its labels, or adds it, and likewise in each group of
@@ -244,12 +247,29 @@ fn prepare(
     let alert = alert.copy(alloc)?;
     Ok(Placement {
         key: name.copy(alloc)?,
+        labels: alert.labels().copy(alloc)?,
         wait: routes.route(name.route).group_wait,
         name,
         place,
-        member: Member { alert, stamp },
-        members: Vec::with_capacity(alloc, room)?,
+        member: Member {
+            alert,
+            stamp,
+            leaves: false,
+        },
+        members: list_for(alloc, place, room)?,
     })
+}
+
+/// The list for a group that has to be made, with room for so many alerts. A group that is there
+/// needs none.
+fn list_for(alloc: Global, place: Option<usize>, room: usize) -> Result<Members, AllocError>
+    ensures empty { IfOk result (λ members. members.items ≡ []) }
+    ensures room { place ≡ None → IfOk result (λ members. room ≤ members.room) }
+{
+    match place {
+        Some(_) => Ok(Members::new(alloc)),
+        None => Members::with_capacity(alloc, room),
+    }
 }
 
 /// Makes room for so many more alerts in each group of these placements.
@@ -301,7 +321,7 @@ fn place(groups: &mut Groups, placement: Placement, t: u64)
         → map group_state groups.new.items ≡ put_into_group config t m (map group_state groups.old.items) placement.name }
 {
     match placement.place {
-        Some(i) => groups.insert(i, placement.member, placement.wait, t),
+        Some(i) => groups.insert(i, placement.labels, placement.member, placement.wait, t),
         None => {
             let mut group = Group {
                 name: placement.name,
@@ -309,7 +329,7 @@ fn place(groups: &mut Groups, placement: Placement, t: u64)
                 flushed: false,
                 members: placement.members,
             };
-            group.insert(placement.member, placement.wait, t);
+            group.insert(placement.labels, placement.member, placement.wait, t);
             groups.add(placement.key, group);
         }
     }

@@ -14,6 +14,7 @@ mod groups;
 mod insert;
 mod known;
 mod maintain;
+mod members;
 mod note;
 pub mod outlook;
 mod plan;

@@ -11,4 +11,5 @@ pub mod EachCall
 pub mod FewGroups
 pub mod FewKnown
 pub mod Histories
+pub mod KnownMembers
 pub mod RowMoments

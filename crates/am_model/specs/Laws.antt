@@ -1,7 +1,7 @@
 -- The laws of histories, record by record.
 use Rattle.std.specs.Prelude.{◌≡◌, ℕ, ◌+◌, ◌<◌, ◌≤◌, ◌↔◌, min, max, Bool, true, false, IsTrue, All, List, [], ◌∷◌, ◌++◌, fold, not}
-use Rattle.std.specs.Prelude.{Option, Some, None, ◌==◌, if◌then◌else◌}
-use Rattle.std.specs.List.{IsDistinct}
+use Rattle.std.specs.Prelude.{Option, Some, None, ◌==◌, find, if◌then◌else◌}
+use Rattle.std.specs.List.{list_any, IsDistinct}
 use Rattle.am_alerts.specs.declared.limits.TheConstants.{MAX_MOMENT}
 use Rattle.am_nflog.specs.Members.{is_empty}
 use Rattle.am_model.specs.declared.config.Config.{Config}
@@ -12,10 +12,10 @@ use Rattle.am_model.specs.declared.record.Reply.TheVariants.{Inserted, Silenced,
 use Rattle.am_model.specs.Records.{now_of}
 use Rattle.am_model.specs.Configured.{route_of}
 use Rattle.am_model.specs.Finish.{same_key}
-use Rattle.am_model.specs.Insert.{same_alert, same_member, same_group}
+use Rattle.am_model.specs.Insert.{same_alert, same_member, same_group, names_for}
 use Rattle.am_model.specs.Replay.{reply, after, replay, IsLegal}
 use Rattle.am_model.specs.Upkeep.{same_silence}
-use Rattle.am_model.specs.State.{GroupState, AskedState, FlushState, State, opening_state, same_name, has_group, members_in}
+use Rattle.am_model.specs.State.{MemberState, GroupState, AskedState, FlushState, State, opening_state, same_name, has_group, members_in}
 
 -- one record more is one step more
 abbrev pub ReplayAppends : Type 0
@@ -105,6 +105,24 @@ pub record IsConsistent (s : State) : Type 0 where
   pub flushes : IsDistinct same_flushed s.flushes
   pub numbers : IsDistinct same_number s.flushes
   pub held : All (IsHeld s) s.flushes
+
+-- an alert of a group stands there as the known alert with its labels does, and the group is among those to which it goes
+pub record IsKnownMember (config : Config) (s : State) (g : GroupState) (m : MemberState) : Type 0 where
+  pub known : find (same_alert m.alert) s.known ≡ Some m.alert
+  pub routed : IsTrue (list_any (same_name g.name) (names_for config m.alert.labels))
+
+-- an alert has the stamp of another with its labels
+abbrev pub IsStampedAs : MemberState → MemberState → Type 0
+IsStampedAs m n = IsTrue (same_member m n) → n.stamp ≡ m.stamp
+
+-- each alert of each group is so, and has one stamp in all its groups
+pub record KnowsMembers (config : Config) (s : State) : Type 0 where
+  pub known : All (λ g. All (IsKnownMember config s g) g.members) s.groups
+  pub stamps : All (λ g. All (λ m. All (λ o. All (IsStampedAs m) o.members) s.groups) g.members) s.groups
+
+-- any list of records, legal or not, leaves such a state: a group has each of its alerts as it was last inserted
+abbrev pub ReplaysKnowMembers : Type 0
+ReplaysKnowMembers = (config : Config) (history : List Record) → KnowsMembers config (replay config history)
 
 -- any list of records, legal or not, leaves such a state
 abbrev pub ReplaysAreConsistent : Type 0

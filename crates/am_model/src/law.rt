@@ -1,5 +1,5 @@
 //! Laws of histories, and the limits and the faults' numbers, each as it is meant.
-ghost use Rattle.am_model.specs.Laws.{ReplayAppends, LegalAppends, ClockIsMoment, ReplaysAreConsistent, LegalKeepsBegins};
+ghost use Rattle.am_model.specs.Laws.{ReplayAppends, LegalAppends, ClockIsMoment, ReplaysAreConsistent, ReplaysKnowMembers, LegalKeepsBegins};
 ghost use Rattle.am_model.specs.look_back.Interval.{BeginsKeepTheInterval};
 ghost use Rattle.am_model.specs.look_back.Laws.{EveryLegalHistory, AlertsAreFound, ShownAlertsAreFound, RowsAreFound, ShownRowsAreFound};
 ghost use Rattle.am_model.specs.look_back.Laws.{OnlyDeliveredIsLogged, RowsComeByDelivery, RowsWereDelivered, RefiringAlertsStay};
@@ -67,10 +67,13 @@ pub fn histories_go_record_by_record()
 
 /// What holds after every list of records, legal or not: no two known alerts, silences, groups,
 /// members of a group, rows or open flushes are alike; and a group with an open flush has alerts, so
-/// no maintenance removes it. After a legal history a group that was begun since it was made is
-/// there, flushed, and due one group interval after its last begin.
+/// no maintenance removes it. Each alert of a group is the known one with its labels, as it was last
+/// inserted, has one stamp in all its groups, and each of these is one that its routes give it. After
+/// a legal history a group that was begun since it was made is there, flushed, and due one group
+/// interval after its last begin.
 pub fn legal_histories_are_consistent()
     ensures consistent { ReplaysAreConsistent }
+    ensures members { ReplaysKnowMembers }
     ensures begins { LegalKeepsBegins }
 {}
 

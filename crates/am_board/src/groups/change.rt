@@ -16,6 +16,7 @@ use super::Groups;
 use crate::finish::take_leaving;
 use crate::flush::LeavingAlert;
 use crate::group::{Group, GroupName, Member, mark_begun, reserve_members, take_resolved};
+use am_alerts::labels::Labels;
 use std::alloc::AllocError;
 
 impl Groups {
@@ -69,14 +70,15 @@ impl Groups {
     }
 
     /// Puts a member into the group at a place, where there is room for it.
-    pub(crate) fn insert(&mut self, i: usize, member: Member, wait: u64, t: u64)
+    pub(crate) fn insert(&mut self, i: usize, labels: Labels, member: Member, wait: u64, t: u64)
         requires place { i < length self.old.items }
+        requires labels { labels ≡ member.alert.labels }
         requires room { (d : Group) → Fits 1 (slice_index_or self.old.items i d) }
         ensures { Changes (Gets (member_state member) wait t) i self.old self.new }
     {
         let group = &mut self.groups[i];
         let before = group.due;
-        group.insert(member, wait, t);
+        group.insert(labels, member, wait, t);
         self.due.change(&group.name, before, group.due);
     }
 

@@ -41,7 +41,7 @@ pub returns-in-Some-clause-others : goal.returns-in-Some-clause-others
 returns-in-Some-clause-others c n name ready room =
     let group = c.insert.ensures in
     subst (HasRoom n name) (sym group.items)
-    (room_set (suc n) n name c.args.groups.now.items c.in-Some.i group.to group.from (omega arith) (inside ((goal.at.returns-in-Some-clause-others c).In-Some)) group.was group.name (λ fits. omega (arith, fits, group.changed.len, group.changed.capacity)) room)
+    (room_set (suc n) n name c.args.groups.now.items c.in-Some.i group.to group.from (omega arith) (inside ((goal.at.returns-in-Some-clause-others c).In-Some)) group.was group.name (λ fits. omega (arith, fits, group.changed.room)) room)
 
 pub returns-in-Some-clause-state : goal.returns-in-Some-clause-state
 returns-in-Some-clause-state c config m early is =
@@ -68,7 +68,7 @@ returns-in-None-clause-names c =
 pub returns-in-None-clause-others : goal.returns-in-None-clause-others
 returns-in-None-clause-others c n name ready room =
     subst (HasRoom n name) (sym c.add.ensures.items)
-    (room_push (suc n) n name c.args.groups.now.items c.insert-in-None.new.self (omega arith) (omega (arith, ready.0, ready.1, c.insert-in-None.ensures.len, c.insert-in-None.ensures.capacity)) room)
+    (room_push (suc n) n name c.args.groups.now.items c.insert-in-None.new.self (omega arith) (omega (arith, ready.1 c.in-None.is, c.insert-in-None.ensures.room)) room)
 
 pub returns-in-None-clause-state : goal.returns-in-None-clause-state
 returns-in-None-clause-state c config m early is =
@@ -77,7 +77,7 @@ returns-in-None-clause-state c config m early is =
     let fresh : Group = record { name = name; due = c.saturating_add.result; flushed = false; members = c.args.placement.members } in
     let at : place_in name gs ≡ None = sym c.requires.found ∙ c.in-None.is in
     let due : c.saturating_add.result ≡ c.args.t + c.args.placement.wait = omega (arith, c.saturating_add.ensures, early, is.bounded) in
-    let made : group_state fresh ≡ new_group config c.args.t name = new_group_is config c.args.t fresh name refl (due ∙ ap (λ n. c.args.t + n) is.wait) refl (omega (arith, c.requires.ready.0, c.args.placement.members.ok.0)) in
+    let made : group_state fresh ≡ new_group config c.args.t name = new_group_is config c.args.t fresh name refl (due ∙ ap (λ n. c.args.t + n) is.wait) refl (ap length c.requires.ready.0) in
     ap (map group_state) c.add.ensures.items
     ∙ put_group_new config c.args.t m gs c.insert-in-None.new.self name at
     (c.insert-in-None.ensures.state config is.wait ∙ (ap (λ n. group_with config c.args.t n (group_state fresh)) is.member ∙ ap (group_with config c.args.t m) made))

@@ -37,10 +37,15 @@ loop-placement-init c =
       );
     }
 
+pub place-requires-clause-room : goal.place-requires-clause-room
+place-requires-clause-room c k d within same =
+    let last = All-pop (λ (p : Placement). HasRoom (vec_len c.loop-placement.placements) p.name c.loop-placement.groups.items) c.loop-placement.placements.items c.pop.new.self.items (Some c.in-Some.placement) c.in-Some.ensures.items c.loop-placement.invariant.room in
+    omega (arith, last.1 k d within same, c.in-Some.ensures.len)
+
 pub place-requires-clause-ready : goal.place-requires-clause-ready
 place-requires-clause-ready c =
     let last = All-pop (IsEmptyWithRoom (vec_len c.loop-placement.placements)) c.loop-placement.placements.items c.pop.new.self.items (Some c.in-Some.placement) c.in-Some.ensures.items c.loop-placement.invariant.ready in
-    (last.1.0, omega (arith, last.1.1, c.in-Some.ensures.len), last.1.2)
+    (last.1.0, (λ missing. omega (arith, last.1.1 missing, c.in-Some.ensures.len)), last.1.2, last.1.3)
 
 pub place-requires-clause-found : goal.place-requires-clause-found
 place-requires-clause-found c =
@@ -66,7 +71,7 @@ loop-placement-preserved c =
       apart = last.0;
       spare = omega (arith, c.place.ensures.spare, c.loop-placement.invariant.spare, counted);
       room = All-weaker (λ (p : Placement). HasRoom (suc n) p.name c.loop-placement.groups.items) (λ (p : Placement). HasRoom n p.name c.place.new.groups.items) (λ p had. c.place.ensures.others n p.name readies.1 had) rest rooms.0;
-      ready = All-weaker (IsEmptyWithRoom (suc n)) (IsEmptyWithRoom n) (λ p had. (had.0, omega (arith, had.1), had.2)) rest readies.0;
+      ready = All-weaker (IsEmptyWithRoom (suc n)) (IsEmptyWithRoom n) (λ p had. (had.0, (λ missing. omega (arith, had.1 missing)), had.2, had.3)) rest readies.0;
       routed = λ tree groups placements.
           let before = c.loop-placement.invariant.routed tree groups placements in
           let parts = All-pop (λ (p : Placement). p.name.route ≤ length tree.children) c.loop-placement.placements.items rest (Some x) popped before.1 in

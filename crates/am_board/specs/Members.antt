@@ -1,0 +1,20 @@
+-- The alerts of a group as they are kept: under their labels, in the order in which these came into the group.
+use Rattle.std.specs.Prelude.{◌≡◌, ℕ, false, List, All}
+use Rattle.std.specs.Map.{values_of}
+use Rattle.am_alerts.specs.declared.labels.Label.{Label}
+use Rattle.am_board.specs.declared.group.Member.{Member}
+use Rattle.am_board.specs.Keyed.{AreKeyed}
+
+-- alerts of a group, with room for so many more
+pub record MemberList : Type 0 where
+  pub items : List Member
+  pub room : ℕ
+
+-- the labels that an alert of a group stands under
+abbrev pub labels_of : Member → List Label
+labels_of m = m.alert.labels
+
+-- each alert stands under its labels, and none is being taken out
+pub record AreMembers (entries : List (List Label × Member)) : Type 0 where
+  pub keyed : AreKeyed labels_of entries
+  pub unmarked : All (λ m. m.leaves ≡ false) (values_of entries)

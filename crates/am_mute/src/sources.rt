@@ -56,6 +56,16 @@ impl Sources {
         }
     }
 
+    /// What is to be learnt of these rules and of all of these known alerts.
+    pub fn of(alloc: Global, rules: &[InhibitRule], known: &[Alert]) -> Result<Sources, AllocError>
+        ensures learnt { IfOk result (AreLearnt rules.now known.now) }
+        ensures all { IfOk result (λ sources. sources.learnt ≡ length known.now) }
+    {
+        let mut sources = Sources::new(alloc);
+        sources.learn(alloc, rules, known)?;
+        Ok(sources)
+    }
+
     /// Learns of these rules and of those known alerts that weren't learnt yet. Where memory is
     /// refused some of them are left to a later call.
     pub fn learn(

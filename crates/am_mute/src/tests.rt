@@ -257,8 +257,8 @@ fn the_first_that_mutes_is_told(rt: HostRuntime) -> Result<(), Fail> {
             "alertname=U severity=critical dc=x",
         ],
     )?;
-    let mut sources = Sources::new(alloc);
-    sources.learn(alloc, &rules, &known)?;
+    let (silences, rules, known) = (silences.as_slice(), rules.as_slice(), known.as_slice());
+    let sources = Sources::of(alloc, rules, known)?;
     for (text, expected) in [
         (
             "alertname=A severity=warning dc=x team=db",
@@ -270,15 +270,15 @@ fn the_first_that_mutes_is_told(rt: HostRuntime) -> Result<(), Fail> {
         ("alertname=T severity=critical dc=x", ""),
     ] {
         let labels = labels(alloc, text)?;
-        let told = mute_cause(alloc, &labels, 0, &silences, &rules, &known)?;
+        let told = mute_cause(alloc, &labels, 0, silences, rules, known)?;
         assert_eq!(rt; cause_text(alloc, told)?.as_str(), expected, "{text}");
-        let told = mute_cause_with(alloc, &labels, 0, &silences, &rules, &known, &sources)?;
+        let told = mute_cause_with(alloc, &labels, 0, silences, rules, known, &sources)?;
         assert_eq!(rt;
             cause_text(alloc, told)?.as_str(),
             expected,
             "{text}, learnt"
         );
-        let muted = muted_with(alloc, &labels, 0, &silences, &rules, &known, &sources)?;
+        let muted = muted_with(alloc, &labels, 0, silences, rules, known, &sources)?;
         assert_eq!(rt; muted, !expected.is_empty(), "{text}");
     }
     Ok(())

@@ -132,10 +132,11 @@ impl Board {
         ensures cause { let s = state_at self.old in IsCaused (begin_cause self.old.config (calls_at self.old) s (moment s now)) result }
         ensures refused { OnErr result (self.new ≡ self.old) }
     {
+        let desk = self.id;
         take_group(
             alloc,
             &self.config,
-            self.id,
+            desk,
             &mut self.state,
             &self.sources,
             pass,

@@ -5,6 +5,7 @@ pub mod Closing
 pub mod DueKeys
 pub mod GroupNames
 pub mod Keyed
+pub mod Learnt
 pub mod Limits
 pub mod LogRows
 pub mod Members

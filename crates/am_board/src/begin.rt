@@ -4,6 +4,7 @@ ghost use Rattle.std.specs.Prelude.{All, IsTrue, MatchResult, OnOk, vec_len, vec
 ghost use Rattle.am_alerts.specs.RoutingTree.{route_at};
 ghost use Rattle.am_nflog.specs.Log.{is_known};
 ghost use Rattle.am_nflog.specs.declared.key.LogKey.{LogKey};
+ghost use Rattle.am_mute.specs.Sources.{AreLearnt};
 ghost use Rattle.am_model.specs.Begin.{asked_of, taken};
 ghost use Rattle.am_model.specs.Causes.{begin_cause};
 ghost use Rattle.am_model.specs.Records.{entry};
@@ -29,6 +30,7 @@ use crate::ticket::Ticket;
 use am_alerts::labels::Labels;
 use am_alerts::limits::MAX_MOMENT;
 pub use am_model::notice::LEAST_TIME;
+use am_mute::sources::Sources;
 use am_nflog::{LogKey, NfLog};
 use std::alloc::{AllocError, Global};
 
@@ -62,10 +64,12 @@ pub(crate) fn take_group(
     config: &Config,
     id: u64,
     state: &mut State,
+    sources: &Sources,
     pass: u32,
     now: u64,
 ) -> Result<Begun, Fault>
     requires good { IsGood config.now state.old }
+    requires sources { AreLearnt config.now.rules state.old.known.items sources.now }
     ensures { MatchResult result
         (λ begun. (begin_cause config.now (vec_len state.old.history) (state_of state.old) (moment (state_of state.old) now) ≡ None)
         × Accepts config.now id (entry pass (Call.Begin now) (reply_of begun)) state.old state.new × IsFresh id begun)
@@ -87,7 +91,7 @@ pub(crate) fn take_group(
         place,
         due,
     };
-    match plan(alloc, config, id, state, chosen)? {
+    match plan(alloc, config, id, state, sources, chosen)? {
         None => begin_quiet(alloc, state, chosen),
         Some(planned) => begin_flush(alloc, id, state, chosen, planned),
     }

@@ -26,6 +26,7 @@ use crate::state::State;
 use crate::ticket::Ticket;
 use am_alerts::alert::Alert;
 use am_mute::silence::Silence;
+use am_mute::sources::Sources;
 use std::alloc::Global;
 use std::marker::Model;
 
@@ -36,6 +37,8 @@ pub struct Board {
     pub(crate) config: Config,
     pub(crate) id: u64,
     pub(crate) state: State,
+    /// What was learnt of the configuration's rules and of the known alerts.
+    pub(crate) sources: Sources,
 }
 
 impl Model for Board {
@@ -64,6 +67,7 @@ impl Board {
                 config,
                 id,
                 state: State::new(alloc)?,
+                sources: Sources::new(alloc),
             }),
         }
     }
@@ -87,7 +91,12 @@ impl Board {
         ensures cause { IsCaused (insert_cause self.old.config (calls_at self.old) (state_at self.old) alert) result }
         ensures refused { OnErr result (self.new ≡ self.old) }
     {
-        put_alert(alloc, &self.config, &mut self.state, pass, now, alert)
+        let inserted = put_alert(alloc, &self.config, &mut self.state, pass, now, alert);
+        let rules = self.config.rules.as_slice();
+        let known = self.state.known.as_slice();
+        // Where memory for it is refused a later insert learns it.
+        let _ = self.sources.learn(alloc, rules, known);
+        inserted
     }
 
     /// Puts a silence in place of the one with its id, or adds it.
@@ -123,7 +132,16 @@ impl Board {
         ensures cause { let s = state_at self.old in IsCaused (begin_cause self.old.config (calls_at self.old) s (moment s now)) result }
         ensures refused { OnErr result (self.new ≡ self.old) }
     {
-        take_group(alloc, &self.config, self.id, &mut self.state, pass, now)
+        let desk = self.id;
+        take_group(
+            alloc,
+            &self.config,
+            desk,
+            &mut self.state,
+            &self.sources,
+            pass,
+            now,
+        )
     }
 
     /// Logs the success of the notice at a place of a ticket, before its flush is finished.

@@ -1,6 +1,7 @@
 //! When a begin takes a group, what it is to do with it, and why.
 ghost use Rattle.std.specs.Prelude.{◌≡◌, ◌+◌, ◌<◌, ◌≤◌, ◌^◌, All, IfOk, IfSome, length, map, option_copied};
 ghost use Rattle.std.specs.List.{enumerate_from, filter_map, IsDistinct};
+ghost use Rattle.am_mute.specs.Sources.{AreLearnt};
 ghost use Rattle.am_board.specs.History.{state_at};
 ghost use Rattle.am_model.specs.Begin.{next_due};
 ghost use Rattle.am_model.specs.Configured.{HaveFewIntegrations, integrations_of};
@@ -25,7 +26,8 @@ use am_alerts::labels::Labels;
 use am_alerts::limits::MAX_MOMENT;
 use am_alerts::sequence::Sequence;
 pub use am_model::outlook::{MutedAlert, Outlook};
-use am_mute::mute::mute_cause;
+use am_mute::mute::mute_cause_with;
+use am_mute::sources::Sources;
 use am_nflog::{LogKey, LogRow, NfLog, is_subset};
 use std::alloc::{AllocError, Global};
 
@@ -39,7 +41,7 @@ impl Board {
     pub fn outlook(&self, alloc: Global, now: u64) -> Result<Option<Outlook>, AllocError>
         ensures { IfOk result (λ told. told ≡ outlook self.now.config self.now.history now) }
     {
-        outlook_of(alloc, &self.config, &self.state, now)
+        outlook_of(alloc, &self.config, &self.state, &self.sources, now)
     }
 
     /// When the next group is due of those that have no open flush, in milliseconds; none where there
@@ -68,9 +70,11 @@ pub(crate) fn outlook_of(
     alloc: Global,
     config: &Config,
     state: &State,
+    sources: &Sources,
     now: u64,
 ) -> Result<Option<Outlook>, AllocError>
     requires good { IsGood config.now state.now }
+    requires sources { AreLearnt config.now.rules state.now.known.items sources.now }
     requires moments { All (λ row. row.moment ≤ MAX_MOMENT) (log_rows state.now.log) }
     ensures { IfOk result (λ outlook. outlook ≡ outlook_at config.now (state_of state.now) (moment (state_of state.now) now)) }
 {
@@ -79,7 +83,7 @@ pub(crate) fn outlook_of(
         return Ok(None);
     };
     let group = state.groups.at(place);
-    let outlook = outlook_on(alloc, config, state, group, t)?;
+    let outlook = outlook_on(alloc, config, state, sources, group, t)?;
     Ok(Some(outlook))
 }
 
@@ -88,9 +92,11 @@ fn outlook_on(
     alloc: Global,
     config: &Config,
     state: &State,
+    sources: &Sources,
     group: &Group,
     t: u64,
 ) -> Result<Outlook, AllocError>
+    requires sources { AreLearnt config.now.rules state.now.known.items sources.now }
     requires route { group.now.name.route ≤ length config.now.routes.children }
     requires few { HaveFewIntegrations config.now }
     requires apart { IsDistinct same_member (group_state group.now).members }
@@ -101,8 +107,8 @@ fn outlook_on(
     Ok(Outlook {
         moment: t,
         group: group.name.copy(alloc)?,
-        muted: muted_in(alloc, config, state, group.members.as_slice(), t)?,
-        reasons: reasons_on(alloc, config, state, group, t)?,
+        muted: muted_in(alloc, config, state, sources, group.members.as_slice(), t)?,
+        reasons: reasons_on(alloc, config, state, sources, group, t)?,
     })
 }
 
@@ -111,9 +117,11 @@ fn muted_in(
     alloc: Global,
     config: &Config,
     state: &State,
+    sources: &Sources,
     members: &[Member],
     t: u64,
 ) -> Result<Sequence<MutedAlert>, AllocError>
+    requires { AreLearnt config.now.rules state.now.known.items sources.now }
     ensures { IfOk result (λ muted. muted ≡ filter_map (muted_alert config.now (state_of state.now) t) (map member_state members.now)) }
 {
     let mut muted = Vec::new(alloc);
@@ -121,14 +129,9 @@ fn muted_in(
         let labels = member.alert.labels();
         let silences = state.silences.as_slice();
         let rules = config.rules.as_slice();
-        if let Some(cause) = mute_cause(
-            alloc,
-            labels,
-            t,
-            silences,
-            rules,
-            state.known.as_slice(),
-        )? {
+        let known = state.known.as_slice();
+        let told = mute_cause_with(alloc, labels, t, silences, rules, known, sources)?;
+        if let Some(cause) = told {
             muted.push(MutedAlert {
                 labels: labels.copy(alloc)?,
                 cause,
@@ -143,9 +146,11 @@ fn reasons_on(
     alloc: Global,
     config: &Config,
     state: &State,
+    sources: &Sources,
     group: &Group,
     t: u64,
 ) -> Result<Sequence<Reason>, AllocError>
+    requires sources { AreLearnt config.now.rules state.now.known.items sources.now }
     requires route { group.now.name.route ≤ length config.now.routes.children }
     requires few { HaveFewIntegrations config.now }
     requires apart { IsDistinct same_member (group_state group.now).members }
@@ -153,7 +158,7 @@ fn reasons_on(
     ensures { IfOk result (λ reasons. reasons
         ≡ map (reason_of config.now (state_of state.now) t (group_state group.now)) (integrations_of config.now group.now.name)) }
 {
-    let unmuted = Unmuted::at(alloc, config, state, group, t)?;
+    let unmuted = Unmuted::at(alloc, config, state, sources, group, t)?;
     let told = unmuted.told(alloc)?;
     let route = config.routes.route(group.name.route);
     let Some(receiver) = config.receiver(route.receiver.as_str()) else {

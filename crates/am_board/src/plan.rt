@@ -1,6 +1,7 @@
 //! The flush to open: what its begin puts into the board and its ticket.
 ghost use Rattle.std.specs.Prelude.{◌≡◌, ◌<◌, ◌≤◌, IfOk, length, map, slice_index_or, vec_len};
 ghost use Rattle.std.specs.List.{IsDistinct};
+ghost use Rattle.am_mute.specs.Sources.{AreLearnt};
 ghost use Rattle.am_model.specs.Begin.{asked_of};
 ghost use Rattle.am_model.specs.Configured.{HaveFewIntegrations};
 ghost use Rattle.am_board.specs.Beginning.{IsFlushAsking, IsUnmuted, asked_for_update, told_of};
@@ -20,6 +21,7 @@ use crate::state::State;
 use crate::unmuted::{Unmuted, leaving_at};
 use am_alerts::limits::MAX_MOMENT;
 use am_alerts::sequence::{Sequence, copy_all};
+use am_mute::sources::Sources;
 use am_nflog::LogKey;
 use am_retry::Outcome;
 use std::alloc::{AllocError, Global};
@@ -45,16 +47,18 @@ pub(crate) fn plan(
     config: &Config,
     id: u64,
     state: &State,
+    sources: &Sources,
     chosen: ChosenGroup,
 ) -> Result<Option<PlannedFlush>, Fault>
     requires good { IsGood config.now state.now }
+    requires sources { AreLearnt config.now.rules state.now.known.items sources.now }
     requires place { chosen.place < length state.now.groups.items }
     requires moment { chosen.t ≤ MAX_MOMENT }
     ensures { (d : Group) → IsPlan config.now id (vec_len state.now.flushes) (state_of state.now) chosen.t
         (group_state (slice_index_or state.now.groups.items chosen.place d)) result }
 {
     let group = state.groups.at(chosen.place);
-    plan_of(alloc, config, id, state, group, chosen.t)
+    plan_of(alloc, config, id, state, sources, group, chosen.t)
 }
 
 /// The flush of a group that a begin at `t` opens; none where nobody is asked.
@@ -63,16 +67,18 @@ fn plan_of(
     config: &Config,
     id: u64,
     state: &State,
+    sources: &Sources,
     group: &Group,
     t: u64,
 ) -> Result<Option<PlannedFlush>, Fault>
+    requires sources { AreLearnt config.now.rules state.now.known.items sources.now }
     requires route { group.now.name.route ≤ length config.now.routes.children }
     requires few { HaveFewIntegrations config.now }
     requires apart { IsDistinct same_member (group_state group.now).members }
     requires moment { t ≤ MAX_MOMENT }
     ensures { IsPlan config.now id (vec_len state.now.flushes) (state_of state.now) t (group_state group.now) result }
 {
-    let unmuted = Unmuted::at(alloc, config, state, group, t)?;
+    let unmuted = Unmuted::at(alloc, config, state, sources, group, t)?;
     if unmuted.is_empty() {
         return Ok(None);
     }

@@ -2,6 +2,7 @@
 ghost use Rattle.std.specs.Prelude.{◌≡◌, ◌&&◌, IfOk, filter, map};
 ghost use Rattle.std.specs.List.{IsDistinct};
 ghost use Rattle.am_alerts.specs.AlertData.{is_resolved};
+ghost use Rattle.am_mute.specs.Sources.{AreLearnt};
 ghost use Rattle.am_nflog.specs.Members.{is_empty};
 ghost use Rattle.am_model.specs.Begin.{alert_cmp, label_sets};
 ghost use Rattle.am_board.specs.Beginning.{AreUnmuted, AreRising, IsUnmuted, leaving_member, sent_where, told_of};
@@ -17,7 +18,8 @@ use am_alerts::alert::Alert;
 use am_alerts::labels::Labels;
 use am_alerts::sequence::Sequence;
 use am_mute::inhibit::InhibitRule;
-use am_mute::mute::muted;
+use am_mute::mute::muted_with;
+use am_mute::sources::Sources;
 use am_nflog::Members;
 use std::alloc::{AllocError, Global};
 
@@ -35,10 +37,12 @@ impl Unmuted {
         alloc: Global,
         config: &Config,
         state: &State,
+        sources: &Sources,
         group: &Group,
         t: u64,
     ) -> Result<Unmuted, AllocError>
-        requires { IsDistinct same_member (group_state group.now).members }
+        requires sources { AreLearnt config.now.rules state.now.known.items sources.now }
+        requires apart { IsDistinct same_member (group_state group.now).members }
         ensures { IfOk result (IsUnmuted config.now (state_of state.now) t (group_state group.now)) }
     {
         let members = group.members.as_slice();
@@ -46,6 +50,7 @@ impl Unmuted {
             alloc,
             config.rules.as_slice(),
             state,
+            sources,
             members,
             t,
         )?;
@@ -100,9 +105,11 @@ fn firing_and_resolved(
     alloc: Global,
     rules: &[InhibitRule],
     state: &State,
+    sources: &Sources,
     members: &[Member],
     t: u64,
 ) -> Result<(Vec<Alert>, Vec<Alert>), AllocError>
+    requires { AreLearnt rules.now state.now.known.items sources.now }
     ensures { IfOk result (λ unmuted. AreUnmuted rules.now (state_of state.now) t members.now unmuted.0.items unmuted.1.items) }
 {
     let mut firing = Vec::new(alloc);
@@ -111,7 +118,7 @@ fn firing_and_resolved(
         let alert = &member.alert;
         let silences = state.silences.as_slice();
         let known = state.known.as_slice();
-        if muted(alloc, alert.labels(), t, silences, rules, known)? {
+        if muted_with(alloc, alert.labels(), t, silences, rules, known, sources)? {
             continue;
         }
         if alert.resolved_at(t) {

@@ -1,1 +1,6 @@
+mod BucketWalk
+mod Buckets
 pub mod Firsts
+mod FoundSources
+mod Learning
+mod SourceKeys

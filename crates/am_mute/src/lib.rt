@@ -5,5 +5,7 @@ pub mod inhibit;
 pub mod law;
 pub mod mute;
 pub mod silence;
+pub mod sources;
+mod target;
 #[cfg(test)]
 mod tests;

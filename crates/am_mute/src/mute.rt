@@ -3,10 +3,12 @@ ghost use Rattle.std.specs.Prelude.{◌≡◌, IfOk, IsOk, IsTrue, is_some, opti
 ghost use Rattle.am_mute.specs.Inhibit.{is_inhibited};
 ghost use Rattle.am_mute.specs.Silence.{is_silenced};
 ghost use Rattle.am_mute.specs.Mute.{inhibition_from, is_muted, mute_cause_of, silence_for};
+ghost use Rattle.am_mute.specs.Sources.{AreLearnt};
 ghost use Rattle.am_mute.specs.Matching.{rules_compare_texts, silences_compare_texts};
 
 use crate::inhibit::InhibitRule;
 use crate::silence::Silence;
+use crate::sources::Sources;
 use am_alerts::alert::Alert;
 use am_alerts::labels::Labels;
 use std::alloc::{AllocError, Global};
@@ -42,10 +44,31 @@ pub fn muted(
     ensures answers { IsTrue (silences_compare_texts silences.now) →
         IsTrue (rules_compare_texts rules.now) → IsOk result }
 {
+    let sources = Sources::new(alloc);
+    muted_with(alloc, labels, t, silences, rules, known, &sources)
+}
+
+/// The same, with what was learnt of these rules and of the known alerts, so that those that weren't
+/// learnt alone are looked at in turn.
+pub fn muted_with(
+    alloc: Global,
+    labels: &Labels,
+    t: u64,
+    silences: &[Silence],
+    rules: &[InhibitRule],
+    known: &[Alert],
+    sources: &Sources,
+) -> Result<bool, AllocError>
+    requires { AreLearnt rules.now known.now sources.now }
+    ensures value { IfOk result (λ matched.
+        matched ≡ is_muted labels.now t silences.now rules.now known.now) }
+    ensures answers { IsTrue (silences_compare_texts silences.now) →
+        IsTrue (rules_compare_texts rules.now) → IsOk result }
+{
     if silence_for(alloc, labels, t, silences)?.is_some() {
         return Ok(true);
     }
-    inhibited(alloc, labels, t, rules, known)
+    inhibited(alloc, labels, t, rules, known, sources)
 }
 
 /// Why a label set is muted at `t` (milliseconds), if `muted` says that it is, where these are the
@@ -64,8 +87,29 @@ pub fn mute_cause(
     ensures muted { IfOk result (λ cause.
         is_some cause ≡ is_muted labels.now t silences.now rules.now known.now) }
 {
+    let sources = Sources::new(alloc);
+    mute_cause_with(alloc, labels, t, silences, rules, known, &sources)
+}
+
+/// The same, with what was learnt of these rules and of the known alerts, so that those that weren't
+/// learnt alone are looked at in turn.
+pub fn mute_cause_with(
+    alloc: Global,
+    labels: &Labels,
+    t: u64,
+    silences: &[Silence],
+    rules: &[InhibitRule],
+    known: &[Alert],
+    sources: &Sources,
+) -> Result<Option<MuteCause>, AllocError>
+    requires { AreLearnt rules.now known.now sources.now }
+    ensures cause { IfOk result (λ cause.
+        cause ≡ mute_cause_of labels.now t silences.now rules.now known.now) }
+    ensures muted { IfOk result (λ cause.
+        is_some cause ≡ is_muted labels.now t silences.now rules.now known.now) }
+{
     match silence_for(alloc, labels, t, silences)? {
-        None => inhibition(alloc, labels, t, rules, known),
+        None => inhibition(alloc, labels, t, rules, known, sources),
         Some(silence) => Ok(Some(MuteCause::Silenced {
             id: silence.id(),
             until: silence.end(),
@@ -100,12 +144,15 @@ fn inhibition(
     t: u64,
     rules: &[InhibitRule],
     known: &[Alert],
+    sources: &Sources,
 ) -> Result<Option<MuteCause>, AllocError>
+    requires { AreLearnt rules.now known.now sources.now }
     ensures cause { IfOk result (λ cause. cause ≡ inhibition_from 0 labels.now t known.now rules.now) }
     ensures some { IfOk result (λ cause. is_some cause ≡ is_inhibited labels.now t rules.now known.now) }
 {
     for rule in 0..rules.len() {
-        if let Some(source) = rules[rule].source_for(alloc, labels, t, known)? {
+        let source = sources.source_for(alloc, rule, &rules[rule], labels, t, known)?;
+        if let Some(source) = source {
             return Ok(Some(MuteCause::Inhibited {
                 rule,
                 by: source.labels().copy(alloc)?,
@@ -121,13 +168,16 @@ fn inhibited(
     t: u64,
     rules: &[InhibitRule],
     known: &[Alert],
+    sources: &Sources,
 ) -> Result<bool, AllocError>
+    requires { AreLearnt rules.now known.now sources.now }
     ensures value { IfOk result (λ found.
         found ≡ is_inhibited labels.now t rules.now known.now) }
     ensures answers { IsTrue (rules_compare_texts rules.now) → IsOk result }
 {
-    for rule in rules {
-        if rule.source_for(alloc, labels, t, known)?.is_some() {
+    for rule in 0..rules.len() {
+        let source = sources.source_for(alloc, rule, &rules[rule], labels, t, known)?;
+        if source.is_some() {
             return Ok(true);
         }
     }

@@ -1,6 +1,7 @@
 use crate::inhibit::{InhibitRule, RuleFault};
-use crate::mute::{MuteCause, mute_cause, muted};
+use crate::mute::{MuteCause, mute_cause, mute_cause_with, muted, muted_with};
 use crate::silence::{Silence, SilenceFault};
+use crate::sources::Sources;
 use am_alerts::alert::Alert;
 use am_alerts::labels::Labels;
 use am_alerts::limits::MAX_MOMENT;
@@ -205,16 +206,9 @@ fn a_rule_of_patterns_meets_each_known_alert(rt: HostRuntime) -> Result<(), Fail
     Ok(())
 }
 
-/// The text of why a label set is muted at 0.
-fn cause_text(
-    alloc: Global,
-    text: &str,
-    silences: &[Silence],
-    rules: &[InhibitRule],
-    known: &[Alert],
-) -> Result<String, Fail> {
-    let labels = labels(alloc, text)?;
-    match mute_cause(alloc, &labels, 0, silences, rules, known)? {
+/// The text of why a label set is muted.
+fn cause_text(alloc: Global, cause: Option<MuteCause>) -> Result<String, Fail> {
+    match cause {
         None => Ok(String::new(alloc)),
         Some(MuteCause::Silenced { id, until }) => Ok(format!(in alloc;
             "silence {id} until {until}"
@@ -248,7 +242,7 @@ fn severity_rules(alloc: Global) -> Result<Vec<InhibitRule>, Fail> {
     Ok(rules)
 }
 
-/// The first silence counts before the first rule, and of a rule the first known alert.
+/// The first silence counts before the first rule, and of a rule the first known alert, learnt or not.
 #[test]
 fn the_first_that_mutes_is_told(rt: HostRuntime) -> Result<(), Fail> {
     let alloc = rt.alloc();
@@ -263,6 +257,8 @@ fn the_first_that_mutes_is_told(rt: HostRuntime) -> Result<(), Fail> {
             "alertname=U severity=critical dc=x",
         ],
     )?;
+    let (silences, rules, known) = (silences.as_slice(), rules.as_slice(), known.as_slice());
+    let sources = Sources::of(alloc, rules, known)?;
     for (text, expected) in [
         (
             "alertname=A severity=warning dc=x team=db",
@@ -273,8 +269,17 @@ fn the_first_that_mutes_is_told(rt: HostRuntime) -> Result<(), Fail> {
         ("alertname=A severity=warning dc=w", ""),
         ("alertname=T severity=critical dc=x", ""),
     ] {
-        let told = cause_text(alloc, text, &silences, &rules, &known)?;
-        assert_eq!(rt; told.as_str(), expected, "{text}");
+        let labels = labels(alloc, text)?;
+        let told = mute_cause(alloc, &labels, 0, silences, rules, known)?;
+        assert_eq!(rt; cause_text(alloc, told)?.as_str(), expected, "{text}");
+        let told = mute_cause_with(alloc, &labels, 0, silences, rules, known, &sources)?;
+        assert_eq!(rt;
+            cause_text(alloc, told)?.as_str(),
+            expected,
+            "{text}, learnt"
+        );
+        let muted = muted_with(alloc, &labels, 0, silences, rules, known, &sources)?;
+        assert_eq!(rt; muted, !expected.is_empty(), "{text}");
     }
     Ok(())
 }

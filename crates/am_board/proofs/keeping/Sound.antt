@@ -5,6 +5,8 @@ use Rattle.std.proofs.lemmas.List.Elements.{All-nil}
 use Rattle.am_alerts.specs.AlertData.{AlertData}
 use Rattle.am_alerts.specs.declared.limits.TheConstants.{MAX_CHILDREN}
 use Rattle.am_mute.specs.Silence.{SilenceData}
+use Rattle.am_mute.specs.SourceIndex.{SourceIndex}
+use Rattle.am_mute.specs.Sources.{AreLearnt}
 use Rattle.am_model.specs.declared.config.Config.{Config}
 use Rattle.am_board.specs.declared.group.Group.{Group}
 use Rattle.am_model.specs.declared.group.GroupName.{GroupName}
@@ -22,6 +24,7 @@ use Rattle.am_model.specs.Laws.{IsConsistent}
 use Rattle.am_model.specs.Replay.{reply, after, after_call, replay, IsLegal}
 use Rattle.am_model.specs.State.{State, opening_state}
 use Rattle.am_board.specs.Step.{IsGood, Accepts, Stays}
+use Rattle.am_board.proofs.keeping.Learnt.{learnt_after}
 use Rattle.am_board.proofs.keeping.Agreeing.{Agrees-refl, Agrees-trans, IsConsistent-agrees, reply-agrees, after_call-agrees}
 use Rattle.am_model.proofs.legal.Bounded.{IsBounded, bounded}
 use Rattle.am_model.proofs.legal.Consistent.{consistent_replay}
@@ -125,6 +128,7 @@ module _ (b : Inside) (sound : IsSound b) where
           room = accepts.room;
           routed = accepts.routed;
           prepared = accepts.prepared;
+          sources = subst (λ (s : State). AreLearnt b.config.rules s.known b.sources) (sym accepts.state.rest) (learnt_after b.config (state_of b.state) r.call b.sources sound.sources);
         }
 
   module _ (new : kept.State) (stays : Stays b.config b.state new) where
@@ -148,12 +152,33 @@ module _ (b : Inside) (sound : IsSound b) where
           room = stays.room;
           routed = stays.routed;
           prepared = stays.prepared;
+          sources = subst (λ (s : State). AreLearnt b.config.rules s.known b.sources) (sym stays.state) sound.sources;
         }
 
+-- a board that learnt of its rules and known alerts is sound
+pub sound_learnt : (b : Inside) (sources : SourceIndex) → AreLearnt b.config.rules b.state.known.items sources → IsSound b → IsSound (record b { sources = sources })
+sound_learnt b sources learnt sound =
+    record {
+      limits = sound.limits;
+      configured = sound.configured;
+      children = sound.children;
+      legal = sound.legal;
+      agrees = sound.agrees;
+      names = sound.names;
+      groups = sound.groups;
+      silences = sound.silences;
+      opened = sound.opened;
+      kept = sound.kept;
+      room = sound.room;
+      routed = sound.routed;
+      prepared = sound.prepared;
+      sources = learnt;
+    }
+
 -- a board that was just made is sound
-pub new_sound : (config : Config) (id : ℕ) (s : kept.State) → config_fault config ≡ None → length config.routes.children ≤ MAX_CHILDREN → AreAllowed config.limits → IsNew s
-    → IsSound (record { config = config; id = id; state = s })
-new_sound config id s configured children limits new =
+pub new_sound : (config : Config) (id : ℕ) (s : kept.State) (sources : SourceIndex) → AreLearnt config.rules s.known.items sources → config_fault config ≡ None → length config.routes.children ≤ MAX_CHILDREN → AreAllowed config.limits → IsNew s
+    → IsSound (record { config = config; id = id; state = s; sources = sources })
+new_sound config id s sources learnt configured children limits new =
     record {
       limits = limits;
       configured = configured;
@@ -168,4 +193,5 @@ new_sound config id s configured children limits new =
       room = omega (arith, new.unflushed, new.records);
       routed = subst (λ (gs : List Group). AreRouted config.routes (names_of gs)) (sym new.groups) (All-nil (λ (n : GroupName). n.route ≤ length config.routes.children));
       prepared = subst (All (IsPrepared config s.log)) (sym new.flushes) (All-nil (IsPrepared config s.log));
+      sources = learnt;
     }

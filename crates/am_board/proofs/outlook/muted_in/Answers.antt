@@ -19,14 +19,14 @@ loop-member-preserved c =
     let m = c.member-item.result in
     let i = c.loop-member.member-index in
     let before : List MutedAlert = filter_map test (map member_state (take i c.args.members.now)) in
-    let cause : c.in_ok-cause.field-0 ≡ mute_cause_of m.alert.labels c.args.t s.silences (rules_of c.args.config.now) s.known =
-    c.in_ok-cause.ensures.cause
-    ∙ (λ j. mute_cause_of (c.labels-labels.ensures.labels j) c.args.t (c.as_slice-silences.ensures.value j) (c.as_slice-rules.ensures j) (c.as_slice.ensures.value j)) in
+    let cause : c.in_ok-told.told ≡ mute_cause_of m.alert.labels c.args.t s.silences (rules_of c.args.config.now) s.known =
+    c.in_ok-told.ensures.cause
+    ∙ (λ j. mute_cause_of (c.labels-labels.ensures.labels j) c.args.t (c.as_slice-silences.ensures.value j) (c.as_slice-rules.ensures j) (c.as_slice-known.ensures.value j)) in
     let more : filter_map test (map member_state (take (i + 1) c.args.members.now))
-    ≡ before ++ cons_option (option_map (λ (x : MuteCause). record { labels = m.alert.labels; cause = x }) c.in_ok-cause.field-0) [] =
+    ≡ before ++ cons_option (option_map (λ (x : MuteCause). record { labels = m.alert.labels; cause = x }) c.in_ok-told.told) [] =
     muted-more test c.args.members.now i m (omega arith) c.member-item.is
     ∙ ap (λ (o : Option MuteCause). before ++ cons_option (option_map (λ (x : MuteCause). record { labels = m.alert.labels; cause = x }) o) []) (sym cause) in
-    elim c.match-branch-2.branch [
+    elim c.match-told.branch [
       | in-Some+in_ok-copy+in_ok-push w ↦
           ap (λ (v : Vec MutedAlert Global). v.items) w.muted-is ∙ (w.in_ok-push.ensures.items
           ∙ (ap (λ (l : List MutedAlert). l ++ record { labels = w.in_ok-copy.field-0; cause = w.in-Some.cause } ∷ []) c.loop-member.invariant

@@ -7,8 +7,8 @@ use Rattle.am_board.proofs.keeping.Limits.{begin_within, begin_caused}
 use Rattle.am_board.proofs.keeping.Sound.{good}
 use Rattle.am_board.proofs.board.Board.begin.Goals as goal
 
-pub take_group-requires : goal.take_group-requires
-take_group-requires c = record { good = good c.self.inside c.self.invariant }
+pub take_group-requires-clause-good : goal.take_group-requires-clause-good
+take_group-requires-clause-good c = good c.self.inside c.self.invariant
 
 pub invariant_of-self : goal.invariant_of-self
 invariant_of-self c =

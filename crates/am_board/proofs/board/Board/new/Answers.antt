@@ -22,7 +22,7 @@ returns-in-Err c =
 
 pub invariant_of-result : goal.invariant_of-result
 invariant_of-result c =
-    new_sound c.args.config c.args.id c.in_ok-new-in-Ok.field-0 (no_fault (config_fault c.args.config) tt tt c.in-Ok.ensures.fault) c.in-Ok.ensures.children c.in-Ok.ensures.limits
+    new_sound c.args.config c.args.id c.in_ok-new-in-Ok.field-0 c.new-in-Ok.result (c.new-in-Ok.ensures c.args.config.rules c.in_ok-new-in-Ok.field-0.known.items) (no_fault (config_fault c.args.config) tt tt c.in-Ok.ensures.fault) c.in-Ok.ensures.children c.in-Ok.ensures.limits
     c.in_ok-new-in-Ok.ensures
 
 pub returns-in_ok-new-in-Ok : goal.returns-in_ok-new-in-Ok

@@ -1,0 +1,72 @@
+-- What was learnt of the known alerts stays true: a call puts an alert in the place of one with its labels alone, or adds it.
+use Rattle.std.proofs.Common.{◌≡◌, ℕ, zero, suc, ◌<◌, ◌≤◌, true, false, List, [], ◌∷◌, length, refl, sym, ap, ◌∙◌, subst, arith, if◌then◌else◌}
+use Rattle.am_alerts.specs.AlertData.{AlertData}
+use Rattle.am_alerts.specs.LabelOrder.{same_label_set-decides}
+use Rattle.am_alerts.specs.Matcher.{match_all}
+use Rattle.am_mute.specs.Inhibit.{RuleData}
+use Rattle.am_mute.specs.SourceIndex.{SourceIndex}
+use Rattle.am_mute.specs.Sources.{AreLearnt, HasKey, HasSources, IsAt, key_of}
+use Rattle.am_model.specs.declared.config.Config.{Config}
+use Rattle.am_model.specs.declared.record.Call.{Call}
+use Rattle.am_model.specs.declared.record.Call.TheVariants.{Insert, Silence, Begin, Finish, Maintain, Note}
+use Rattle.am_model.specs.Insert.{same_alert}
+use Rattle.am_model.specs.Lists.{put_in}
+use Rattle.am_model.specs.Replay.{after_call}
+use Rattle.am_model.specs.State.{State}
+use Rattle.am_model.proofs.legal.FewKnown.{known_others}
+
+module _ (alert : AlertData) where
+  abbrev put : List AlertData → List AlertData
+  put known = put_in same_alert alert known
+
+  no_fewer : (known : List AlertData) → length known ≤ length (put known)
+  no_fewer [] = omega arith
+  no_fewer (y ∷ ys) =
+      elim (same_alert alert y) as (λ b. length (y ∷ ys) ≤ length (if b then alert ∷ ys else y ∷ put ys)) [
+        | true ↦ omega arith
+        | false ↦ omega (arith, no_fewer ys)
+      ]
+
+  -- an alert of these labels was there before
+  abbrev WasAt : List AlertData → ℕ → AlertData → Type 0
+  WasAt known i a = (b : AlertData) × IsAt known i b × (b.labels ≡ a.labels)
+
+  behind : (y : AlertData) (ys : List AlertData) (i : ℕ) (a : AlertData) → WasAt ys i a → WasAt (y ∷ ys) (suc i) a
+  behind y ys i a was = (was.0, (omega (arith, was.1.0), was.1.1), was.2)
+
+  was_at : (known : List AlertData) (i : ℕ) (a : AlertData) → IsAt (put known) i a → i < length known → WasAt known i a
+  was_at [] i a at less = absurd (omega (arith, less))
+  was_at (y ∷ ys) zero a at less =
+      elim (same_alert alert y) as (λ b. same_alert alert y ≡ b → IsAt (if b then alert ∷ ys else y ∷ put ys) 0 a → WasAt (y ∷ ys) 0 a) [
+        | true ↦ λ e is. (y, (omega arith, refl), sym ((same_label_set-decides alert.labels y.labels).0 e) ∙ sym (ap (λ (x : AlertData). x.labels) is.1))
+        | false ↦ λ e is. (y, (omega arith, refl), sym (ap (λ (x : AlertData). x.labels) is.1))
+      ] refl at
+  was_at (y ∷ ys) (suc i) a at less =
+      elim (same_alert alert y) as (λ b. IsAt (if b then alert ∷ ys else y ∷ put ys) (suc i) a → WasAt (y ∷ ys) (suc i) a) [
+        | true ↦ λ is. behind y ys i a (a, (omega (arith, less), is.1), refl)
+        | false ↦ λ is. behind y ys i a (was_at ys i a (omega (arith, is.0), is.1) (omega (arith, less)))
+      ] at
+
+  learnt_put : (rules : List RuleData) (known : List AlertData) (index : SourceIndex) → AreLearnt rules known index → AreLearnt rules (put known) index
+  learnt_put rules known index learnt =
+      record {
+        learnt = omega (arith, learnt.learnt, no_fewer known);
+        within = λ k had. let within = learnt.within k had in (omega (arith, within.0, no_fewer known), within.1);
+        sources = sources;
+      }
+    where
+      sources : (number : ℕ) (rule : RuleData) → IsAt rules number rule → HasSources number rule (put known) index
+      sources number rule at i a is less matched =
+          let was = was_at known i a is (omega (arith, less, learnt.learnt)) in
+          let key : key_of number rule.equal i was.0.labels ≡ key_of number rule.equal i a.labels = ap (key_of number rule.equal i) was.2 in
+          subst (HasKey index) key (learnt.sources number rule at i was.0 was.1 less (ap (match_all rule.source) was.2 ∙ matched))
+
+module _ (config : Config) (s : State) where
+  -- what was learnt is of the known alerts after a call too
+  pub learnt_after : (call : Call) (index : SourceIndex) → AreLearnt config.rules s.known index → AreLearnt config.rules (after_call config s call).known index
+  learnt_after (Insert now alert) index learnt = learnt_put alert config.rules s.known index learnt
+  learnt_after (Silence now number matchers start end) index learnt = learnt
+  learnt_after (Begin now) index learnt = subst (λ known. AreLearnt config.rules known index) (sym (known_others config s (Begin now) refl refl).0) learnt
+  learnt_after (Finish now number outcomes) index learnt = subst (λ known. AreLearnt config.rules known index) (sym (known_others config s (Finish now number outcomes) refl refl).0) learnt
+  learnt_after (Maintain now) index learnt = learnt
+  learnt_after (Note now number integration outcome) index learnt = subst (λ known. AreLearnt config.rules known index) (sym (known_others config s (Note now number integration outcome) refl refl).0) learnt

@@ -1,0 +1,23 @@
+-- Label sets that a rule may mute.
+use Rattle.std.specs.Prelude.{◌≡◌, ℕ, true, false, List, Option, Some, None, fold}
+use Rattle.std.specs.Hash.{str}
+use Rattle.std.specs.Hash.FoldHasher.{initial, write, finish}
+use Rattle.am_alerts.specs.Labels.{value_of}
+use Rattle.am_alerts.specs.Matcher.{match_all}
+use Rattle.am_alerts.specs.declared.labels.Label.{Label}
+use Rattle.am_mute.specs.Inhibit.{RuleData}
+
+-- a label set, a rule whose target matchers match it, and a moment
+pub record TargetData : Type 0 where
+  pub rule : RuleData
+  pub labels : List Label
+  pub t : ℕ
+
+-- the target that a label set is for a rule at t, or none where the target matchers don't match it
+abbrev pub IsTargetOf : RuleData → List Label → ℕ → Option TargetData → Type 0
+IsTargetOf rule labels t None = match_all rule.target labels ≡ false
+IsTargetOf rule labels t (Some x) = (match_all rule.target labels ≡ true) × (x ≡ record { rule = rule; labels = labels; t = t })
+
+-- the hash of the values that a label set has under these names
+abbrev pub values_hash : List (List ℕ) → List Label → ℕ
+values_hash names labels = finish (fold (λ hasher name. fold write hasher (str (value_of name labels))) initial names)

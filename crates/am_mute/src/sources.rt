@@ -1,0 +1,192 @@
+//! Which known alerts may be sources, found by their values under the names of `equal`.
+ghost use Rattle.std.specs.Prelude.{◌≡◌, ◌+◌, ◌<◌, List, true, length, is_some, option_copied, IfOk, IsOk, IsTrue, OnOk};
+ghost use Rattle.am_alerts.specs.AlertData.{AlertData};
+ghost use Rattle.am_alerts.specs.Matcher.{compare_texts, match_all};
+ghost use Rattle.am_mute.specs.Inhibit.{RuleData, inhibits, is_inhibited_by, source_for};
+ghost use Rattle.am_mute.specs.Sources.{AreLearnt, GrowsAt, HasKey, IsFirstOf, IsLearnt, key_of};
+
+use crate::inhibit::InhibitRule;
+use crate::target::{Target, values_hash};
+use am_alerts::alert::Alert;
+use am_alerts::labels::Labels;
+use am_alerts::matcher::all_match;
+use std::alloc::{AllocError, Global};
+use std::collections::BTreeSet;
+use std::marker::Model;
+
+/// That the source matchers of a rule match an alert. Keys are ordered by rule, then by hash, then by
+/// place.
+#[derive(Clone, Copy, Debug, Drop, PartialEq, Eq, PartialOrd, Ord)]
+pub struct SourceKey {
+    /// The place of the rule in the list.
+    rule: usize,
+    /// The hash of the alert's values under the names of `equal`.
+    hash: u64,
+    /// The place of the alert in the list.
+    place: usize,
+}
+
+/// The first so many known alerts, as far as they may be sources of rules, found by their values under
+/// the names of `equal`. Matchers and labels don't change with time, so an alert is learnt once.
+///
+/// This only saves time: alerts that weren't learnt are looked at in turn.
+#[derive(Debug, Drop)]
+pub struct Sources {
+    keys: BTreeSet<SourceKey>,
+    /// How many alerts were learnt.
+    learnt: usize,
+}
+
+impl Model for Sources {
+    ghost use Rattle.am_mute.specs.SourceIndex.{SourceIndex};
+
+    ghost Value = { SourceIndex };
+
+    ghost view = { λ s. record { keys = s.keys.keys; learnt = s.learnt } };
+}
+
+impl Sources {
+    /// Nothing learnt yet, of whatever rules and alerts. Takes no memory.
+    pub fn new(alloc: Global) -> Sources
+        ensures { (rules : List RuleData) (known : List AlertData) → AreLearnt rules known result }
+    {
+        Sources {
+            keys: BTreeSet::new(alloc),
+            learnt: 0,
+        }
+    }
+
+    /// What is to be learnt of these rules and of all of these known alerts.
+    pub fn of(alloc: Global, rules: &[InhibitRule], known: &[Alert]) -> Result<Sources, AllocError>
+        ensures learnt { IfOk result (AreLearnt rules.now known.now) }
+        ensures all { IfOk result (λ sources. sources.learnt ≡ length known.now) }
+    {
+        let mut sources = Sources::new(alloc);
+        sources.learn(alloc, rules, known)?;
+        Ok(sources)
+    }
+
+    /// Learns of these rules and of those known alerts that weren't learnt yet. Where memory is
+    /// refused some of them are left to a later call.
+    pub fn learn(
+        &mut self,
+        alloc: Global,
+        rules: &[InhibitRule],
+        known: &[Alert],
+    ) -> Result<(), AllocError>
+        requires { AreLearnt rules.now known.now self.old }
+        ensures learnt { AreLearnt rules.now known.now self.new }
+        ensures all { OnOk result (self.new.learnt ≡ length known.now) }
+    {
+        while self.learnt < known.len() {
+            self.learn_next(alloc, rules, known)?;
+        }
+        Ok(())
+    }
+
+    /// Learns of these rules and of the next known alert.
+    fn learn_next(
+        &mut self,
+        alloc: Global,
+        rules: &[InhibitRule],
+        known: &[Alert],
+    ) -> Result<(), AllocError>
+        requires learnt { AreLearnt rules.now known.now self.old }
+        requires more { self.old.learnt < length known.now }
+        ensures learnt { AreLearnt rules.now known.now self.new }
+        ensures next { OnOk result (self.new.learnt ≡ self.old.learnt + 1) }
+    {
+        let labels = known[self.learnt].labels();
+        for number in 0..rules.len() {
+            self.learn_by(alloc, number, &rules[number], labels)?;
+        }
+        self.learnt += 1;
+        Ok(())
+    }
+
+    /// Learns of the rule at a place and of the labels of the next known alert.
+    fn learn_by(
+        &mut self,
+        alloc: Global,
+        number: usize,
+        rule: &InhibitRule,
+        labels: &Labels,
+    ) -> Result<(), AllocError>
+        ensures grows { GrowsAt self.old.learnt self.old self.new }
+        ensures has { OnOk result (match_all rule.now.source labels.now ≡ true
+            → HasKey self.new (key_of number rule.now.equal self.old.learnt labels.now)) }
+    {
+        if all_match(alloc, rule.source(), labels)? {
+            self.keys.insert(SourceKey {
+                rule: number,
+                hash: values_hash(rule.equal(), labels),
+                place: self.learnt,
+            })?;
+        }
+        Ok(())
+    }
+
+    /// The first of these known alerts on account of which a rule, at this place of the list, mutes a
+    /// label set at `t`.
+    pub(crate) fn source_for<'k>(
+        &self,
+        alloc: Global,
+        number: usize,
+        rule: &InhibitRule,
+        labels: &Labels,
+        t: u64,
+        known: &'k [Alert],
+    ) -> Result<Option<&'k Alert>, AllocError>
+        requires { IsLearnt number rule.now known.now self.now }
+        ensures value { IfOk result (λ found. option_copied found ≡ source_for rule.now t known.now labels.now) }
+        ensures some { IfOk result (λ found. is_some found ≡ inhibits rule.now t known.now labels.now) }
+        ensures answers { IsTrue (compare_texts rule.now.source) →
+            IsTrue (compare_texts rule.now.target) → IsOk result }
+    {
+        let Some(mut target) = Target::new(alloc, rule, labels, t)? else {
+            return Ok(None);
+        };
+        let found = self.first_learnt(alloc, number, &mut target, known)?;
+        if found.is_some() {
+            return Ok(found);
+        }
+        let rest = &known[self.learnt..];
+        target.first_source(alloc, rest)
+    }
+
+    /// The first of these known alerts that is a source for a target of the rule at a place, if it was
+    /// learnt.
+    fn first_learnt<'k>(
+        &self,
+        alloc: Global,
+        number: usize,
+        target: &mut Target<'_>,
+        known: &'k [Alert],
+    ) -> Result<Option<&'k Alert>, AllocError>
+        requires { IsLearnt number target.old.rule known.now self.now }
+        ensures first { IfOk result (λ found. IsFirstOf
+            (is_inhibited_by target.old.rule target.old.t target.old.labels) self.now.learnt known.now (option_copied found)) }
+        ensures answers { IsTrue (compare_texts target.old.rule.source) →
+            IsTrue (compare_texts target.old.rule.target) → IsOk result }
+        ensures kept { target.new ≡ target.old }
+    {
+        let hash = target.hash();
+        let first = SourceKey {
+            rule: number,
+            hash,
+            place: 0,
+        };
+        let last = SourceKey {
+            rule: number,
+            hash,
+            place: known.len(),
+        };
+        for key in self.keys.range(first..last) {
+            let alert = &known[key.place];
+            if target.is_inhibited_by(alloc, alert)? {
+                return Ok(Some(alert));
+            }
+        }
+        Ok(None)
+    }
+}

@@ -95,8 +95,8 @@ pub record Turn : Type 0 where
 abbrev pub records_in : Turn → List Record
 records_in turn = turn.begins ++ turn.notes ++ turn.finishes
 
--- the turn of a phase: the begins are at its moment; each notice that has something to send is sent once, from that moment on; the
--- notes are at the ends of that sending; and each flush is finished once, in their order, when all its reports have come
+-- the turn of a phase: the begins are at its moment; each notice that has something to send has one report, of a sending from that
+-- moment on; the notes are at the ends of these sendings; and each flush is finished once, in their order, at the end of the last
 pub record IsTurnOf (phase : Phase) (turn : Turn) : Type 0 where
   pub begun : All (IsBeginOf phase) turn.begins
   pub sent : AllZip (IsSentFrom phase.at) (to_send (opened_by turn.begins)) turn.reports

@@ -1,18 +1,18 @@
 -- Label sets: what a filter keeps, and what a sort of labels with different names gives.
-use Rattle.std.proofs.Common.{◌≡◌, ℕ, ◌+◌, ◌≤◌, suc, Bool, true, false, cond, ◌&&◌, ◌||◌, List, [], ◌∷◌, length, filter, get_or, count_by, All, None, Ordering, IsPermutation, IsSorted, IsSortedBy, is_none, sym, refl, ap, ◌∙◌, subst, arith}
+use Rattle.std.proofs.Common.{◌≡◌, ◌≢◌, ℕ, ◌+◌, ◌≤◌, suc, Bool, true, false, cond, ◌&&◌, ◌||◌, List, [], ◌∷◌, length, filter, get_or, count_by, All, None, Ordering, IsPermutation, IsSorted, IsSortedBy, is_none, sym, refl, ap, ◌∙◌, subst, arith}
 use Rattle.std.specs.declared.cmp.Ordering.TheVariants.{Less, Equal, Greater}
 use Rattle.std.specs.Ordering.{is_lt, is_eq, ordering_then, ordering_reverse}
 use Rattle.std.specs.List.{list_all}
 use Rattle.std.specs.Str.{bytes_eq}
 use Rattle.std.specs.Cmp.Lexicographic.{nat_list_cmp_total, texts_ties, bytes_decides}
-use Rattle.std.proofs.lemmas.Bool.{false≢true}
+use Rattle.std.proofs.lemmas.Bool.{false_from_ne_true, false≢true}
 use Rattle.std.proofs.lemmas.Bool.Decides.{nat_tests}
 use Rattle.std.proofs.lemmas.List.Sorted.{All-permutation, sum_by-IsPermutation, length_permutation, sorted_far, ranks_by}
 use Rattle.std.proofs.lemmas.List.Sums.{sum_by-cons, length-filter, count_by-le-length, get_or-le-sum_by, AllPass-from_list_all, list_all-from_AllPass}
 use Rattle.am_alerts.specs.declared.labels.Label.{Label}
 use Rattle.am_alerts.specs.Fault.{first_fault}
-use Rattle.am_alerts.specs.LabelOrder.{label_cmp_total}
-use Rattle.am_alerts.specs.Labels.{has_value, has_text_twice, has_rising_names, names_of, stands_in, with_values, is_label, pair_fault, set_fault, label_cmp, text_cmp, IsLabelSet, IsReadOf}
+use Rattle.am_alerts.specs.LabelOrder.{label_cmp_total, label_set_hash, same_label_set-decides}
+use Rattle.am_alerts.specs.Labels.{has_value, has_text_twice, has_rising_names, names_of, stands_in, with_values, is_label, pair_fault, same_label_set, set_fault, label_cmp, text_cmp, IsLabelSet, IsReadOf}
 use Rattle.am_alerts.specs.declared.limits.TheConstants.{MAX_LABELS}
 use Rattle.am_alerts.proofs.Faults.{none_of_both}
 
@@ -145,3 +145,7 @@ IsReadOf-sorted ps ls fine sound moved sorted =
       };
       pairs_moved = moved;
     }
+
+-- label sets are the same only where their hashes are
+pub unlike_hashes : (a b : List Label) → (label_set_hash a ≢ label_set_hash b) → same_label_set a b ≡ false
+unlike_hashes a b unlike = false_from_ne_true (same_label_set a b) (λ e. unlike (ap label_set_hash ((same_label_set-decides a b).0 e)))

@@ -1,10 +1,11 @@
 -- The laws of the order of label sets, and what they feed a hasher.
-use Rattle.std.specs.Prelude.{◌≡◌, true, List, [], ◌∷◌, ◌++◌, ◌↔◌, Decides, Some, refl}
+use Rattle.std.specs.Prelude.{◌≡◌, ℕ, fold, true, List, [], ◌∷◌, ◌++◌, ◌↔◌, Decides, Some, refl}
 use Rattle.std.specs.declared.cmp.Ordering.TheVariants.{Less, Equal}
 use Rattle.std.specs.Cmp.{IsTotalOrder, IsEquivalence, IsPartialOrder, Equal-is, po, both_tied}
 use Rattle.std.specs.Cmp.Lexicographic.{lists_total, lists_equiv, lists_ties, texts_ties, nat_list_cmp_total, nat_list_eq_equiv}
 use Rattle.std.specs.Cmp.Lexicographic.{pointwise_decides, bytes_decides}
 use Rattle.std.specs.Hash as fed
+use Rattle.std.specs.Hash.FoldHasher.{initial, write, finish}
 use Rattle.std.specs.Ordering.{eq_by_cmp, ordering_then}
 use Rattle.std.proofs.Common.{sym, ap, ◌∙◌, rules}
 use Rattle.std.proofs.lemmas.Cmp.{then_total, on_total, on_equiv, and_equiv, tied_itself}
@@ -64,9 +65,17 @@ label_set_cmp-prefix [] l rest = refl
 label_set_cmp-prefix (m ∷ a) l rest =
     ap (λ o. ordering_then o (label_set_cmp a (a ++ l ∷ rest))) (tied_itself label_cmp_total m) ∙ label_set_cmp-prefix a l rest
 
--- what a label set feeds a hasher: how many labels it has, then each one's name and value
+-- what a list of labels feeds a hasher: how many there are, then each one's name and value
+abbrev pub labels_writes : List Label → fed.HashWrites
+labels_writes = fed.slice (λ (l : Label). fed.str l.name ++ fed.str l.value)
+
+-- the hash of a label set
+abbrev pub label_set_hash : List Label → ℕ
+label_set_hash labels = finish (fold write initial (labels_writes labels))
+
+-- what a label set feeds a hasher: its own hash
 abbrev pub label_set_writes : List Label → fed.HashWrites
-label_set_writes = fed.slice (λ (l : Label). fed.str l.name ++ fed.str l.value)
+label_set_writes labels = fed.u64 (label_set_hash labels)
 
 pub label_set_writes-alike : (a b : List Label) → same_label_set a b ≡ true → label_set_writes a ≡ label_set_writes b
 label_set_writes-alike a b same = ap label_set_writes ((same_label_set-decides a b).0 same)

@@ -3,6 +3,7 @@
 
 pub mod alert;
 pub mod duration;
+mod hashed_labels;
 mod label_pairs;
 mod label_text;
 pub mod labels;

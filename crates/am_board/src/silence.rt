@@ -1,5 +1,5 @@
 //! Silences that are set.
-ghost use Rattle.std.specs.Prelude.{◌≡◌, ℕ, ◌<◌, ◌==◌, None, IfOk, MatchResult, vec_len, vec_capacity};
+ghost use Rattle.std.specs.Prelude.{◌≡◌, ℕ, ◌<◌, None, IfOk, MatchResult, vec_len};
 ghost use Rattle.std.specs.List.{position};
 ghost use Rattle.am_alerts.specs.Fault.{ok_unless};
 ghost use Rattle.am_mute.specs.Silence.{SilenceData};
@@ -17,6 +17,7 @@ use crate::state::State;
 use am_alerts::matcher::{Matcher, MatcherParts};
 use am_alerts::sequence::Sequence;
 use am_mute::silence::Silence;
+use am_mute::silences::Silences;
 use std::alloc::{AllocError, Global};
 
 /// Puts a silence in place of the one with its id, or adds it.
@@ -50,7 +51,7 @@ pub(crate) fn put_silence(
         replaced: place.is_some(),
     };
     state.clock = state.moment(now);
-    keep_silence(&mut state.silences, place, silence);
+    keep_silence(alloc, &mut state.silences, place, silence);
     let reply = Reply::Silenced(silenced);
     state.history.push_reserved(Record { pass, call, reply });
     Ok(silenced)
@@ -66,29 +67,22 @@ fn place_for(config: &Config, state: &State, id: u64) -> Result<Option<usize>, F
     if !state.has_room(1, config.limits.history) {
         return Err(Fault::HistoryFull);
     }
-    let place = find_silence(state.silences.as_slice(), id);
+    let place = state.silences.find(id);
     if place.is_none() && state.silences.len() >= config.limits.silences {
         return Err(Fault::TooManySilences);
     }
     Ok(place)
 }
 
-/// The place of the silence of this id.
-fn find_silence(silences: &[Silence], id: u64) -> Option<usize>
-    ensures { result ≡ position (λ s. id == s.id) silences.now }
-{
-    silences.iter().position(|silence| id == silence.id())
-}
-
 /// Puts a silence in place of the one with its id, which is at this place, or adds it.
-fn keep_silence(silences: &mut Vec<Silence>, place: Option<usize>, silence: Silence)
+fn keep_silence(alloc: Global, silences: &mut Silences, place: Option<usize>, silence: Silence)
     requires place { place ≡ position (same_silence silence) silences.old.items }
-    requires room { vec_len silences.old < vec_capacity silences.old }
+    requires room { 0 < silences.old.room }
     ensures { silences.new.items ≡ put_in same_silence silence silences.old.items }
 {
     match place {
-        Some(i) => silences[i] = silence,
-        None => silences.push_reserved(silence),
+        Some(i) => silences.replace(alloc, i, silence),
+        None => silences.add(alloc, silence),
     }
 }
 

@@ -18,7 +18,7 @@ use am_alerts::alert::Alert;
 use am_alerts::labels::Labels;
 use am_alerts::sequence::Sequence;
 use am_mute::inhibit::InhibitRule;
-use am_mute::mute::muted_with;
+use am_mute::mute::muted_under;
 use am_mute::sources::Sources;
 use am_nflog::Members;
 use std::alloc::{AllocError, Global};
@@ -116,9 +116,9 @@ fn firing_and_resolved(
     let mut resolved = Vec::new(alloc);
     for member in members {
         let alert = &member.alert;
-        let silences = state.silences.as_slice();
+        let silences = &state.silences;
         let known = state.known.as_slice();
-        if muted_with(alloc, alert.labels(), t, silences, rules, known, sources)? {
+        if muted_under(alloc, alert.labels(), t, silences, rules, known, sources)? {
             continue;
         }
         if alert.resolved_at(t) {

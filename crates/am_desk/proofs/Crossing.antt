@@ -19,6 +19,7 @@ use Rattle.am_alerts.proofs.matcher.MatcherParts.TheSendSync as parts
 use Rattle.am_alerts.proofs.route.Route.TheSendSync as route
 use Rattle.am_model.proofs.config.Receiver.TheSendSync as receiver
 use Rattle.am_model.proofs.config.Limits.TheSendSync as limits
+use Rattle.am_mute.proofs.silence_index.SilenceIndex.TheSendSync as silence_index
 use Rattle.am_mute.proofs.sources.Sources.TheSendSync as sources
 use Rattle.am_board.proofs.known.Known.TheSendSync as known
 use Rattle.am_board.proofs.groups.Groups.TheSendSync as groups
@@ -39,6 +40,7 @@ use Rattle.am_alerts.specs.contracts.matcher.Matcher as matcher_row
 use Rattle.am_alerts.specs.contracts.route.Child as child_row
 use Rattle.am_alerts.specs.contracts.route.Routes as routes_row
 use Rattle.am_mute.specs.contracts.silence.Silence as silence_row
+use Rattle.am_mute.specs.contracts.silences.Silences as silences_row
 use Rattle.am_mute.specs.contracts.inhibit.InhibitRule as rule_row
 use Rattle.am_model.specs.contracts.config.Config as config_row
 use Rattle.am_board.specs.contracts.state.State as state_row
@@ -119,6 +121,12 @@ silence_send = search (every, matcher_send, sequence.the_send) depth 40 fits 100
 pub silence_sync : IsSync silence_row.the_row
 silence_sync = search (every, matcher_sync, sequence.the_sync) depth 40 fits 10000
 
+pub silences_send : IsSend silences_row.the_row
+silences_send = search (every, silence_send, silence_index.the_send) depth 40 fits 10000
+
+pub silences_sync : IsSync silences_row.the_row
+silences_sync = search (every, silence_sync, silence_index.the_sync) depth 40 fits 10000
+
 pub rule_send : IsSend rule_row.the_row
 rule_send = search (every, matcher_send, sequence.the_send, text.the_send) depth 40 fits 10000
 
@@ -132,10 +140,10 @@ pub config_sync : IsSync config_row.the_row
 config_sync = search (every, routes_sync, receiver.the_sync, rule_sync, limits.the_sync, sequence.the_sync) depth 40 fits 10000
 
 pub state_send : IsSend state_row.the_row
-state_send = search (every, known.the_send, groups.the_send, silence_send, log.the_send, name.the_send, labels.the_send, labels.the_sync, flush.the_send, line.the_send) depth 40 fits 10000
+state_send = search (every, known.the_send, groups.the_send, silences_send, log.the_send, name.the_send, labels.the_send, labels.the_sync, flush.the_send, line.the_send) depth 40 fits 10000
 
 pub state_sync : IsSync state_row.the_row
-state_sync = search (every, known.the_sync, groups.the_sync, silence_sync, log.the_sync, name.the_sync, labels.the_sync, labels.the_send, flush.the_sync, line.the_sync) depth 40 fits 10000
+state_sync = search (every, known.the_sync, groups.the_sync, silences_sync, log.the_sync, name.the_sync, labels.the_sync, labels.the_send, flush.the_sync, line.the_sync) depth 40 fits 10000
 
 pub board_send : IsSend board_row.the_row
 board_send = search (every, config_send, state_send, sources.the_send) depth 40 fits 10000

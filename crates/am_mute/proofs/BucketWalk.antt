@@ -15,7 +15,7 @@ use Rattle.am_mute.specs.Sources.{key_cmp, has_key, IsAt}
 use Rattle.am_mute.specs.declared.sources.SourceKey.{SourceKey}
 use Rattle.am_mute.proofs.SourceKeys.{key-is}
 
-not_true : (b : Bool) → (b ≡ true → ⊥) → b ≡ false
+pub not_true : (b : Bool) → (b ≡ true → ⊥) → b ≡ false
 not_true true h = absurd (h refl)
 not_true false h = refl
 

@@ -1,6 +1,8 @@
+mod AskedLabels
 mod BucketWalk
 mod Buckets
 pub mod Firsts
 mod FoundSources
 mod Learning
+mod PlacedSilences
 mod SourceKeys

@@ -3,6 +3,8 @@ pub mod Laws
 pub mod Matching
 pub mod Mute
 pub mod Silence
+pub mod SilenceIndex
+pub mod Silences
 pub mod SourceIndex
 pub mod Sources
 pub mod Target

@@ -5,6 +5,8 @@ pub mod inhibit;
 pub mod law;
 pub mod mute;
 pub mod silence;
+mod silence_index;
+pub mod silences;
 pub mod sources;
 mod target;
 #[cfg(test)]

@@ -8,6 +8,7 @@ ghost use Rattle.am_mute.specs.Matching.{rules_compare_texts, silences_compare_t
 
 use crate::inhibit::InhibitRule;
 use crate::silence::Silence;
+use crate::silences::Silences;
 use crate::sources::Sources;
 use am_alerts::alert::Alert;
 use am_alerts::labels::Labels;
@@ -69,6 +70,28 @@ pub fn muted_with(
         return Ok(true);
     }
     inhibited(alloc, labels, t, rules, known, sources)
+}
+
+/// The same, with silences that are found by the labels that they ask for.
+pub fn muted_under(
+    alloc: Global,
+    labels: &Labels,
+    t: u64,
+    silences: &Silences,
+    rules: &[InhibitRule],
+    known: &[Alert],
+    sources: &Sources,
+) -> Result<bool, AllocError>
+    requires { AreLearnt rules.now known.now sources.now }
+    ensures value { IfOk result (λ matched.
+        matched ≡ is_muted labels.now t silences.now.items rules.now known.now) }
+    ensures answers { IsTrue (silences_compare_texts silences.now.items) →
+        IsTrue (rules_compare_texts rules.now) → IsOk result }
+{
+    Ok(
+        silences.is_silenced(alloc, labels, t)?
+            || inhibited(alloc, labels, t, rules, known, sources)?,
+    )
 }
 
 /// Why a label set is muted at `t` (milliseconds), if `muted` says that it is, where these are the

@@ -1,6 +1,7 @@
 use crate::inhibit::{InhibitRule, RuleFault};
-use crate::mute::{MuteCause, mute_cause, mute_cause_with, muted, muted_with};
+use crate::mute::{MuteCause, mute_cause, mute_cause_with, muted, muted_under, muted_with};
 use crate::silence::{Silence, SilenceFault};
+use crate::silences::Silences;
 use crate::sources::Sources;
 use am_alerts::alert::Alert;
 use am_alerts::labels::Labels;
@@ -280,6 +281,101 @@ fn the_first_that_mutes_is_told(rt: HostRuntime) -> Result<(), Fail> {
         );
         let muted = muted_with(alloc, &labels, 0, silences, rules, known, &sources)?;
         assert_eq!(rt; muted, !expected.is_empty(), "{text}");
+    }
+    Ok(())
+}
+
+/// A silence of one matcher, from 0 to an end.
+fn silence(
+    alloc: Global,
+    id: u64,
+    matcher_of: (&str, Operator, &str),
+    end: u64,
+) -> Result<Silence, Fail> {
+    let (name, op, value) = matcher_of;
+    let mut matchers = Vec::new(alloc);
+    matchers.push(matcher(alloc, name, op, value)?)?;
+    Ok(Silence::new(id, matchers, 0, end)?)
+}
+
+/// Puts silences in place of those with their ids, or adds them.
+fn put_all(
+    alloc: Global,
+    silences: &mut Silences,
+    all: &[(u64, (&str, Operator, &str), u64)],
+) -> Result<(), Fail> {
+    for (id, matcher_of, end) in all {
+        let silence = silence(alloc, *id, *matcher_of, *end)?;
+        silences.reserve(1)?;
+        match silences.find(*id) {
+            Some(place) => silences.replace(alloc, place, silence),
+            None => silences.add(alloc, silence),
+        }
+    }
+    Ok(())
+}
+
+#[test]
+fn silences_mute_by_each_kind_of_matcher(rt: HostRuntime) -> Result<(), Fail> {
+    let alloc = rt.alloc();
+    let mut silences = Silences::new(alloc);
+    put_all(
+        alloc,
+        &mut silences,
+        &[
+            (1, ("team", Operator::Equal, "db"), 20),
+            (2, ("team", Operator::Equal, "db"), 10),
+            (3, ("severity", Operator::NotEqual, "warning"), 10),
+            (4, ("dc", Operator::Like, "x|y"), 20),
+            (5, ("alertname", Operator::Equal, ""), 10),
+        ],
+    )?;
+    let sources = Sources::new(alloc);
+    for (text, t, expected) in [
+        ("alertname=A severity=warning team=db", 19, true),
+        ("alertname=A severity=warning team=db", 20, false),
+        ("alertname=A severity=warning team=web", 0, false),
+        ("alertname=db severity=warning", 0, false),
+        ("alertname=A severity=page", 9, true),
+        ("alertname=A severity=page", 10, false),
+        ("alertname=A severity=warning dc=y", 10, true),
+        ("alertname=A severity=warning dc=z", 0, false),
+        ("severity=warning", 9, true),
+    ] {
+        let labels = labels(alloc, text)?;
+        let silenced = silences.is_silenced(alloc, &labels, t)?;
+        assert_eq!(rt; silenced, expected, "{text} at {t}");
+        let muted = muted_under(alloc, &labels, t, &silences, &[], &[], &sources)?;
+        assert_eq!(rt; muted, expected, "{text} at {t}, muted");
+    }
+    Ok(())
+}
+
+/// The second silence asks for another label than before, the first for the same, with a later end.
+#[test]
+fn a_silence_that_is_replaced_mutes_by_its_new_matchers(rt: HostRuntime) -> Result<(), Fail> {
+    let alloc = rt.alloc();
+    let mut silences = Silences::new(alloc);
+    put_all(
+        alloc,
+        &mut silences,
+        &[
+            (1, ("a", Operator::Equal, "1"), 10),
+            (2, ("b", Operator::Equal, "1"), 10),
+            (1, ("a", Operator::Equal, "1"), 20),
+            (2, ("c", Operator::Equal, "1"), 20),
+        ],
+    )?;
+    assert_eq!(rt; silences.len(), 2);
+    for (text, t, expected) in [
+        ("a=1", 15, true),
+        ("a=1", 20, false),
+        ("b=1", 5, false),
+        ("c=1", 15, true),
+        ("c=2", 15, false),
+    ] {
+        let silenced = silences.is_silenced(alloc, &labels(alloc, text)?, t)?;
+        assert_eq!(rt; silenced, expected, "{text} at {t}");
     }
     Ok(())
 }

@@ -30,9 +30,8 @@ admitted false true false x f m = absurd (cc)
 admitted false false there x f m = refl
 
 -- the place that was found is that of a silence with the same id
-found_as : (n : ℕ) (found : Option ℕ) (shown silences : List SilenceData) (silence : SilenceData) → found ≡ position (λ s. n == s.id) shown → shown ≡ silences → silence.id ≡ n → found ≡ position (same_silence silence) silences
-found_as n found shown silences silence e f h =
-    e ∙ ap (position (λ s. n == s.id)) f ∙ ap (λ m. position (λ s. m == s.id) silences) (sym h)
+found_as : (n : ℕ) (found : Option ℕ) (silences : List SilenceData) (silence : SilenceData) → found ≡ position (λ s. n == s.id) silences → silence.id ≡ n → found ≡ position (same_silence silence) silences
+found_as n found silences silence e h = e ∙ ap (λ m. position (λ s. m == s.id) silences) (sym h)
 
 at_least : (m n : ℕ) → m ≤ n → nat_le m n ≡ true
 at_least m n h = grind (arith, nat_tests)
@@ -44,10 +43,9 @@ pub returns-then-len-config : goal.returns-then-len-config
 returns-then-len-config c silence h =
     let silences = c.args.state.now.silences.items in
     let counted : vec_len c.args.state.now.flushes ≡ length c.args.state.now.flushes.items = omega arith in
-    let held : vec_len c.args.state.now.silences ≡ length silences = omega arith in
     let room = not_full c.args.config.now c.args.state.now 1 counted (omega arith) in
-    let many : nat_le c.args.config.now.limits.silences (length silences) ≡ true = at_least _ _ (omega arith) in
-    let found = found_as c.args.id c.find_silence-place.result c.as_slice.result.now silences silence c.find_silence-place.ensures c.as_slice.ensures.value h in
+    let many : nat_le c.args.config.now.limits.silences (length silences) ≡ true = at_least _ _ (omega (arith, c.len.ensures)) in
+    let found = found_as c.args.id c.find-place.result silences silence c.find-place.ensures.place h in
     let none : list_any (same_silence silence) silences ≡ false =
     sym (ap is_some found ∙ is_some-position (same_silence silence) silences) ∙ c.is_none.ensures ∙ ap not c.if-is_none.true in
     refused (is_full c.args.config.now (vec_len c.args.state.now.history) (state_of c.args.state.now) 1) (nat_le c.args.config.now.limits.silences (length silences)) (list_any (same_silence silence) silences) (position (same_silence silence) silences) room many none
@@ -56,15 +54,14 @@ pub returns : goal.returns
 returns c silence h =
     let silences = c.args.state.now.silences.items in
     let counted : vec_len c.args.state.now.flushes ≡ length c.args.state.now.flushes.items = omega arith in
-    let held : vec_len c.args.state.now.silences ≡ length silences = omega arith in
     let room = not_full c.args.config.now c.args.state.now 1 counted (omega arith) in
-    let found = found_as c.args.id c.find_silence-place.result c.as_slice.result.now silences silence c.find_silence-place.ensures c.as_slice.ensures.value h in
+    let found = found_as c.args.id c.find-place.result silences silence c.find-place.ensures.place h in
     let told : list_any (same_silence silence) silences ≡ not c.is_none.result =
     sym (ap is_some found ∙ is_some-position (same_silence silence) silences) ∙ c.is_none.ensures in
     ap Ok found ∙ admitted (is_full c.args.config.now (vec_len c.args.state.now.history) (state_of c.args.state.now) 1) (nat_le c.args.config.now.limits.silences (length silences)) (list_any (same_silence silence) silences) (position (same_silence silence) silences) room
     (elim c.else-is_none.branch [
       | else-is_none-via-then-is_none+else-len-config w ↦
-          ap (λ b. b && not (list_any (same_silence silence) silences)) (below c.args.config.now.limits.silences (length silences) (omega arith))
+          ap (λ b. b && not (list_any (same_silence silence) silences)) (below c.args.config.now.limits.silences (length silences) (omega (arith, w.len.ensures)))
       | else-is_none-via-else-is_none w ↦
           ap (λ b. nat_le c.args.config.now.limits.silences (length silences) && not b) (told ∙ ap not w.if-is_none.false) ∙ and_right (nat_le c.args.config.now.limits.silences (length silences)) false refl
     ])

@@ -1,0 +1,71 @@
+-- Where silences stand, by the labels that they ask for.
+use Rattle.std.specs.Prelude.{◌≡◌, ◌<◌, ◌≤◌, ℕ, Bool, true, false, Vec, ◌&&◌, List, [], length, find, Option, Some, None, IsTrue, fold, nat_eq, nat_lt}
+use Rattle.std.specs.Global.{Global}
+use Rattle.std.specs.Hash.{str}
+use Rattle.std.specs.Hash.FoldHasher.{initial, write, finish}
+use Rattle.std.specs.HashMap.{get}
+use Rattle.std.specs.List.{list_any}
+use Rattle.am_alerts.specs.declared.labels.Label.{Label}
+use Rattle.am_alerts.specs.declared.matcher.MatcherParts.{MatcherParts}
+use Rattle.am_alerts.specs.declared.matcher.Operator.{Operator}
+use Rattle.am_alerts.specs.declared.matcher.Operator.TheVariants.{Equal, NotEqual, Like, NotLike}
+use Rattle.am_mute.specs.Silence.{SilenceData, silence_mutes}
+use Rattle.am_mute.specs.Sources.{IsAt}
+use Rattle.am_mute.specs.declared.silence_index.SilenceIndex.{SilenceIndex}
+use Rattle.am_mute.specs.declared.silence_index.TheConstants.{NO_LABEL}
+
+-- the hash of a name and a value
+abbrev pub label_hash : List ℕ → List ℕ → ℕ
+label_hash name value = finish (fold write (fold write initial (str name)) (str value))
+
+-- whether an operator is `=`
+abbrev pub is_equal : Operator → Bool
+is_equal Equal = true
+is_equal NotEqual = false
+is_equal Like = false
+is_equal NotLike = false
+
+-- whether each label set that a matcher matches has the label of its name and value
+abbrev pub asks_label : MatcherParts → Bool
+asks_label m = is_equal m.op && nat_lt 0 (length m.value)
+
+-- what a silence is found by, where this is the first of its matchers that asks for a label
+abbrev pub key_by : Option MatcherParts → ℕ
+key_by None = NO_LABEL
+key_by (Some m) = label_hash m.name m.value
+
+-- what a silence of these matchers is found by
+abbrev pub key_of : List MatcherParts → ℕ
+key_of matchers = key_by (find asks_label matchers)
+
+-- the places among these, if there are any
+abbrev pub places_in : Option (Vec ℕ Global) → List ℕ
+places_in None = []
+places_in (Some places) = places.items
+
+-- the places under a key
+abbrev pub places_at : SilenceIndex → ℕ → List ℕ
+places_at index key = places_in (get nat_eq index.places key)
+
+-- a place is one of these
+abbrev pub IsOneOf : List ℕ → ℕ → Type 0
+IsOneOf places place = IsTrue (list_any (λ p. nat_eq p place) places)
+
+-- a place stands under a key
+abbrev pub HasPlace : SilenceIndex → ℕ → ℕ → Type 0
+HasPlace index key place = IsOneOf (places_at index key) place
+
+-- each place is one of these silences
+abbrev pub ArePlaced : List SilenceData → SilenceIndex → Type 0
+ArePlaced silences index = (key place : ℕ) → HasPlace index key place → place < length silences
+
+-- the index holds of these silences: each of those that count as indexed has its place under what it is found by
+pub record IsIndexed (silences : List SilenceData) (index : SilenceIndex) : Type 0 where
+  pub indexed : index.indexed ≤ length silences
+  pub placed : ArePlaced silences index
+  pub found : (i : ℕ) (s : SilenceData) → IsAt silences i s → i < index.indexed → HasPlace index (key_of s.matchers) i
+
+-- none of the silences at these places mutes a label set at t
+abbrev pub AreUnmuted : (ℕ → Type 0) → List Label → ℕ → List SilenceData → Type 0
+AreUnmuted Here labels t silences =
+    (i : ℕ) (s : SilenceData) → Here i → IsAt silences i s → silence_mutes s t labels ≡ false

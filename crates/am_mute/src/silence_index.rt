@@ -1,0 +1,216 @@
+//! Where silences stand, by the labels that they ask for.
+ghost use Rattle.std.specs.Prelude.{◌≡◌, ◌⊎◌, ◌<◌, ℕ, [], false, true, All, List, find, length, option_copied, set};
+ghost use Rattle.std.specs.Prelude.{IfOk, IsOk, IsTrue, OnOk};
+ghost use Rattle.am_mute.specs.Silence.{SilenceData, is_silenced};
+ghost use Rattle.am_mute.specs.SilenceIndex.{ArePlaced, AreUnmuted, HasPlace, IsIndexed, IsOneOf};
+ghost use Rattle.am_mute.specs.SilenceIndex.{asks_label, key_of, label_hash, places_at};
+ghost use Rattle.am_mute.specs.Matching.{silences_compare_texts};
+
+use crate::silence::Silence;
+use am_alerts::labels::Labels;
+use am_alerts::matcher::{Matcher, Operator};
+use std::alloc::{AllocError, Global};
+use std::collections::HashMap;
+use std::hash::{FoldHasher, Hash, Hasher};
+
+/// What silences are found by that ask for no label.
+const NO_LABEL: u64 = 0;
+
+/// The places of silences in a list, by what they are found by: the hash of a label that each label
+/// set has which they mute. A place may stand under what its silence was found by before.
+///
+/// This only saves time: silences whose places aren't here are looked at in turn.
+#[derive(Debug, Drop)]
+pub(crate) struct SilenceIndex {
+    places: HashMap<u64, Vec<usize>>,
+    /// How many silences, from the first on, have their places here.
+    indexed: usize,
+}
+
+impl SilenceIndex {
+    /// Of no silences.
+    pub(crate) fn new(alloc: Global) -> SilenceIndex
+        ensures { IsIndexed [] result }
+    {
+        SilenceIndex {
+            places: HashMap::new(alloc),
+            indexed: 0,
+        }
+    }
+
+    /// Takes the places of these silences in, as far as there is memory for it.
+    pub(crate) fn extend(&mut self, alloc: Global, silences: &[Silence])
+        requires { IsIndexed silences.now self.old }
+        ensures { IsIndexed silences.now self.new }
+    {
+        while self.indexed < silences.len() {
+            let key = key_of(silences[self.indexed].matchers());
+            if self.put(alloc, key, self.indexed).is_err() {
+                return;
+            }
+            self.indexed += 1;
+        }
+    }
+
+    /// A silence is to stand at this place, where another stands.
+    pub(crate) fn change(&mut self, alloc: Global, place: usize, silence: &Silence)
+        ensures { (silences : List SilenceData) → place < length silences → IsIndexed silences self.old
+            → IsIndexed (set silences place silence.now) self.new }
+    {
+        let key = key_of(silence.matchers());
+        if self.put(alloc, key, place).is_err() {
+            self.indexed = self.indexed.min(place);
+        }
+    }
+
+    /// Puts a place under what its silence is found by.
+    fn put(&mut self, alloc: Global, key: u64, place: usize) -> Result<(), AllocError>
+        ensures indexed { self.new.indexed ≡ self.old.indexed }
+        ensures has { OnOk result (HasPlace self.new key place) }
+        ensures keeps { (k p : ℕ) → HasPlace self.old k p → HasPlace self.new k p }
+        ensures only { (k p : ℕ) → HasPlace self.new k p → (p ≡ place) ⊎ HasPlace self.old k p }
+    {
+        if self.at(key).contains(&place) {
+            return Ok(());
+        }
+        match self.places.get_mut(&key) {
+            Some(places) => places.push(place)?,
+            None => {
+                let places = vec![in alloc; place]?;
+                self.places.insert(key, places)?;
+            }
+        }
+        Ok(())
+    }
+
+    /// The places of the silences that are found by this.
+    fn at(&self, key: u64) -> &[usize]
+        ensures { result.now ≡ places_at self.now key }
+    {
+        match self.places.get(&key) {
+            Some(places) => places.as_slice(),
+            None => &[],
+        }
+    }
+
+    /// Whether one of these silences mutes a label set at `t`.
+    pub(crate) fn is_silenced(
+        &self,
+        alloc: Global,
+        silences: &[Silence],
+        labels: &Labels,
+        t: u64,
+    ) -> Result<bool, AllocError>
+        requires { IsIndexed silences.now self.now }
+        ensures value { IfOk result (λ silenced. silenced ≡ is_silenced labels.now t silences.now) }
+        ensures answers { IsTrue (silences_compare_texts silences.now) → IsOk result }
+    {
+        if silences.is_empty() {
+            return Ok(false);
+        }
+        for label in labels.pairs() {
+            let key = label_hash(label.name.as_str(), label.value.as_str());
+            if self.is_silenced_by(alloc, key, silences, labels, t)? {
+                return Ok(true);
+            }
+        }
+        if self.is_silenced_by(alloc, NO_LABEL, silences, labels, t)? {
+            return Ok(true);
+        }
+        is_silenced(alloc, &silences[self.indexed..], labels, t)
+    }
+
+    /// Whether one of the silences that are found by this mutes a label set at `t`.
+    fn is_silenced_by(
+        &self,
+        alloc: Global,
+        key: u64,
+        silences: &[Silence],
+        labels: &Labels,
+        t: u64,
+    ) -> Result<bool, AllocError>
+        requires { ArePlaced silences.now self.now }
+        ensures some { IfOk result (λ silenced. silenced ≡ true → is_silenced labels.now t silences.now ≡ true) }
+        ensures none { IfOk result (λ silenced. silenced ≡ false → AreUnmuted (HasPlace self.now key) labels.now t silences.now) }
+        ensures answers { IsTrue (silences_compare_texts silences.now) → IsOk result }
+    {
+        is_silenced_at(alloc, self.at(key), silences, labels, t)
+    }
+}
+
+/// Whether one of the silences at these places mutes a label set at `t`.
+fn is_silenced_at(
+    alloc: Global,
+    places: &[usize],
+    silences: &[Silence],
+    labels: &Labels,
+    t: u64,
+) -> Result<bool, AllocError>
+    requires { All (λ p. p < length silences.now) places.now }
+    ensures some { IfOk result (λ silenced. silenced ≡ true → is_silenced labels.now t silences.now ≡ true) }
+    ensures none { IfOk result (λ silenced. silenced ≡ false → AreUnmuted (IsOneOf places.now) labels.now t silences.now) }
+    ensures answers { IsTrue (silences_compare_texts silences.now) → IsOk result }
+{
+    for place in places {
+        if silences[*place].mutes(alloc, labels, t)? {
+            return Ok(true);
+        }
+    }
+    Ok(false)
+}
+
+/// Whether one of these silences mutes a label set at `t`.
+fn is_silenced(
+    alloc: Global,
+    silences: &[Silence],
+    labels: &Labels,
+    t: u64,
+) -> Result<bool, AllocError>
+    ensures value { IfOk result (λ silenced. silenced ≡ is_silenced labels.now t silences.now) }
+    ensures answers { IsTrue (silences_compare_texts silences.now) → IsOk result }
+{
+    for silence in silences {
+        if silence.mutes(alloc, labels, t)? {
+            return Ok(true);
+        }
+    }
+    Ok(false)
+}
+
+/// What a silence of these matchers is found by: the hash of the first label that they ask for.
+fn key_of(matchers: &[Matcher]) -> u64
+    ensures { result ≡ key_of matchers.now }
+{
+    match first_asking(matchers) {
+        None => NO_LABEL,
+        Some(matcher) => {
+            let parts = matcher.parts();
+            label_hash(parts.name.as_str(), parts.value.as_str())
+        }
+    }
+}
+
+/// The first of these matchers that asks for a label.
+fn first_asking(matchers: &[Matcher]) -> Option<&Matcher>
+    ensures { option_copied result ≡ find asks_label matchers.now }
+{
+    matchers.iter().find(|matcher| asks_label(matcher))
+}
+
+/// Whether each label set that a matcher matches has the label of its name and value.
+fn asks_label(matcher: &Matcher) -> bool
+    ensures { result ≡ asks_label matcher.now }
+{
+    let parts = matcher.parts();
+    parts.op == Operator::Equal && !parts.value.as_str().is_empty()
+}
+
+/// The hash of a name and a value.
+fn label_hash(name: &str, value: &str) -> u64
+    ensures { result ≡ label_hash name.now value.now }
+{
+    let mut hasher = FoldHasher::default();
+    name.hash(&mut hasher);
+    value.hash(&mut hasher);
+    hasher.finish()
+}

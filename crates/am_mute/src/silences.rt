@@ -1,0 +1,101 @@
+//! Silences that are set.
+ghost use Rattle.std.specs.Prelude.{◌≡◌, ◌<◌, ◌≤◌, ◌++◌, ◌==◌, [], ◌∷◌, length, set, IfOk, IfSome, IsOk, IsTrue, OnOk};
+ghost use Rattle.std.specs.List.{position};
+ghost use Rattle.am_mute.specs.Silence.{is_silenced};
+ghost use Rattle.am_mute.specs.Matching.{silences_compare_texts};
+
+use crate::silence::Silence;
+use crate::silence_index::SilenceIndex;
+use am_alerts::labels::Labels;
+use std::alloc::{AllocError, Global};
+use std::marker::Model;
+
+/// A list of silences, with room for more. Those that may mute a label set are found by its labels, so
+/// that the others cost nothing.
+#[derive(Debug, Drop)]
+pub struct Silences {
+    silences: Vec<Silence>,
+    index: SilenceIndex,
+}
+
+impl Model for Silences {
+    ghost use Rattle.std.specs.Prelude.{◌-◌, vec_capacity, vec_len};
+    ghost use Rattle.am_mute.specs.SilenceIndex.{IsIndexed};
+    ghost use Rattle.am_mute.specs.Silences.{SilenceList};
+
+    ghost Value = { SilenceList };
+
+    ghost view = { λ s. record { items = s.silences.items; room = vec_capacity s.silences - vec_len s.silences } };
+
+    ghost invariant = { λ s. IsIndexed s.silences.items s.index };
+}
+
+impl Silences {
+    /// No silences. Takes no memory.
+    pub fn new(alloc: Global) -> Silences
+        ensures { result.items ≡ [] }
+    {
+        Silences {
+            silences: Vec::new(alloc),
+            index: SilenceIndex::new(alloc),
+        }
+    }
+
+    /// How many silences there are.
+    pub fn len(&self) -> usize
+        ensures { result ≡ length self.now.items }
+    {
+        self.silences.len()
+    }
+
+    /// The silences, in their order.
+    pub fn as_slice(&self) -> &[Silence]
+        ensures value { result.now ≡ self.now.items }
+    {
+        self.silences.as_slice()
+    }
+
+    /// The place of the first silence of this id.
+    pub fn find(&self, id: u64) -> Option<usize>
+        ensures place { result ≡ position (λ s. id == s.id) self.now.items }
+        ensures within { IfSome result (λ place. place < length self.now.items) }
+    {
+        self.silences.iter().position(|silence| id == silence.id())
+    }
+
+    /// Makes room for so many more silences.
+    pub fn reserve(&mut self, more: usize) -> Result<(), AllocError>
+        ensures items { self.new.items ≡ self.old.items }
+        ensures room { OnOk result (more ≤ self.new.room) }
+    {
+        self.silences.reserve(more)
+    }
+
+    /// Adds a silence behind the others, for which there is room.
+    pub fn add(&mut self, alloc: Global, silence: Silence)
+        requires room { 0 < self.old.room }
+        ensures items { self.new.items ≡ self.old.items ++ silence ∷ [] }
+    {
+        self.silences.push_reserved(silence);
+        self.index.extend(alloc, self.silences.as_slice());
+    }
+
+    /// Puts a silence in place of another.
+    pub fn replace(&mut self, alloc: Global, place: usize, silence: Silence)
+        requires within { place < length self.old.items }
+        ensures items { self.new.items ≡ set self.old.items place silence }
+    {
+        self.index.change(alloc, place, &silence);
+        self.silences[place] = silence;
+        self.index.extend(alloc, self.silences.as_slice());
+    }
+
+    /// Whether one of the silences mutes a label set at `t` (milliseconds). Matchers that compare texts
+    /// take no memory.
+    pub fn is_silenced(&self, alloc: Global, labels: &Labels, t: u64) -> Result<bool, AllocError>
+        ensures value { IfOk result (λ silenced. silenced ≡ is_silenced labels.now t self.now.items) }
+        ensures answers { IsTrue (silences_compare_texts self.now.items) → IsOk result }
+    {
+        self.index.is_silenced(alloc, self.as_slice(), labels, t)
+    }
+}

@@ -4,13 +4,14 @@ use Rattle.am_alerts.specs.declared.limits.TheConstants.{MAX_CHILDREN}
 use Rattle.am_board.specs.declared.board.Board.TheInside.{Inside}
 use Rattle.am_mute.specs.Sources.{AreLearnt}
 use Rattle.am_model.specs.Config.{AreAllowed, config_fault}
+use Rattle.am_board.specs.Destinations.{AreKept}
 use Rattle.am_board.specs.Group.{names_of, AreRouted}
 use Rattle.am_board.specs.Kept.{state_of, Agrees, IsPrepared}
 use Rattle.am_model.specs.Replay.{replay, IsLegal}
 
 -- the history is legal, and the state is its replay; the limits hold; each group's route is there;
 -- each open flush has room in the history for its finish, and is prepared for it; what was learnt is of the rules and of the known
--- alerts
+-- alerts, and the names that are kept for these are those of their groups
 pub record IsSound (b : Inside) : Type 0 where
   pub limits : AreAllowed b.config.limits
   pub configured : config_fault b.config ≡ None
@@ -26,3 +27,4 @@ pub record IsSound (b : Inside) : Type 0 where
   pub routed : AreRouted b.config.routes (names_of b.state.groups.items)
   pub prepared : All (IsPrepared b.config b.state.log) b.state.flushes.items
   pub sources : AreLearnt b.config.rules b.state.known.items b.sources
+  pub destinations : AreKept b.config b.state.known.items b.destinations

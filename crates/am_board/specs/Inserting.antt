@@ -1,12 +1,16 @@
 -- The placements of an insert: what they put into groups, and the room that they need.
 use Rattle.std.specs.List.{IsDistinct}
-use Rattle.std.specs.Prelude.{◌≡◌, ℕ, ◌+◌, ◌≤◌, ◌==◌, Option, None, List, [], length, position, All, vec_len, vec_capacity}
+use Rattle.std.specs.Prelude.{◌≡◌, ℕ, ◌+◌, ◌<◌, ◌≤◌, ◌==◌, false, Option, None, List, [], length, map, position, All, IfSome, vec_len, vec_capacity}
 use Rattle.am_alerts.specs.AlertData.{AlertData}
 use Rattle.am_alerts.specs.Route.{group_labels_of}
 use Rattle.am_alerts.specs.RoutingTree.{RoutingTree, route_at}
 use Rattle.am_alerts.specs.declared.labels.Label.{Label}
+use Rattle.am_model.specs.declared.config.Config.{Config}
 use Rattle.am_model.specs.declared.group.GroupName.{GroupName}
+use Rattle.am_model.specs.Causes.{is_full, is_name_too_many}
+use Rattle.am_model.specs.Insert.{names_for, same_alert}
 use Rattle.am_alerts.specs.declared.limits.TheConstants.{MAX_DURATION}
+use Rattle.am_board.specs.declared.insert.Found.{Found}
 use Rattle.am_board.specs.declared.insert.Placement.{Placement}
 use Rattle.am_board.specs.declared.insert.Target.{Target}
 use Rattle.am_board.specs.declared.group.Group.{Group}
@@ -83,3 +87,13 @@ pub record IsPlacementOf (tree : RoutingTree) (m : MemberState) (p : Placement) 
   pub wait : p.wait ≡ (route_at tree p.name.route).group_wait
   pub bounded : p.wait ≤ MAX_DURATION
   pub member : member_state p.member ≡ m
+
+-- what an insert found: there is room for its record and for its label set, the known alert is the one with its labels, and the groups
+-- are those that it goes to
+pub record IsWhereToPut (config : Config) (s : State) (alert : AlertData) (found : Found) : Type 0 where
+  pub room : is_full config (vec_len s.history) (state_of s) 1 ≡ false
+  pub few : is_name_too_many config (state_of s) alert ≡ false
+  pub place : found.place ≡ position (same_alert alert) s.known.items
+  pub within : IfSome found.place (λ i. i < length s.known.items)
+  pub names : map (λ t. t.name) found.targets.items ≡ names_for config alert.labels
+  pub targets : All (IsFound s.groups.items) found.targets.items

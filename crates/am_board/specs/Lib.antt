@@ -1,5 +1,6 @@
 pub mod Beginning
 pub mod Board
+pub mod Destinations
 pub mod Due
 pub mod Faults
 pub mod Finishing

@@ -14,6 +14,7 @@ ghost use Rattle.am_board.specs.Step.{IsCaused, IsNoteCaused};
 
 use crate::begin::{Begun, take_group};
 use crate::config::Config;
+use crate::destinations::Destinations;
 use crate::fault::{BoardFault, Fault, FinishFault, NoteFault};
 use crate::finish::finish_flush;
 use crate::flush::find_flush;
@@ -39,6 +40,8 @@ pub struct Board {
     pub(crate) state: State,
     /// What was learnt of the configuration's rules and of the known alerts.
     pub(crate) sources: Sources,
+    /// Where the known alerts go.
+    pub(crate) destinations: Destinations,
 }
 
 impl Model for Board {
@@ -68,6 +71,7 @@ impl Board {
                 id,
                 state: State::new(alloc)?,
                 sources: Sources::new(alloc),
+                destinations: Destinations::new(alloc),
             }),
         }
     }
@@ -91,7 +95,15 @@ impl Board {
         ensures cause { IsCaused (insert_cause self.old.config (calls_at self.old) (state_at self.old) alert) result }
         ensures refused { OnErr result (self.new ≡ self.old) }
     {
-        let inserted = put_alert(alloc, &self.config, &mut self.state, pass, now, alert);
+        let inserted = put_alert(
+            alloc,
+            &self.config,
+            &mut self.state,
+            &mut self.destinations,
+            pass,
+            now,
+            alert,
+        );
         let rules = self.config.rules.as_slice();
         let known = self.state.known.as_slice();
         // Where memory for it is refused a later insert learns it.

@@ -2,6 +2,7 @@
 ghost use Rattle.std.specs.Prelude.{◌≡◌, ℕ, suc, ◌+◌, ◌<◌, ◌≤◌, [], count_by, false, fold, is_none, length, map, position, None, All};
 ghost use Rattle.std.specs.Prelude.{IfSome, IfOk, IfErr, OnOk, MatchResult, vec_len};
 ghost use Rattle.am_alerts.specs.RoutingTree.{RoutingTree, routes_of};
+ghost use Rattle.am_board.specs.Destinations.{AreKept};
 ghost use Rattle.am_board.specs.Group.{names_of, AreRouted, AddsAtMost, HasRoom};
 ghost use Rattle.am_model.specs.Causes.{insert_cause, is_full, is_name_too_many};
 ghost use Rattle.am_model.specs.Records.{entry};
@@ -9,14 +10,15 @@ ghost use Rattle.am_model.specs.Insert.{same_alert, put_into_group, names_for, a
 ghost use Rattle.am_board.specs.Kept.{state_of, member_state, group_state};
 ghost use Rattle.am_board.specs.Step.{IsGood, Accepts, Stays, IsAnswer};
 ghost use Rattle.std.specs.List.{IsDistinct};
-ghost use Rattle.am_board.specs.Inserting.{IsFound, AreFound, AreApart, target_of, IsReservedState, IsReadyFor, IsEmptyWithRoom, HaveRoom};
-ghost use Rattle.am_board.specs.Inserting.{AreRoutedPlacements, IsPlacementOf, name_at, stamped_alert};
+ghost use Rattle.am_board.specs.Inserting.{IsFound, AreFound, AreApart, place_in, target_of, IsReservedState, IsReadyFor, IsEmptyWithRoom, HaveRoom};
+ghost use Rattle.am_board.specs.Inserting.{AreRoutedPlacements, IsPlacementOf, IsWhereToPut, name_at, stamped_alert};
 ghost use Rattle.am_model.specs.State.{MemberState, same_name};
 ghost use Rattle.am_alerts.specs.declared.limits.TheConstants.{MAX_MOMENT};
 ghost use Rattle.am_model.specs.declared.config.Config.{Config};
 ghost use Rattle.am_model.specs.declared.group.GroupName.{GroupName};
 
 use crate::config::Config;
+use crate::destinations::Destinations;
 use crate::fault::Fault;
 use crate::group::{Group, GroupName, Member};
 use crate::groups::Groups;
@@ -26,6 +28,7 @@ use crate::state::State;
 use am_alerts::alert::Alert;
 use am_alerts::labels::Labels;
 use am_alerts::route::Routes;
+use am_alerts::sequence::Sequence;
 use std::alloc::{AllocError, Global};
 
 /// A group that an alert goes to by one of its routes.
@@ -53,27 +56,70 @@ pub(crate) struct Placement {
     pub(crate) members: Members,
 }
 
+/// What an insert finds before it changes anything.
+#[derive(Debug, Drop)]
+pub(crate) struct Found {
+    /// The place of the known alert with its labels, if there is one.
+    pub(crate) place: Option<usize>,
+    /// The groups that the alert goes to, in the order of its routes.
+    pub(crate) targets: Vec<Target>,
+}
+
 /// Puts an alert in place of the known one with its labels, or adds it, and likewise in each group of
-/// its routes.
+/// its routes; the names of these groups are kept.
 pub(crate) fn put_alert(
     alloc: Global,
     config: &Config,
     state: &mut State,
+    destinations: &mut Destinations,
     pass: u32,
     now: u64,
     alert: Alert,
 ) -> Result<Inserted, Fault>
     requires good { IsGood config.now state.old }
+    requires kept { AreKept config.now state.old.known.items destinations.old }
+    ensures put { MatchResult result
+        (λ inserted. (insert_cause config.now (vec_len state.old.history) (state_of state.old) alert ≡ None)
+        × ((id : ℕ) → Accepts config.now id (entry pass (Call.Insert now alert) (Reply.Inserted inserted)) state.old state.new))
+        (λ fault. IsAnswer (insert_cause config.now (vec_len state.old.history) (state_of state.old) alert) fault
+        × Stays config.now state.old state.new) }
+    ensures kept { AreKept config.now state.new.known.items destinations.new }
+{
+    let place = find_place(config, state, &alert)?;
+    let kept = destinations.of(place);
+    let labels = alert.labels();
+    let targets = find_targets(alloc, &config.routes, &state.groups, kept, labels)?;
+    let names = new_names(alloc, kept, targets.as_slice());
+    let number = place.unwrap_or(state.known.len());
+    let found = Found { place, targets };
+    let inserted = put_found(alloc, config, state, found, pass, now, alert);
+    if inserted.is_ok() {
+        destinations.keep(number, names);
+    }
+    inserted
+}
+
+/// Puts an alert to the known ones and into the groups that were found for it.
+fn put_found(
+    alloc: Global,
+    config: &Config,
+    state: &mut State,
+    found: Found,
+    pass: u32,
+    now: u64,
+    alert: Alert,
+) -> Result<Inserted, Fault>
+    requires good { IsGood config.now state.old }
+    requires found { IsWhereToPut config.now state.old alert found }
     ensures { MatchResult result
         (λ inserted. (insert_cause config.now (vec_len state.old.history) (state_of state.old) alert ≡ None)
         × ((id : ℕ) → Accepts config.now id (entry pass (Call.Insert now alert) (Reply.Inserted inserted)) state.old state.new))
         (λ fault. IsAnswer (insert_cause config.now (vec_len state.old.history) (state_of state.old) alert) fault
         × Stays config.now state.old state.new) }
 {
-    let known = find_place(config, state, &alert)?;
+    let Found { place, targets } = found;
     let t = state.moment(now);
     let stamp = state.inserts + 1;
-    let targets = find_targets(alloc, &config.routes, &state.groups, alert.labels())?;
     let made = count_missing(targets.as_slice());
     if state.groups.len() + made > config.limits.groups {
         return Err(Fault::TooManyGroups);
@@ -88,7 +134,7 @@ pub(crate) fn put_alert(
         groups: placements.len(),
         made,
     };
-    put_prepared(state, t, known, labels, copy, placements);
+    put_prepared(state, t, place, labels, copy, placements);
     let call = Call::Insert { now, alert };
     let reply = Reply::Inserted(inserted);
     state.history.push_reserved(Record { pass, call, reply });
@@ -160,8 +206,47 @@ fn reserve_insert(state: &mut State, placements: &[Placement]) -> Result<(), All
     reserve_all(&mut state.groups, placements)
 }
 
-/// The groups that an alert of these labels goes to, in the order of its routes.
+/// The groups that an alert of these labels goes to, in the order of its routes: those of the names
+/// that are kept, if they are.
 fn find_targets(
+    alloc: Global,
+    routes: &Routes,
+    groups: &Groups,
+    kept: Option<&Sequence<GroupName>>,
+    labels: &Labels,
+) -> Result<Vec<Target>, AllocError>
+    requires kept { IfSome kept (λ names. names.now ≡ map (name_at routes.now labels.now) (routes_of routes.now labels.now)) }
+    ensures names { IfOk result (λ targets.
+        map (λ t. t.name) targets.items ≡ map (name_at routes.now labels.now) (routes_of routes.now labels.now)) }
+    ensures found { IfOk result (λ targets. All (IsFound groups.now.items) targets.items) }
+{
+    match kept {
+        Some(names) => find_named(alloc, groups, names.as_slice()),
+        None => find_routed(alloc, routes, groups, labels),
+    }
+}
+
+/// The groups of these names, in their order.
+fn find_named(
+    alloc: Global,
+    groups: &Groups,
+    names: &[GroupName],
+) -> Result<Vec<Target>, AllocError>
+    ensures names { IfOk result (λ targets. map (λ t. t.name) targets.items ≡ names.now) }
+    ensures found { IfOk result (λ targets. All (IsFound groups.now.items) targets.items) }
+{
+    let mut targets = Vec::with_capacity(alloc, names.len())?;
+    for name in names {
+        let place = groups.find(name);
+        let name = name.copy(alloc)?;
+        targets.push(Target { name, place })?;
+    }
+    Ok(targets)
+}
+
+/// The groups that an alert of these labels goes to, in the order of its routes, with their names
+/// worked out.
+fn find_routed(
     alloc: Global,
     routes: &Routes,
     groups: &Groups,
@@ -169,7 +254,6 @@ fn find_targets(
 ) -> Result<Vec<Target>, AllocError>
     ensures names { IfOk result (λ targets.
         map (λ t. t.name) targets.items ≡ map (name_at routes.now labels.now) (routes_of routes.now labels.now)) }
-    ensures routed { IfOk result (λ targets. All (λ t. t.name.route ≤ length routes.now.children) targets.items) }
     ensures found { IfOk result (λ targets. All (IsFound groups.now.items) targets.items) }
 {
     let positions = routes.of(alloc, labels)?;
@@ -195,7 +279,51 @@ fn find_target(
     let labels = routes.group_labels(alloc, route, labels)?;
     let name = GroupName { route, labels };
     let place = groups.find(&name);
+    let name = own_name(alloc, groups, name, place)?;
     Ok(Target { name, place })
+}
+
+/// The name of a group, which is at this place or isn't there: the group's own where it is there, so
+/// that its texts are kept once.
+fn own_name(
+    alloc: Global,
+    groups: &Groups,
+    name: GroupName,
+    place: Option<usize>,
+) -> Result<GroupName, AllocError>
+    requires place { place ≡ place_in name groups.now.items }
+    requires within { IfSome place (λ i. i < length groups.now.items) }
+    ensures { IfOk result (λ own. own ≡ name) }
+{
+    match place {
+        Some(i) => groups.at(i).name.copy(alloc),
+        None => Ok(name),
+    }
+}
+
+/// The names of these groups, to be kept: none where they are kept already, or memory is refused.
+fn new_names(
+    alloc: Global,
+    kept: Option<&Sequence<GroupName>>,
+    targets: &[Target],
+) -> Option<Sequence<GroupName>>
+    ensures { IfSome result (λ names. names ≡ map (λ t. t.name) targets.now) }
+{
+    match kept {
+        Some(_) => None,
+        None => names_of(alloc, targets).ok(),
+    }
+}
+
+/// The names of these groups.
+fn names_of(alloc: Global, targets: &[Target]) -> Result<Sequence<GroupName>, AllocError>
+    ensures { IfOk result (λ names. names ≡ map (λ t. t.name) targets.now) }
+{
+    let mut names = Vec::with_capacity(alloc, targets.len())?;
+    for target in targets {
+        names.push(target.name.copy(alloc)?)?;
+    }
+    Ok(Sequence::from(names))
 }
 
 /// How many of these groups aren't there.

@@ -5,6 +5,7 @@
 pub mod begin;
 pub mod board;
 mod dedup;
+mod destinations;
 mod due;
 pub mod fault;
 mod finish;

@@ -62,3 +62,11 @@ names_more f ps p routes i within before e =
     ∙ (ap (λ n. map f (take i routes) ++ n ∷ []) e
     ∙ (sym (map-append f (take i routes) (get_or routes i 0 ∷ []))
     ∙ ap (map f) (sym (take_more routes i 0 within)))))
+
+-- the same, by names that are there
+pub named_more : (ps : List Target) (p : Target) (names : List GroupName) (i : ℕ) → i < length names → map (λ x. x.name) ps ≡ take i names → p.name ≡ get_or names i p.name → map (λ x. x.name) (ps ++ p ∷ []) ≡ take (i + 1) names
+named_more ps p names i within before e =
+    map-append (λ (x : Target). x.name) ps (p ∷ [])
+    ∙ (ap (λ ns. ns ++ p.name ∷ []) before
+    ∙ (ap (λ n. take i names ++ n ∷ []) e
+    ∙ sym (take_more names i p.name within)))

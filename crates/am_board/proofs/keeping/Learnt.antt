@@ -16,10 +16,10 @@ use Rattle.am_model.specs.State.{State}
 use Rattle.am_model.proofs.legal.FewKnown.{known_others}
 
 module _ (alert : AlertData) where
-  abbrev put : List AlertData → List AlertData
+  abbrev pub put : List AlertData → List AlertData
   put known = put_in same_alert alert known
 
-  no_fewer : (known : List AlertData) → length known ≤ length (put known)
+  pub no_fewer : (known : List AlertData) → length known ≤ length (put known)
   no_fewer [] = omega arith
   no_fewer (y ∷ ys) =
       elim (same_alert alert y) as (λ b. length (y ∷ ys) ≤ length (if b then alert ∷ ys else y ∷ put ys)) [
@@ -28,13 +28,13 @@ module _ (alert : AlertData) where
       ]
 
   -- an alert of these labels was there before
-  abbrev WasAt : List AlertData → ℕ → AlertData → Type 0
+  abbrev pub WasAt : List AlertData → ℕ → AlertData → Type 0
   WasAt known i a = (b : AlertData) × IsAt known i b × (b.labels ≡ a.labels)
 
   behind : (y : AlertData) (ys : List AlertData) (i : ℕ) (a : AlertData) → WasAt ys i a → WasAt (y ∷ ys) (suc i) a
   behind y ys i a was = (was.0, (omega (arith, was.1.0), was.1.1), was.2)
 
-  was_at : (known : List AlertData) (i : ℕ) (a : AlertData) → IsAt (put known) i a → i < length known → WasAt known i a
+  pub was_at : (known : List AlertData) (i : ℕ) (a : AlertData) → IsAt (put known) i a → i < length known → WasAt known i a
   was_at [] i a at less = absurd (omega (arith, less))
   was_at (y ∷ ys) zero a at less =
       elim (same_alert alert y) as (λ b. same_alert alert y ≡ b → IsAt (if b then alert ∷ ys else y ∷ put ys) 0 a → WasAt (y ∷ ys) 0 a) [

@@ -1,5 +1,5 @@
 -- What each accepted or refused call leaves of a board.
-use Rattle.std.proofs.Common.{◌≡◌, ℕ, ◌+◌, ◌*◌, ◌≤◌, false, Some, None, List, length, vec_len, sym, ap, ◌∙◌, subst, arith}
+use Rattle.std.proofs.Common.{◌≡◌, ℕ, ◌+◌, ◌*◌, ◌≤◌, false, Option, Some, None, List, length, vec_len, sym, ap, ◌∙◌, subst, arith}
 use Rattle.std.specs.Prelude.{sum_by, All}
 use Rattle.std.proofs.lemmas.List.Elements.{All-nil}
 use Rattle.am_alerts.specs.AlertData.{AlertData}
@@ -11,6 +11,7 @@ use Rattle.am_model.specs.declared.config.Config.{Config}
 use Rattle.am_board.specs.declared.group.Group.{Group}
 use Rattle.am_model.specs.declared.group.GroupName.{GroupName}
 use Rattle.am_model.specs.Config.{AreAllowed, config_fault}
+use Rattle.am_board.specs.Destinations.{AreKept}
 use Rattle.am_board.specs.Group.{names_of, AreRouted}
 use Rattle.std.proofs.lemmas.List.{length-map}
 use Rattle.am_board.specs.declared.board.Board.TheInside.{Inside}
@@ -24,6 +25,7 @@ use Rattle.am_model.specs.Laws.{IsConsistent}
 use Rattle.am_model.specs.Replay.{reply, after, after_call, replay, IsLegal}
 use Rattle.am_model.specs.State.{State, opening_state}
 use Rattle.am_board.specs.Step.{IsGood, Accepts, Stays}
+use Rattle.am_board.proofs.keeping.Destinations.{kept_after}
 use Rattle.am_board.proofs.keeping.Learnt.{learnt_after}
 use Rattle.am_board.proofs.keeping.Agreeing.{Agrees-refl, Agrees-trans, IsConsistent-agrees, reply-agrees, after_call-agrees}
 use Rattle.am_model.proofs.legal.Bounded.{IsBounded, bounded}
@@ -129,6 +131,7 @@ module _ (b : Inside) (sound : IsSound b) where
           routed = accepts.routed;
           prepared = accepts.prepared;
           sources = subst (λ (s : State). AreLearnt b.config.rules s.known b.sources) (sym accepts.state.rest) (learnt_after b.config (state_of b.state) r.call b.sources sound.sources);
+          destinations = subst (λ (s : State). AreKept b.config s.known b.destinations) (sym accepts.state.rest) (kept_after b.config (state_of b.state) r.call b.destinations sound.destinations);
         }
 
   module _ (new : kept.State) (stays : Stays b.config b.state new) where
@@ -153,11 +156,13 @@ module _ (b : Inside) (sound : IsSound b) where
           routed = stays.routed;
           prepared = stays.prepared;
           sources = subst (λ (s : State). AreLearnt b.config.rules s.known b.sources) (sym stays.state) sound.sources;
+          destinations = subst (λ (s : State). AreKept b.config s.known b.destinations) (sym stays.state) sound.destinations;
         }
 
--- a board that learnt of its rules and known alerts is sound
-pub sound_learnt : (b : Inside) (sources : SourceIndex) → AreLearnt b.config.rules b.state.known.items sources → IsSound b → IsSound (record b { sources = sources })
-sound_learnt b sources learnt sound =
+-- a board that learnt of its rules and known alerts, and keeps the names of their groups, is sound
+pub sound_learnt : (b : Inside) (sources : SourceIndex) (destinations : List (Option (List GroupName))) → AreLearnt b.config.rules b.state.known.items sources → AreKept b.config b.state.known.items destinations → IsSound b
+    → IsSound (record b { sources = sources; destinations = destinations })
+sound_learnt b sources destinations learnt kept sound =
     record {
       limits = sound.limits;
       configured = sound.configured;
@@ -173,12 +178,13 @@ sound_learnt b sources learnt sound =
       routed = sound.routed;
       prepared = sound.prepared;
       sources = learnt;
+      destinations = kept;
     }
 
 -- a board that was just made is sound
-pub new_sound : (config : Config) (id : ℕ) (s : kept.State) (sources : SourceIndex) → AreLearnt config.rules s.known.items sources → config_fault config ≡ None → length config.routes.children ≤ MAX_CHILDREN → AreAllowed config.limits → IsNew s
-    → IsSound (record { config = config; id = id; state = s; sources = sources })
-new_sound config id s sources learnt configured children limits new =
+pub new_sound : (config : Config) (id : ℕ) (s : kept.State) (sources : SourceIndex) (destinations : List (Option (List GroupName))) → AreLearnt config.rules s.known.items sources → AreKept config s.known.items destinations → config_fault config ≡ None → length config.routes.children ≤ MAX_CHILDREN → AreAllowed config.limits → IsNew s
+    → IsSound (record { config = config; id = id; state = s; sources = sources; destinations = destinations })
+new_sound config id s sources destinations learnt names configured children limits new =
     record {
       limits = limits;
       configured = configured;
@@ -194,4 +200,5 @@ new_sound config id s sources learnt configured children limits new =
       routed = subst (λ (gs : List Group). AreRouted config.routes (names_of gs)) (sym new.groups) (All-nil (λ (n : GroupName). n.route ≤ length config.routes.children));
       prepared = subst (All (IsPrepared config s.log)) (sym new.flushes) (All-nil (IsPrepared config s.log));
       sources = learnt;
+      destinations = names;
     }

@@ -1,92 +1,92 @@
-use Rattle.std.proofs.Common.{◌≡◌, ◌∙◌, ◌+◌, ◌≤◌, ◌++◌, ◌∷◌, [], List, Some, map, length, sym, ap, subst, arith, Vec, Global, vec_len, vec_capacity}
-use Rattle.std.specs.Prelude.{All}
+use Rattle.std.proofs.Common.{◌≡◌, ◌∙◌, ℕ, ◌<◌, Option, Some, None, List, Result, Ok, Err, true, length, map, sym, ap, subst, vec_len}
+use Rattle.std.specs.Prelude.{IfSome, MatchResult, is_ok, unwrap_or}
+use Rattle.std.specs.List.{position}
 use Rattle.am_alerts.specs.AlertData.{AlertData}
-use Rattle.am_board.specs.declared.insert.Placement.{Placement}
-use Rattle.am_board.specs.declared.insert.Target.{Target}
-use Rattle.am_board.specs.declared.group.Group.{Group}
-use Rattle.am_board.specs.Inserting.{IsFound, AreFound, target_of}
-use Rattle.am_board.proofs.inserting.Found.{still_found, are_apart, names_apart}
-use Rattle.am_model.proofs.lists.Distinct.{all-told}
-use Rattle.am_model.specs.Insert.{names_for, inserted}
-use Rattle.am_board.specs.Kept.{state_of, IsPrepared}
+use Rattle.am_mute.specs.Sources.{IsAt}
 use Rattle.am_model.specs.declared.config.Config.{Config}
-use Rattle.am_board.specs.declared.flush.OpenFlush.{OpenFlush}
+use Rattle.am_model.specs.declared.fault.Fault.{Fault}
+use Rattle.am_model.specs.declared.group.GroupName.{GroupName}
 use Rattle.am_model.specs.declared.record.Inserted.{Inserted}
-use Rattle.am_model.specs.declared.record.Record.{Record}
 use Rattle.am_model.specs.declared.record.Call.TheVariants as call
 use Rattle.am_model.specs.declared.record.Reply.TheVariants as reply
+use Rattle.am_model.specs.Insert.{names_for, same_alert}
+use Rattle.am_model.specs.Lists.{put_in}
 use Rattle.am_model.specs.Records.{entry}
+use Rattle.am_board.specs.Destinations.{AreKept}
+use Rattle.am_model.specs.Causes.{insert_cause}
+use Rattle.am_board.specs.Kept.{state_of}
+use Rattle.am_board.specs.Step.{Accepts, Stays, IsAnswer}
+use Rattle.am_board.specs.declared.insert.Target.{Target}
 use Rattle.am_board.specs.declared.state.State as kept
-use Rattle.am_board.proofs.inserting.Inserting.{answer_groups, no_cause, makes_many, makes_few, made_told, names_placed, count_is, told_is, insert_leaves, stays_reserved}
+use Rattle.am_board.proofs.keeping.Destinations.{kept_put, known_then, known_still, put_at, put_within}
 use Rattle.am_board.proofs.insert.put_alert.Goals as goal
-use Rattle.am_board.proofs.keeping.Staying.{stays_itself, agrees_same}
+use Rattle.am_board.proofs.insert.put_alert.Goals.{then-is_ok, else-is_ok}
 
-pub returns-then-len-made : goal.returns-then-len-made
-returns-then-len-made c =
+module _ (config : Config) (old new : kept.State) (alert : AlertData) (pass now : ℕ) (names : List (Option (List GroupName))) where
+  abbrev Was : Result Inserted Fault → (Inserted → Type 0) → (Fault → Type 0) → Type 0
+  Was r P Q =
+      MatchResult r
+      (λ told. P told × ((id : ℕ) → Accepts config id (entry pass (call.Insert now alert) (reply.Inserted told)) old new))
+      (λ fault. Q fault × Stays config old new)
+
+  -- the names that are kept are of the known alerts after the call too
+  still : (P : Inserted → Type 0) (Q : Fault → Type 0) (r : Result Inserted Fault) → Was r P Q → AreKept config old.known.items names → AreKept config new.known.items names
+  still P Q (Ok told) h are =
+      subst (λ known. AreKept config known names) (sym (known_then config 0 pass now alert (reply.Inserted told) old new (h.1 0))) (kept_put config alert old.known.items names are)
+  still P Q (Err fault) h are = subst (λ known. AreKept config known names) (sym (known_still config old new h.1)) are
+
+  -- an alert that was put is known
+  put_there : (P : Inserted → Type 0) (Q : Fault → Type 0) (r : Result Inserted Fault) → is_ok r ≡ true → Was r P Q → new.known.items ≡ put_in same_alert alert old.known.items
+  put_there P Q (Ok told) e h = known_then config 0 pass now alert (reply.Inserted told) old new (h.1 0)
+  put_there P Q (Err fault) e h = absurd (cc)
+
+-- the names that were found are those of the alert's groups
+new_are : (config : Config) (alert a : AlertData) (found : List GroupName) (o : Option (List GroupName)) → IfSome o (λ names. names ≡ found) → found ≡ names_for config alert.labels → a ≡ alert → IfSome o (λ names. names ≡ names_for config a.labels)
+new_are config alert a found None are is same = tt
+new_are config alert a found (Some names) are is same = are ∙ is ∙ sym (ap (λ (b : AlertData). names_for config b.labels) same)
+
+pub find_targets-requires : goal.find_targets-requires
+find_targets-requires c =
     let config : Config = c.args.config.now in
-    let s : kept.State = c.args.state.now in
-    let at = c.in_ok-targets.ensures in
-    let names = at.names ∙ ap (names_for config) c.labels.ensures.labels in
-    let made : c.count_missing-made.result ≡ (inserted config (state_of s) c.args.alert).made =
-    made_told config c.args.alert.labels s.groups.items c.in_ok-targets.targets.items c.as_slice.result.now c.count_missing-made.result c.as_slice.ensures.value c.count_missing-made.ensures names at.found in
-    (answer_groups config (vec_len s.history) (state_of s) c.args.alert c.in_ok-known.ensures.room c.in_ok-known.ensures.names (makes_many config s c.args.alert c.count_missing-made.result made (omega (arith, c.if-len-made.true, c.len.ensures.len))), stays_itself config s c.requires.good)
+    let kept = c.of-kept.ensures config c.args.state.now.known.items c.args.alert.labels c.requires.kept c.in_ok-place.ensures.place in
+    record { kept = subst (λ labels. IfSome c.of-kept.result (λ names. names.now ≡ names_for config labels)) (sym c.labels-labels.ensures.labels) kept }
 
-pub reserve_insert-requires-clause-distinct : goal.reserve_insert-requires-clause-distinct
-reserve_insert-requires-clause-distinct c = names_apart c.args.state.now.groups.items c.requires.good.consistent.groups
+pub put_found-inserted-requires : goal.put_found-inserted-requires
+put_found-inserted-requires c =
+    record {
+      good = c.requires.good;
+      found = record {
+        room = c.in_ok-place.ensures.room;
+        few = c.in_ok-place.ensures.names;
+        place = c.in_ok-place.ensures.place;
+        within = c.in_ok-place.ensures.within;
+        names = c.in_ok-targets.ensures.names ∙ ap (names_for c.args.config.now) c.labels-labels.ensures.labels;
+        targets = c.in_ok-targets.ensures.found;
+      };
+    }
 
--- the places that were found for the groups are those of the placements
-placed : (gs : List Group) (ts : List Target) (ps : List Placement) → map target_of ps ≡ ts → All (IsFound gs) ts → AreFound gs ps
-placed gs ts ps same found = all-told target_of (IsFound gs) ps (subst (All (IsFound gs)) (sym same) found)
-
-pub reserve_insert-requires-clause-found : goal.reserve_insert-requires-clause-found
-reserve_insert-requires-clause-found c =
-    let gs : List Group = c.args.state.now.groups.items in
-    subst (AreFound gs) (sym c.as_slice-2.ensures.value) (placed gs c.in_ok-targets.targets.items c.in_ok-placements.placements.items c.in_ok-placements.ensures.targets c.in_ok-targets.ensures.found)
-
-pub put_prepared-requires-clause-found : goal.put_prepared-requires-clause-found
-put_prepared-requires-clause-found c =
-    still_found c.in_ok-placements.placements.items c.args.state.now.groups.items c.reserve_insert.new.state.groups.items c.in_ok-reserve_insert.ensures.kept.names
-    (placed c.args.state.now.groups.items c.in_ok-targets.targets.items c.in_ok-placements.placements.items c.in_ok-placements.ensures.targets c.in_ok-targets.ensures.found)
-
-pub put_prepared-requires-clause-apart : goal.put_prepared-requires-clause-apart
-put_prepared-requires-clause-apart c =
-    let names = names_placed c.in_ok-placements.placements.items c.in_ok-targets.targets.items (names_for c.args.config.now c.args.alert.labels) c.in_ok-placements.ensures.targets
-    (c.in_ok-targets.ensures.names ∙ ap (names_for c.args.config.now) c.labels.ensures.labels) in
-    are_apart c.args.config.now c.args.alert.labels c.in_ok-placements.placements.items names
-
-pub returns : goal.returns
-returns c =
+pub returns-clause-kept : goal.returns-clause-kept
+returns-clause-kept c =
     let config : Config = c.args.config.now in
-    let s : kept.State = c.args.state.now in
-    let reserved : kept.State = c.reserve_insert.new.state in
-    let new : kept.State = c.put_prepared.new.state in
-    let placements : List Placement = c.in_ok-placements.placements.items in
-    let targets : List Target = c.in_ok-targets.targets.items in
+    let old : kept.State = c.args.state.now in
+    let new : kept.State = c.put_found-inserted.new.state in
     let alert : AlertData = c.args.alert in
-    let at = c.in_ok-targets.ensures in
-    let named = at.names ∙ ap (names_for config) c.labels.ensures.labels in
-    let names = names_placed placements targets (names_for config alert.labels) c.in_ok-placements.ensures.targets named in
-    let routes = all-told target_of (λ (t : Target). t.name.route ≤ length config.routes.children) placements
-    (subst (All (λ (t : Target). t.name.route ≤ length config.routes.children)) (sym c.in_ok-placements.ensures.targets) at.routed) in
-    let kept = c.in_ok-reserve_insert.ensures.kept in
-    let ready = c.in_ok-reserve_insert.ensures.ready in
-    let made : c.count_missing-made.result ≡ (inserted config (state_of s) alert).made =
-    made_told config alert.labels s.groups.items targets c.as_slice.result.now c.count_missing-made.result c.as_slice.ensures.value c.count_missing-made.ensures named at.found in
-    let groups : c.len-2.result ≡ length (names_for config alert.labels) = omega (arith, c.len-2.ensures, c.in_ok-placements.placements.ok.0, count_is config alert.labels placements names) in
-    let still = stays_reserved config s reserved c.requires.good kept in
-    let logged : All (IsPrepared config new.log) reserved.flushes.items = subst (λ log. All (IsPrepared config log) reserved.flushes.items) (sym c.put_prepared.ensures.log) still.prepared in
-    let flushes : vec_len new.flushes ≡ vec_len reserved.flushes = ap (λ (fs : Vec OpenFlush Global). vec_len fs) c.put_prepared.ensures.flushes in
-    let records : vec_len new.history ≡ vec_len reserved.history = ap (λ (rs : Vec Record Global). vec_len rs) c.put_prepared.ensures.history in
-    let room : vec_capacity new.history ≡ vec_capacity reserved.history = ap (λ (rs : Vec Record Global). vec_capacity rs) c.put_prepared.ensures.history in
-    let added : Record = entry c.args.pass (call.Insert c.args.now alert) (reply.Inserted (record { stamp = s.inserts + 1; groups = c.len-2.result; made = c.count_missing-made.result })) in (
-      no_cause config (vec_len s.history) (state_of s) alert c.in_ok-known.ensures.room c.in_ok-known.ensures.names (makes_few config s alert c.count_missing-made.result made (omega (arith, c.if-len-made.false, c.len.ensures.len))),
-      λ id. record {
-        told = ap (λ (told : Inserted). Some (reply.Inserted told)) (told_is config (state_of s) alert c.len-2.result c.count_missing-made.result groups made);
-        state = agrees_same _ _ (insert_leaves config s reserved new c.moment-t.result c.args.now alert c.in_ok-copy.copy placements (c.put_prepared.ensures.state config) kept c.in_ok-copy.ensures c.moment-t.ensures c.requires.good.consistent.clock c.in_ok-placements.ensures.placed names);
-        routed = c.put_prepared.ensures.routed config.routes still.routed routes;
-        prepared = subst (λ (fs : Vec OpenFlush Global). All (IsPrepared config new.log) fs.items) (sym c.put_prepared.ensures.flushes) logged;
-        history = c.push_reserved.ensures.items ∙ ap (λ (rs : List Record). rs ++ added ∷ []) (ap (λ (rs : Vec Record Global). rs.items) c.put_prepared.ensures.history ∙ kept.history);
-        records = omega (arith, c.push_reserved.ensures.len, records, kept.records);
-        room = omega (arith, c.push_reserved.ensures.len, c.push_reserved.ensures.capacity, records, room, flushes, ready.records);
-      },
-    )
+    let cause = insert_cause config (vec_len old.history) (state_of old) alert in
+    let P : Inserted → Type 0 = λ told. cause ≡ None in
+    let Q : Fault → Type 0 = λ fault. IsAnswer cause fault in
+    let put = c.put_found-inserted.ensures in
+    let are = still config old new alert c.args.pass c.args.now c.args.destinations.now P Q c.put_found-inserted.result put c.requires.kept in
+    elim c.if-is_ok.branch [
+      | then-is_ok w ↦
+          let place : Option ℕ = c.in_ok-place.place in
+          let n : ℕ = c.unwrap_or-number.result in
+          let found : place ≡ position (same_alert alert) old.known.items = c.in_ok-place.ensures.place in
+          let at : n ≡ unwrap_or place (length old.known.items) = c.unwrap_or-number.ensures ∙ ap (unwrap_or place) c.len.ensures in
+          let there = put_there config old new alert c.args.pass c.args.now c.args.destinations.now P Q c.put_found-inserted.result (sym c.is_ok.ensures.value ∙ w.if-is_ok.true) put in
+          let within : n < length new.known.items = subst (λ (xs : List AlertData). n < length xs) (sym there) (put_within alert old.known.items place n found at) in
+          let names = ap (map (λ (t : Target). t.name)) c.as_slice.ensures.value ∙ (c.in_ok-targets.ensures.names ∙ ap (names_for config) c.labels-labels.ensures.labels) in
+          subst (AreKept config new.known.items) (sym w.destinations-is)
+          (w.keep.ensures config new.known.items are within
+          (λ a is. new_are config alert a (map (λ (t : Target). t.name) c.as_slice.result.now) c.new_names-names.result c.new_names-names.ensures names (put_at alert old.known.items place n a found at (subst (λ (xs : List AlertData). IsAt xs n a) there is))))
+      | else-is_ok w ↦ subst (AreKept config new.known.items) (sym w.destinations-is) are
+    ]

@@ -1,4 +1,4 @@
-use Rattle.std.proofs.Common.{◌≡◌, ℕ, List, [], Ok, sym, ap, ◌∙◌}
+use Rattle.std.proofs.Common.{◌≡◌, ℕ, List, [], Ok, sym, ap, ◌∙◌, subst}
 use Rattle.std.specs.Prelude.{Result}
 use Rattle.std.specs.Option.{option_map}
 use Rattle.am_alerts.proofs.Faults.{some_from_err}
@@ -8,7 +8,9 @@ use Rattle.am_model.specs.declared.fault.BoardFault.{BoardFault}
 use Rattle.am_model.specs.declared.fault.BoardFault.TheVariants.{BadConfig}
 use Rattle.am_model.specs.declared.record.Record.{Record}
 use Rattle.am_model.specs.Config.{config_fault}
+use Rattle.am_board.specs.Destinations.{AreKept}
 use Rattle.am_board.specs.History.{BoardData, opening}
+use Rattle.am_board.proofs.keeping.Destinations.{kept_none}
 use Rattle.am_board.proofs.keeping.Sound.{new_sound}
 use Rattle.am_board.proofs.keeping.Staying.{no_fault}
 use Rattle.am_board.proofs.board.Board.new.Goals as goal
@@ -22,7 +24,8 @@ returns-in-Err c =
 
 pub invariant_of-result : goal.invariant_of-result
 invariant_of-result c =
-    new_sound c.args.config c.args.id c.in_ok-new-in-Ok.field-0 c.new-in-Ok.result (c.new-in-Ok.ensures c.args.config.rules c.in_ok-new-in-Ok.field-0.known.items) (no_fault (config_fault c.args.config) tt tt c.in-Ok.ensures.fault) c.in-Ok.ensures.children c.in-Ok.ensures.limits
+    new_sound c.args.config c.args.id c.in_ok-new-in-Ok.field-0 c.new-in-Ok.result c.new-in-Ok-2.result (c.new-in-Ok.ensures c.args.config.rules c.in_ok-new-in-Ok.field-0.known.items)
+    (subst (AreKept c.args.config c.in_ok-new-in-Ok.field-0.known.items) (sym c.new-in-Ok-2.ensures) (kept_none c.args.config c.in_ok-new-in-Ok.field-0.known.items)) (no_fault (config_fault c.args.config) tt tt c.in-Ok.ensures.fault) c.in-Ok.ensures.children c.in-Ok.ensures.limits
     c.in_ok-new-in-Ok.ensures
 
 pub returns-in_ok-new-in-Ok : goal.returns-in_ok-new-in-Ok

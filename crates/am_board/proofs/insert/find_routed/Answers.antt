@@ -2,10 +2,9 @@ use Rattle.std.proofs.Common.{◌≡◌, ◌∙◌, ◌<◌, ◌≤◌, List, []
 use Rattle.std.specs.Prelude.{All}
 use Rattle.std.proofs.lemmas.List.Elements.{All-push}
 use Rattle.am_board.specs.Inserting.{IsFound, name_at}
-use Rattle.am_model.specs.declared.group.GroupName.{GroupName}
 use Rattle.am_board.specs.declared.insert.Target.{Target}
 use Rattle.am_board.proofs.inserting.Placing.{names_more}
-use Rattle.am_board.proofs.insert.find_targets.Goals as goal
+use Rattle.am_board.proofs.insert.find_routed.Goals as goal
 
 pub find_target-requires : goal.find_target-requires
 find_target-requires c =
@@ -20,12 +19,8 @@ loop-route-preserved c =
     let routes : List ℕ = c.deref-route-items.result.now in
     let i : ℕ = c.loop-route.route-index in
     let within : i < length routes = omega arith in
-    let exist : All (λ (p : ℕ). p ≤ length c.args.routes.now.children) routes =
-    subst (All (λ (p : ℕ). p ≤ length c.args.routes.now.children)) (sym c.deref-route-items.ensures.value) c.in_ok-positions.ensures.exist in
     let pushed : c.push.new.self.items ≡ before ++ x ∷ [] = c.in_ok-push.ensures.items in
-    let here : x.name.route ≤ length c.args.routes.now.children = subst (λ (n : GroupName). n.route ≤ length c.args.routes.now.children) (sym c.in_ok-find_target.ensures.name) (exist i 0 within) in
     record {
       names = ap (map (λ (t : Target). t.name)) pushed ∙ names_more (name_at c.args.routes.now c.args.labels.now) before x routes i within c.loop-route.invariant.names c.in_ok-find_target.ensures.name;
-      routed = subst (All (λ (t : Target). t.name.route ≤ length c.args.routes.now.children)) (sym pushed) (All-push (λ t. t.name.route ≤ length c.args.routes.now.children) before x c.loop-route.invariant.routed here);
       found = subst (All (IsFound c.args.groups.now.items)) (sym pushed) (All-push (IsFound c.args.groups.now.items) before x c.loop-route.invariant.found c.in_ok-find_target.ensures.found);
     }

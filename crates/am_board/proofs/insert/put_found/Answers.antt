@@ -1,0 +1,110 @@
+use Rattle.std.proofs.Common.{◌≡◌, ◌∙◌, ℕ, ◌+◌, ◌≤◌, ◌++◌, ◌∷◌, [], List, Some, map, length, sym, ap, subst, arith, Vec, Global, vec_len, vec_capacity}
+use Rattle.std.specs.Prelude.{All, count_by, is_none}
+use Rattle.am_alerts.specs.AlertData.{AlertData}
+use Rattle.am_board.specs.declared.insert.Placement.{Placement}
+use Rattle.am_board.specs.declared.insert.Target.{Target}
+use Rattle.am_board.specs.declared.group.Group.{Group}
+use Rattle.am_board.specs.declared.insert.Found.{Found}
+use Rattle.am_board.specs.Inserting.{IsFound, AreFound, IsWhereToPut, target_of}
+use Rattle.am_board.proofs.inserting.Found.{still_found, are_apart, names_apart}
+use Rattle.am_model.proofs.lists.Distinct.{all_from, all_to, all-map, all-told}
+use Rattle.am_model.specs.Insert.{name_in, names_for, inserted}
+use Rattle.am_model.specs.declared.group.GroupName.{GroupName}
+use Rattle.am_alerts.proofs.Positions.{routes_of-exist}
+use Rattle.am_alerts.specs.RoutingTree.{routes_of}
+use Rattle.am_alerts.specs.declared.labels.Label.{Label}
+use Rattle.am_board.specs.Kept.{state_of, IsPrepared}
+use Rattle.am_model.specs.declared.config.Config.{Config}
+use Rattle.am_board.specs.declared.flush.OpenFlush.{OpenFlush}
+use Rattle.am_model.specs.declared.record.Inserted.{Inserted}
+use Rattle.am_model.specs.declared.record.Record.{Record}
+use Rattle.am_model.specs.declared.record.Call.TheVariants as call
+use Rattle.am_model.specs.declared.record.Reply.TheVariants as reply
+use Rattle.am_model.specs.Records.{entry}
+use Rattle.am_board.specs.declared.state.State as kept
+use Rattle.am_board.proofs.inserting.Inserting.{answer_groups, no_cause, makes_many, makes_few, made_told, names_placed, count_is, told_is, insert_leaves, stays_reserved}
+use Rattle.am_board.proofs.insert.put_found.Goals as goal
+use Rattle.am_board.proofs.keeping.Staying.{stays_itself, agrees_same}
+
+-- what was found tells how many groups have to be made
+made_of : (config : Config) (s : kept.State) (alert : AlertData) (found : Found) (lent : List Target) (n : ℕ) → IsWhereToPut config s alert found → lent ≡ found.targets.items → n ≡ count_by (λ t. is_none t.place) lent → n ≡ (inserted config (state_of s) alert).made
+made_of config s alert found lent n is e counted =
+    made_told config alert.labels s.groups.items found.targets.items lent n e counted is.names is.targets
+
+pub returns-then-len-made : goal.returns-then-len-made
+returns-then-len-made c =
+    let config : Config = c.args.config.now in
+    let s : kept.State = c.args.state.now in
+    let is = c.requires.found in
+    let made = made_of config s c.args.alert c.args.found c.as_slice.result.now c.count_missing-made.result is c.as_slice.ensures.value c.count_missing-made.ensures in
+    (answer_groups config (vec_len s.history) (state_of s) c.args.alert is.room is.few (makes_many config s c.args.alert c.count_missing-made.result made (omega (arith, c.if-len-made.true, c.len.ensures.len))), stays_itself config s c.requires.good)
+
+-- each group that was found is of a route that is there
+routed : (config : Config) (labels : List Label) (ts : List Target) → map (λ t. t.name) ts ≡ names_for config labels → All (λ t. t.name.route ≤ length config.routes.children) ts
+routed config labels ts names =
+    all-told (λ (t : Target). t.name) (λ (n : GroupName). n.route ≤ length config.routes.children) ts
+    (subst (All (λ (n : GroupName). n.route ≤ length config.routes.children)) (sym names)
+    (all_from (λ (n : GroupName). n.route ≤ length config.routes.children) (names_for config labels)
+    (all-map (name_in config labels) (λ (n : GroupName). n.route ≤ length config.routes.children) (routes_of config.routes labels)
+    (all_to (λ (r : ℕ). r ≤ length config.routes.children) (routes_of config.routes labels) (routes_of-exist config.routes labels)))))
+
+pub prepare_all-requires : goal.prepare_all-requires
+prepare_all-requires c = routed c.args.config.now c.args.alert.labels c.args.found.targets.items c.requires.found.names
+
+pub reserve_insert-requires-clause-distinct : goal.reserve_insert-requires-clause-distinct
+reserve_insert-requires-clause-distinct c = names_apart c.args.state.now.groups.items c.requires.good.consistent.groups
+
+-- the places that were found for the groups are those of the placements
+placed : (gs : List Group) (ts : List Target) (ps : List Placement) → map target_of ps ≡ ts → All (IsFound gs) ts → AreFound gs ps
+placed gs ts ps same found = all-told target_of (IsFound gs) ps (subst (All (IsFound gs)) (sym same) found)
+
+pub reserve_insert-requires-clause-found : goal.reserve_insert-requires-clause-found
+reserve_insert-requires-clause-found c =
+    let gs : List Group = c.args.state.now.groups.items in
+    subst (AreFound gs) (sym c.as_slice-2.ensures.value) (placed gs c.args.found.targets.items c.in_ok-placements.placements.items c.in_ok-placements.ensures.targets c.requires.found.targets)
+
+pub put_prepared-requires-clause-found : goal.put_prepared-requires-clause-found
+put_prepared-requires-clause-found c =
+    still_found c.in_ok-placements.placements.items c.args.state.now.groups.items c.reserve_insert.new.state.groups.items c.in_ok-reserve_insert.ensures.kept.names
+    (placed c.args.state.now.groups.items c.args.found.targets.items c.in_ok-placements.placements.items c.in_ok-placements.ensures.targets c.requires.found.targets)
+
+pub put_prepared-requires-clause-apart : goal.put_prepared-requires-clause-apart
+put_prepared-requires-clause-apart c =
+    let names = names_placed c.in_ok-placements.placements.items c.args.found.targets.items (names_for c.args.config.now c.args.alert.labels) c.in_ok-placements.ensures.targets c.requires.found.names in
+    are_apart c.args.config.now c.args.alert.labels c.in_ok-placements.placements.items names
+
+pub returns : goal.returns
+returns c =
+    let config : Config = c.args.config.now in
+    let s : kept.State = c.args.state.now in
+    let reserved : kept.State = c.reserve_insert.new.state in
+    let new : kept.State = c.put_prepared.new.state in
+    let placements : List Placement = c.in_ok-placements.placements.items in
+    let targets : List Target = c.args.found.targets.items in
+    let alert : AlertData = c.args.alert in
+    let is = c.requires.found in
+    let names = names_placed placements targets (names_for config alert.labels) c.in_ok-placements.ensures.targets is.names in
+    let routes = all-told target_of (λ (t : Target). t.name.route ≤ length config.routes.children) placements
+    (subst (All (λ (t : Target). t.name.route ≤ length config.routes.children)) (sym c.in_ok-placements.ensures.targets) (routed config alert.labels targets is.names)) in
+    let kept = c.in_ok-reserve_insert.ensures.kept in
+    let ready = c.in_ok-reserve_insert.ensures.ready in
+    let made : c.count_missing-made.result ≡ (inserted config (state_of s) alert).made =
+    made_of config s alert c.args.found c.as_slice.result.now c.count_missing-made.result is c.as_slice.ensures.value c.count_missing-made.ensures in
+    let groups : c.len-2.result ≡ length (names_for config alert.labels) = omega (arith, c.len-2.ensures, c.in_ok-placements.placements.ok.0, count_is config alert.labels placements names) in
+    let still = stays_reserved config s reserved c.requires.good kept in
+    let logged : All (IsPrepared config new.log) reserved.flushes.items = subst (λ log. All (IsPrepared config log) reserved.flushes.items) (sym c.put_prepared.ensures.log) still.prepared in
+    let flushes : vec_len new.flushes ≡ vec_len reserved.flushes = ap (λ (fs : Vec OpenFlush Global). vec_len fs) c.put_prepared.ensures.flushes in
+    let records : vec_len new.history ≡ vec_len reserved.history = ap (λ (rs : Vec Record Global). vec_len rs) c.put_prepared.ensures.history in
+    let room : vec_capacity new.history ≡ vec_capacity reserved.history = ap (λ (rs : Vec Record Global). vec_capacity rs) c.put_prepared.ensures.history in
+    let added : Record = entry c.args.pass (call.Insert c.args.now alert) (reply.Inserted (record { stamp = s.inserts + 1; groups = c.len-2.result; made = c.count_missing-made.result })) in (
+      no_cause config (vec_len s.history) (state_of s) alert is.room is.few (makes_few config s alert c.count_missing-made.result made (omega (arith, c.if-len-made.false, c.len.ensures.len))),
+      λ id. record {
+        told = ap (λ (told : Inserted). Some (reply.Inserted told)) (told_is config (state_of s) alert c.len-2.result c.count_missing-made.result groups made);
+        state = agrees_same _ _ (insert_leaves config s reserved new c.moment-t.result c.args.now alert c.in_ok-copy.copy placements (c.put_prepared.ensures.state config) kept c.in_ok-copy.ensures c.moment-t.ensures c.requires.good.consistent.clock c.in_ok-placements.ensures.placed names);
+        routed = c.put_prepared.ensures.routed config.routes still.routed routes;
+        prepared = subst (λ (fs : Vec OpenFlush Global). All (IsPrepared config new.log) fs.items) (sym c.put_prepared.ensures.flushes) logged;
+        history = c.push_reserved.ensures.items ∙ ap (λ (rs : List Record). rs ++ added ∷ []) (ap (λ (rs : Vec Record Global). rs.items) c.put_prepared.ensures.history ∙ kept.history);
+        records = omega (arith, c.push_reserved.ensures.len, records, kept.records);
+        room = omega (arith, c.push_reserved.ensures.len, c.push_reserved.ensures.capacity, records, room, flushes, ready.records);
+      },
+    )

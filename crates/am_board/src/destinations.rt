@@ -1,0 +1,78 @@
+//! Where known alerts go.
+ghost use Rattle.std.specs.Prelude.{◌≡◌, ◌<◌, [], IfSome, List, length, position};
+ghost use Rattle.am_alerts.specs.AlertData.{AlertData};
+ghost use Rattle.am_alerts.specs.Labels.{same_label_set};
+ghost use Rattle.am_alerts.specs.declared.labels.Label.{Label};
+ghost use Rattle.am_board.specs.Destinations.{AreKept};
+ghost use Rattle.am_mute.specs.Sources.{IsAt};
+ghost use Rattle.am_model.specs.Insert.{names_for};
+ghost use Rattle.am_model.specs.declared.config.Config.{Config};
+
+use crate::group::GroupName;
+use am_alerts::sequence::Sequence;
+use std::alloc::{AllocError, Global};
+use std::marker::Model;
+
+/// The names of the groups that known alerts go to. They follow from the label set and the
+/// configuration alone, so they are worked out once.
+///
+/// This only saves time: names that aren't kept are worked out anew.
+#[derive(Debug, Drop)]
+pub(crate) struct Destinations {
+    /// By the place of the alert among the known ones.
+    names: Vec<Option<Sequence<GroupName>>>,
+}
+
+impl Model for Destinations {
+    ghost use Rattle.std.specs.Prelude.{List, Option};
+    ghost use Rattle.am_model.specs.declared.group.GroupName.{GroupName};
+
+    ghost Value = { List (Option (List GroupName)) };
+
+    ghost view = { λ d. d.names.items };
+}
+
+impl Destinations {
+    /// No names.
+    pub(crate) fn new(alloc: Global) -> Destinations
+        ensures { result ≡ [] }
+    {
+        Destinations {
+            names: Vec::new(alloc),
+        }
+    }
+
+    /// The names that are kept for the known alert at a place, if there is one.
+    pub(crate) fn of(&self, place: Option<usize>) -> Option<&Sequence<GroupName>>
+        ensures { (config : Config) (known : List AlertData) (labels : List Label) → AreKept config known self.now
+            → place ≡ position (λ a. same_label_set labels a.labels) known
+            → IfSome result (λ names. names.now ≡ names_for config labels) }
+    {
+        let names = self.names.as_slice().get(place?)?;
+        names.as_ref()
+    }
+
+    /// Keeps names for the known alert at a place, if there are some. Where memory for it is refused
+    /// they are worked out again.
+    pub(crate) fn keep(&mut self, place: usize, names: Option<Sequence<GroupName>>)
+        ensures { (config : Config) (known : List AlertData) → AreKept config known self.old → place < length known
+            → ((a : AlertData) → IsAt known place a → IfSome names (λ names. names ≡ names_for config a.labels))
+            → AreKept config known self.new }
+    {
+        if let Some(names) = names {
+            let _ = self.put(place, names);
+        }
+    }
+
+    /// Puts names at a place. Where memory is refused there are none there.
+    fn put(&mut self, place: usize, names: Sequence<GroupName>) -> Result<(), AllocError>
+        ensures { (config : Config) (known : List AlertData) → AreKept config known self.old → place < length known
+            → ((a : AlertData) → IsAt known place a → names ≡ names_for config a.labels) → AreKept config known self.new }
+    {
+        while self.names.len() <= place {
+            self.names.push(None)?;
+        }
+        self.names[place] = Some(names);
+        Ok(())
+    }
+}

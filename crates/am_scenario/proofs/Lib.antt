@@ -1,4 +1,6 @@
 pub mod FirstRun
+pub mod Answered
+pub mod Determined
 pub mod Attempts
 pub mod Calls
 pub mod Lanes

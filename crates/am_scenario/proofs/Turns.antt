@@ -13,8 +13,10 @@ use Rattle.am_model.specs.declared.record.Record.{Record}
 use Rattle.am_desk.specs.Desks.{AreFresh, Stands}
 use Rattle.am_desk.specs.History.{own}
 use Rattle.am_desk.specs.Known.{Seen, seen}
-use Rattle.am_scenario.specs.Steps.{Begins, Finishes, HadTurns, IsUnrecorded, MadeRecords, NotesAny, Sends, TookTurn, end_on, finish_with, opened_of, recorded_all}
-use Rattle.am_scenario.specs.Turns.{AreTurnsOf, IsSentFrom, IsTurnOf, NotesOne, Opened, Turn, finish_of, last_end, note_on, opened_by, outcomes_told, records_in, report_on, reports_on, to_send}
+use Rattle.am_pool.specs.declared.courier.Tried.{Tried}
+use Rattle.am_scenario.specs.Sendings.{IsSentFrom}
+use Rattle.am_scenario.specs.Steps.{Begins, Finishes, HadNone, HadTurns, IsUnrecorded, MadeRecords, NotesAny, Sends, TookTurn, end_on, finish_with, opened_of, recorded_all}
+use Rattle.am_scenario.specs.Turns.{AreTurnsOf, IsTurnOf, NotesOne, Opened, Turn, finish_of, last_end, note_on, opened_by, outcomes_told, records_in, report_on, reports_on, to_send}
 use Rattle.am_scenario.specs.declared.scenario.Phase.{Phase}
 use Rattle.am_scenario.proofs.Steps.{more_records}
 
@@ -107,9 +109,9 @@ pub record FinishesSoFar (at : ℕ) (reports : List Report) (ts left : List Tick
   pub calls : map (λ (r : Record). r.call) finishes ++ map (finish_with at reports) left ≡ map (finish_with at reports) ts
 
 -- the steps of a phase are a turn
-pub turn_taken : (phase : Phase) (p q r s : Seen) (ts us : List TicketData) (had reports since : List Report) → Begins phase.flush phase.at p q [] ts
-    → Sends phase.at reports ts us q r → Finishes phase.at reports us r s → since ≡ had ++ reports → TookTurn phase p s had since
-turn_taken phase p q r s ts us had reports since begins sends finishes more =
+pub turn_taken : (Answers : Tried → Type 0) (phase : Phase) (p q r s : Seen) (ts us : List TicketData) (had reports since : List Report) → Begins phase.flush phase.at p q [] ts
+    → Sends Answers phase.at reports ts us q r → Finishes phase.at reports us r s → since ≡ had ++ reports → TookTurn Answers phase p s had since
+turn_taken Answers phase p q r s ts us had reports since begins sends finishes more =
     let notes = sends.noted in
     let fresh : All IsUnrecorded ts = begins.unrecorded (All-nil IsUnrecorded) in
     let opened : map opened_of ts ≡ opened_by begins.begins = begins.opened in
@@ -118,7 +120,7 @@ turn_taken phase p q r s ts us had reports since begins sends finishes more =
       is =
           record {
             begun = begins.begun;
-            sent = subst (λ (os : List Opened). AllZip (IsSentFrom phase.at) (to_send os) reports) opened sends.sent;
+            sent = subst (λ (os : List Opened). AllZip (IsSentFrom Answers phase.at) (to_send os) reports) opened sends.sent;
             noted =
                 subst (λ (os : List Opened). All (NotesOne phase.at reports os) notes.records) opened
                 (All-weaker (NotesAny phase.at reports us) (NotesOne phase.at reports (map opened_of ts)) (λ x note. note_of_one phase.at reports ts us x sends.recorded fresh note) notes.records notes.kind);
@@ -138,15 +140,15 @@ zip_push R (a ∷ xs) [] x y all one = absurd all
 zip_push R (a ∷ xs) (b ∷ ys) x y all one = (all.0, zip_push R xs ys x y all.1 one)
 
 -- one turn more
-turn_more : (phases : List Phase) (phase : Phase) (p q : Seen) (reports since : List Report) → HadTurns phases p reports → TookTurn phase p q reports since
-    → HadTurns (phases ++ phase ∷ []) q since
-turn_more phases phase p q reports since had took =
+turn_more : (Answers : Tried → Type 0) (phases : List Phase) (phase : Phase) (p q : Seen) (reports since : List Report) → HadTurns Answers phases p reports → TookTurn Answers phase p q reports since
+    → HadTurns Answers (phases ++ phase ∷ []) q since
+turn_more Answers phases phase p q reports since had took =
     let turns = had.1.turns in
     let more : own 0 q.log ≡ own 0 p.log ++ records_in took.turn = subst (λ (n : ℕ). own n q.log ≡ own n p.log ++ records_in took.turn) had.0 took.made.1 in (
       took.made.0 ∙ had.0,
       record {
         turns = turns ++ took.turn ∷ [];
-        each = zip_push IsTurnOf phases turns phase took.turn had.1.each took.is;
+        each = zip_push (IsTurnOf Answers) phases turns phase took.turn had.1.each took.is;
         made =
             more
             ∙ (ap (λ (rs : List Record). rs ++ records_in took.turn) had.1.made
@@ -160,24 +162,26 @@ turn_more phases phase p q reports since had took =
     )
 
 -- the turn of the next phase of a list
-pub turn_next : (phases : List Phase) (n m : ℕ) (phase : Phase) (p q : Seen) (reports since : List Report) → m ≡ n + 1 → n < length phases → phase ≡ get_or phases n phase
-    → HadTurns (take n phases) p reports → TookTurn phase p q reports since → HadTurns (take m phases) q since
-turn_next phases n m phase p q reports since next there is had took =
+pub turn_next : (Answers : Tried → Type 0) (phases : List Phase) (n m : ℕ) (phase : Phase) (p q : Seen) (reports since : List Report) → m ≡ n + 1 → n < length phases → phase ≡ get_or phases n phase
+    → HadTurns Answers (take n phases) p reports → TookTurn Answers phase p q reports since → HadTurns Answers (take m phases) q since
+turn_next Answers phases n m phase p q reports since next there is had took =
     let longer : take m phases ≡ take n phases ++ phase ∷ [] =
     ap (λ (k : ℕ). take k phases) next ∙ (take_more phases n phase there ∙ ap (λ (x : Phase). take n phases ++ x ∷ []) (sym is))
     in
-    subst (λ (xs : List Phase). HadTurns xs q since) (sym longer) (turn_more (take n phases) phase p q reports since had took)
+    subst (λ (xs : List Phase). HadTurns Answers xs q since) (sym longer) (turn_more Answers (take n phases) phase p q reports since had took)
 
 -- the turns stand in a history in which the pass stands
-pub turns_stand : (phases : List Phase) (p : Seen) (reports : List Report) (history : List Record) → HadTurns phases p reports → Stands p history
-    → AreTurnsOf phases (own 0 history) reports
-turns_stand phases p reports history had stands =
-    subst (λ (rs : List Record). AreTurnsOf phases rs reports) (sym (subst (λ (n : ℕ). own n history ≡ own n p.log) had.0 stands.1)) had.1
+pub turns_stand : (Answers : Tried → Type 0) (phases : List Phase) (p : Seen) (reports : List Report) (history : List Record) → HadTurns Answers phases p reports → Stands p history
+    → AreTurnsOf Answers phases (own 0 history) reports
+turns_stand Answers phases p reports history had stands =
+    subst (λ (rs : List Record). AreTurnsOf Answers phases rs reports) (sym (subst (λ (n : ℕ). own n history ≡ own n p.log) had.0 stands.1)) had.1
 
 -- a pass that has seen nothing had no turn
-pub no_turns : (p : Seen) (reports : List Report) → p ≡ seen 0 0 [] → reports ≡ [] → HadTurns [] p reports
-no_turns p reports fresh none =
-    (ap (λ (s : Seen). s.number) fresh, record { turns = []; each = tt; made = ap (λ (s : Seen). own 0 s.log) fresh; told = none })
+pub none_yet : (p : Seen) (reports : List Report) → p ≡ seen 0 0 [] → reports ≡ [] → HadNone p reports
+none_yet p reports fresh none = (ap (λ (s : Seen). s.number) fresh, ap (λ (s : Seen). own 0 s.log) fresh, none)
+
+pub no_turns : (Answers : Tried → Type 0) (p : Seen) (reports : List Report) → HadNone p reports → HadTurns Answers [] p reports
+no_turns Answers p reports none = (none.0, record { turns = []; each = tt; made = none.1; told = none.2 })
 
 -- the first of passes that have seen nothing
 pub first_is_fresh : (n : ℕ) (ps : List Seen) (p : Seen) → AreFresh n ps → 0 < length ps → p ≡ get_or ps 0 p → p ≡ seen n 0 []

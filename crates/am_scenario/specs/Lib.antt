@@ -1,6 +1,8 @@
 pub mod Faults
 pub mod Report
 pub mod Lanes
+pub mod Scripts
+pub mod Sendings
 pub mod Turns
 pub mod Plays
 pub mod Seats
@@ -9,3 +11,4 @@ pub mod Troubles
 pub mod Runs
 pub mod FirstRun
 pub mod Told
+pub mod Laws

@@ -9,8 +9,10 @@ use Rattle.am_model.specs.declared.record.Call.TheVariants as call
 use Rattle.am_model.specs.declared.record.Record.{Record}
 use Rattle.am_desk.specs.History.{own}
 use Rattle.am_desk.specs.Known.{Seen}
+use Rattle.am_pool.specs.declared.courier.Tried.{Tried}
 use Rattle.am_pool.specs.declared.worker.Job.{Job}
-use Rattle.am_scenario.specs.Turns.{Opened, Turn, IsSentFrom, IsTurnOf, AreTurnsOf, opened_by, outcomes_told, last_end, records_in, report_on, reports_on, to_send}
+use Rattle.am_scenario.specs.Sendings.{IsSentFrom}
+use Rattle.am_scenario.specs.Turns.{Opened, Turn, IsTurnOf, AreTurnsOf, opened_by, outcomes_told, last_end, records_in, report_on, reports_on, to_send}
 use Rattle.am_scenario.specs.declared.scenario.Phase.{Phase}
 
 -- a job is to be sent from this moment on
@@ -80,8 +82,8 @@ abbrev pub FinishesOne : ℕ → TicketData → Seen → Seen → Type 0
 FinishesOne now t p q = (r : Record) × MadeRecords (r ∷ []) p q × (r.call ≡ call.Finish now t.number t.outcomes)
 
 -- the notices of these tickets were sent from this moment on, the reports are recorded, and the pass noted successes
-pub record Sends (at : ℕ) (reports : List Report) (ts us : List TicketData) (p q : Seen) : Type 0 where
-  pub sent : AllZip (IsSentFrom at) (to_send (map opened_of ts)) reports
+pub record Sends (Answers : Tried → Type 0) (at : ℕ) (reports : List Report) (ts us : List TicketData) (p q : Seen) : Type 0 where
+  pub sent : AllZip (IsSentFrom Answers at) (to_send (map opened_of ts)) reports
   pub recorded : us ≡ map (recorded_all reports) ts
   pub noted : MadeOnly (NotesAny at reports us) p q
 
@@ -92,12 +94,16 @@ pub record Finishes (at : ℕ) (reports : List Report) (ts : List TicketData) (p
   pub calls : map (λ r. r.call) finishes ≡ map (finish_with at reports) ts
 
 -- the main thread had its turn in a phase, whose reports came to the others
-pub record TookTurn (phase : Phase) (p q : Seen) (reports reports_since : List Report) : Type 0 where
+pub record TookTurn (Answers : Tried → Type 0) (phase : Phase) (p q : Seen) (reports reports_since : List Report) : Type 0 where
   pub turn : Turn
-  pub is : IsTurnOf phase turn
+  pub is : IsTurnOf Answers phase turn
   pub made : MadeRecords (records_in turn) p q
   pub more : reports_since ≡ reports ++ turn.reports
 
+-- the main thread's pass has had no turn, and there is no report
+abbrev pub HadNone : Seen → List Report → Type 0
+HadNone p reports = (p.number ≡ 0) × (own 0 p.log ≡ []) × (reports ≡ [])
+
 -- the main thread's pass has had its turns in these phases, and these are all reports
-abbrev pub HadTurns : List Phase → Seen → List Report → Type 0
-HadTurns phases p reports = (p.number ≡ 0) × AreTurnsOf phases (own 0 p.log) reports
+abbrev pub HadTurns : (Tried → Type 0) → List Phase → Seen → List Report → Type 0
+HadTurns Answers phases p reports = (p.number ≡ 0) × AreTurnsOf Answers phases (own 0 p.log) reports

@@ -9,8 +9,8 @@ use Rattle.am_model.specs.declared.record.Record.{Record}
 use Rattle.am_model.specs.declared.record.Reply.{Reply}
 use Rattle.am_model.specs.declared.record.Reply.TheVariants as reply
 use Rattle.am_retry.specs.declared.outcome.Outcome.{Outcome}
-use Rattle.am_pool.specs.Sent.{IsReportOf}
-use Rattle.am_pool.specs.declared.worker.Job.{Job}
+use Rattle.am_pool.specs.declared.courier.Tried.{Tried}
+use Rattle.am_scenario.specs.Sendings.{IsSentFrom}
 use Rattle.am_scenario.specs.declared.scenario.Phase.{Phase}
 
 -- a flush that was begun: its number and its notices
@@ -40,10 +40,6 @@ sendable notices = filter (λ n. not (is_nothing n)) notices
 -- the notices of these flushes that have something to send, by flush and integration
 abbrev pub to_send : List Opened → List NoticeData
 to_send opened = flat_map (λ o. sendable o.notices) opened
-
--- a report on a notice that was sent from this moment on
-abbrev pub IsSentFrom : ℕ → NoticeData → Report → Type 0
-IsSentFrom start notice report = (job : Job) × (job.notice.now ≡ notice) × (job.start ≡ start) × IsReportOf job report
 
 -- the reports on a flush
 abbrev pub reports_on : ℕ → List Report → List Report
@@ -96,16 +92,16 @@ abbrev pub records_in : Turn → List Record
 records_in turn = turn.begins ++ turn.notes ++ turn.finishes
 
 -- the turn of a phase: the begins are at its moment; each notice that has something to send has one report, of a sending from that
--- moment on; the notes are at the ends of these sendings; and each flush is finished once, in their order, at the end of the last
-pub record IsTurnOf (phase : Phase) (turn : Turn) : Type 0 where
+-- moment on whose tries are answered so; the notes are at the ends of these sendings; and each flush is finished once, in their order, at the end of the last
+pub record IsTurnOf (Answers : Tried → Type 0) (phase : Phase) (turn : Turn) : Type 0 where
   pub begun : All (IsBeginOf phase) turn.begins
-  pub sent : AllZip (IsSentFrom phase.at) (to_send (opened_by turn.begins)) turn.reports
+  pub sent : AllZip (IsSentFrom Answers phase.at) (to_send (opened_by turn.begins)) turn.reports
   pub noted : All (NotesOne phase.at turn.reports (opened_by turn.begins)) turn.notes
   pub finished : map (λ r. r.call) turn.finishes ≡ map (finish_of phase.at turn.reports) (opened_by turn.begins)
 
--- these are the main thread's records and all reports, if it had a turn in each phase and no other
-pub record AreTurnsOf (phases : List Phase) (records : List Record) (reports : List Report) : Type 0 where
+-- these are the main thread's records and all reports, if it had a turn in each phase and no other, with tries that are answered so
+pub record AreTurnsOf (Answers : Tried → Type 0) (phases : List Phase) (records : List Record) (reports : List Report) : Type 0 where
   pub turns : List Turn
-  pub each : AllZip IsTurnOf phases turns
+  pub each : AllZip (IsTurnOf Answers) phases turns
   pub made : records ≡ flat_map records_in turns
   pub told : reports ≡ flat_map (λ t. t.reports) turns

@@ -1,15 +1,18 @@
 //! The lanes of a phase, each in a thread of its own.
 ghost use Rattle.std.specs.Prelude.{◌≡◌, ◌<◌, ◌≤◌, ◌∷◌, [], All, IfOk, OnOk, length, map, take, vec_len};
-ghost use Rattle.am_pool.specs.Sent.{AreReportsOf};
+ghost use Rattle.std.specs.List.{AllZip};
 ghost use Rattle.am_pool.specs.Work.{IsReady};
 ghost use Rattle.am_scenario.specs.Lanes.{call_at};
 ghost use Rattle.am_scenario.specs.Seats.{AfterLanes, AllRan, MadeCalls, Ran};
+ghost use Rattle.am_scenario.specs.Sendings.{IsSendingOf};
 
+use crate::courier::Answering;
 use crate::scenario::{Lane, LaneCall};
+use crate::sending::send_jobs;
 use am_board::fault::Fault;
 use am_board::notice::Report;
 use am_desk::{Desk, Name, Pass};
-use am_pool::{Courier, Job, PoolFault, run_jobs};
+use am_pool::{Job, PoolFault};
 use std::alloc::{AllocError, Global};
 use std::mem::replace;
 use std::sync::Wait;
@@ -104,7 +107,7 @@ pub fn take_seats<N: Name>(seats: &mut [Seat<N>], lanes: Vec<Lane>)
 }
 
 /// Runs the lanes, each in a thread of its own, beside the couriers, who share the jobs.
-pub fn run_beside<N: Name + Send + Sync, R: Threads + Wait + Sync, C: Courier + Send>(
+pub fn run_beside<N: Name + Send + Sync, R: Threads + Wait + Sync, C: Answering + Send>(
     rt: &R,
     alloc: Global,
     desk: &Desk<N>,
@@ -117,10 +120,10 @@ pub fn run_beside<N: Name + Send + Sync, R: Threads + Wait + Sync, C: Courier + 
     requires lanes { vec_len lanes ≤ length seats.old }
     requires ready { All IsReady jobs.now }
     ensures lanes { AfterLanes at lanes.items seats.old seats.new }
-    ensures reports { IfOk result (λ reports. AreReportsOf jobs.now reports.items) }
+    ensures reports { IfOk result (λ reports. AllZip (IsSendingOf C.answers) jobs.now reports.items) }
 {
     if lanes.is_empty() {
-        return run_jobs(rt, alloc, couriers, jobs);
+        return send_jobs(rt, alloc, couriers, jobs);
     }
     let (taken, _others) = seats.split_at_mut(lanes.len());
     take_seats(taken, lanes);
@@ -128,7 +131,7 @@ pub fn run_beside<N: Name + Send + Sync, R: Threads + Wait + Sync, C: Courier + 
 }
 
 /// Runs the lanes in these seats, of which there is one at least, beside the couriers.
-fn share<N: Name + Send + Sync, R: Threads + Wait + Sync, C: Courier + Send>(
+fn share<N: Name + Send + Sync, R: Threads + Wait + Sync, C: Answering + Send>(
     rt: &R,
     alloc: Global,
     desk: &Desk<N>,
@@ -140,7 +143,7 @@ fn share<N: Name + Send + Sync, R: Threads + Wait + Sync, C: Courier + Send>(
     requires seats { 0 < length seats.old }
     requires ready { All IsReady jobs.now }
     ensures lanes { AllRan at seats.old seats.new }
-    ensures reports { IfOk result (λ reports. AreReportsOf jobs.now reports.items) }
+    ensures reports { IfOk result (λ reports. AllZip (IsSendingOf C.answers) jobs.now reports.items) }
 {
     let (_, reports) = join_mut(
         rt,
@@ -150,8 +153,8 @@ fn share<N: Name + Send + Sync, R: Threads + Wait + Sync, C: Courier + Send>(
         { run_lanes(rt, alloc, desk, at, seats) },
         &mut ||
             requires { All IsReady jobs.now }
-            ensures { IfOk result (λ reports. AreReportsOf jobs.entry.now reports.items) }
-        { run_jobs(rt, alloc, couriers, jobs) },
+            ensures { IfOk result (λ reports. AllZip (IsSendingOf C.answers) jobs.entry.now reports.items) }
+        { send_jobs(rt, alloc, couriers, jobs) },
     );
     reports
 }

@@ -1,6 +1,8 @@
-//! Worked runs: the definitions, run on them; and the limits of a scenario, as they are meant.
+//! Worked runs: the definitions, run on them; what scripts determine; and the limits of a scenario,
+//! as they are meant.
 ghost use Rattle.std.specs.Prelude.{◌≡◌};
 ghost use Rattle.am_scenario.specs.FirstRun.{FirstIsLegal, FirstIsTold};
+ghost use Rattle.am_scenario.specs.Laws.{ScriptsDetermineReports};
 ghost use Rattle.am_scenario.specs.declared.run.TheConstants.{BOARD_ID};
 ghost use Rattle.am_scenario.specs.declared.scenario.TheConstants.{MAX_LANES};
 
@@ -9,6 +11,12 @@ ghost use Rattle.am_scenario.specs.declared.scenario.TheConstants.{MAX_LANES};
 pub fn first_run_is_told()
     ensures legal { FirstIsLegal }
     ensures told { FirstIsTold }
+{}
+
+/// The scripts of a scenario determine the reports on notices that are sent from one moment on: two
+/// lists of such reports are one. It does nothing: what it says is its contract.
+pub fn scripts_determine_reports()
+    ensures { ScriptsDetermineReports }
 {}
 
 /// How many lanes a phase may have, and the id of the desk.

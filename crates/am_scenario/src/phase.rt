@@ -6,14 +6,16 @@ ghost use Rattle.am_desk.specs.Desks.{AreFresh, Stands};
 ghost use Rattle.am_desk.specs.History.{made};
 ghost use Rattle.am_desk.specs.Terms.{terms_of};
 ghost use Rattle.am_scenario.specs.Seats.{HaveMade, MadeLanes, NoneRefused, passes_in};
-ghost use Rattle.am_scenario.specs.Steps.{Begins, Finishes, FinishesOne, HadTurns, MadeOnly, NotesAny, NotesAt, NotesOf, Sends};
+ghost use Rattle.am_scenario.specs.Steps.{Begins, Finishes, FinishesOne, HadNone, MadeOnly, NotesAny, NotesAt, NotesOf, Sends};
 ghost use Rattle.am_scenario.specs.Steps.{TookTurn, opened_of, recorded_all};
 ghost use Rattle.am_scenario.specs.Troubles.{AreNone};
-ghost use Rattle.am_scenario.specs.Turns.{IsSentFrom, to_send};
+ghost use Rattle.am_scenario.specs.Sendings.{IsFed, IsSentFrom};
+ghost use Rattle.am_scenario.specs.Turns.{to_send};
 
+use crate::courier::Answering;
 use crate::lane::{Seat, run_beside, seats_for};
 use crate::scenario::{Lane, Phase};
-use crate::sending::{end_on, jobs_of, last_end};
+use crate::sending::{are_fed, end_on, jobs_of, last_end};
 use crate::trouble::{Refused, Troubles};
 use am_board::begin::Begun;
 use am_board::config::MAX_HISTORY;
@@ -22,7 +24,7 @@ use am_board::notice::Report;
 use am_cli::fault::{InputFault, Word};
 use am_cli::place::Place;
 use am_desk::{CloseFault, Closed, Desk, Name, NotOpen, OwnTicket, Pass};
-use am_pool::{Courier, PoolFault};
+use am_pool::PoolFault;
 use am_retry::Outcome;
 use std::alloc::Global;
 use std::sync::Wait;
@@ -52,7 +54,7 @@ impl<N: Name + Send + Sync> Run<N> {
     pub fn new(alloc: Global, desk: Desk<N>, passes: Vec<Pass<N>>) -> Result<Run<N>, InputFault>
         requires { AreFresh 0 passes.items × (vec_len passes ≡ N.plan.passes) × (0 < N.plan.passes) }
         ensures lanes { IfOk result (λ run. HaveMade 0 [] (lanes_of run)) }
-        ensures main { IfOk result (λ run. HadTurns [] run.main run.reports.items) }
+        ensures main { IfOk result (λ run. HadNone run.main run.reports.items) }
     {
         Run::seated(alloc, desk, passes)
     }
@@ -63,7 +65,7 @@ impl<N: Name + Send + Sync> Run<N> {
         ensures numbers { IfOk result (λ run. (run.main.number ≡ 0)
             × (map (λ s. s.pass.number) run.seats.items ≡ range_with_len 1 (vec_len run.seats))) }
         ensures lanes { IfOk result (λ run. HaveMade 0 [] (lanes_of run)) }
-        ensures main { IfOk result (λ run. HadTurns [] run.main run.reports.items) }
+        ensures main { IfOk result (λ run. HadNone run.main run.reports.items) }
     {
         let main = passes.remove(0);
         let seats = seats_for(alloc, &mut passes)?;
@@ -101,7 +103,7 @@ impl<N: Name + Send + Sync> Run<N> {
 
     /// Runs the phase of this index, with couriers for its notices. All flushes that it begins are
     /// finished, whatever happens; where a begin is refused, with nothing recorded.
-    pub fn run_phase<R: Threads + Wait + Sync, C: Courier + Send>(
+    pub fn run_phase<R: Threads + Wait + Sync, C: Answering + Send>(
         &mut self,
         rt: &R,
         couriers: &mut [C],
@@ -110,7 +112,7 @@ impl<N: Name + Send + Sync> Run<N> {
     ) -> Result<(), InputFault>
         requires { vec_len phase.lanes < N.plan.passes }
         ensures lanes { OnOk result (MadeLanes phase.at phase.lanes.items (lanes_of self.old) (lanes_of self.new)) }
-        ensures turn { OnOk result (TookTurn phase self.old.main self.new.main self.old.reports.items self.new.reports.items) }
+        ensures turn { OnOk result (TookTurn C.answers phase self.old.main self.new.main self.old.reports.items self.new.reports.items) }
     {
         let Phase { at, flush, lanes } = phase;
         let mut tickets = Vec::new(self.alloc);
@@ -168,7 +170,7 @@ impl<N: Name + Send + Sync> Run<N> {
 
     /// Runs the lanes, sends the notices and settles what was sent; does nothing where something has
     /// gone wrong. Answers the reports, by ticket and integration.
-    fn send_all<R: Threads + Wait + Sync, C: Courier + Send>(
+    fn send_all<R: Threads + Wait + Sync, C: Answering + Send>(
         &mut self,
         rt: &R,
         couriers: &mut [C],
@@ -181,7 +183,7 @@ impl<N: Name + Send + Sync> Run<N> {
         ensures lanes { RunsLanes at lanes.items self.old self.new }
         ensures reports { self.new.reports ≡ self.old.reports }
         ensures sent { AreNone self.new.troubles
-            → Sends at result.items tickets.old.items tickets.new.items self.old.main self.new.main }
+            → Sends C.answers at result.items tickets.old.items tickets.new.items self.old.main self.new.main }
     {
         if !self.troubles.are_none() {
             return Vec::new(self.alloc);
@@ -193,7 +195,7 @@ impl<N: Name + Send + Sync> Run<N> {
 
     /// Runs the lanes, and sends beside them the notices that have something to send. Answers the
     /// reports, by ticket and integration.
-    fn run_beside<R: Threads + Wait + Sync, C: Courier + Send>(
+    fn run_beside<R: Threads + Wait + Sync, C: Answering + Send>(
         &mut self,
         rt: &R,
         couriers: &mut [C],
@@ -206,7 +208,7 @@ impl<N: Name + Send + Sync> Run<N> {
         ensures lanes { RunsLanes at lanes.items self.old self.new }
         ensures rests { Rests self.old self.new }
         ensures sent { AreNone self.new.troubles
-            → AllZip (IsSentFrom at) (to_send (map opened_of tickets.now)) result.items }
+            → AllZip (IsSentFrom C.answers at) (to_send (map opened_of tickets.now)) result.items }
     {
         let Ok(jobs) = jobs_of(self.alloc, tickets, at) else {
             self.troubles.add_no_memory();
@@ -231,13 +233,11 @@ impl<N: Name + Send + Sync> Run<N> {
         ensures keeps { Keeps self.old self.new }
         ensures rests { Rests self.old self.new }
         ensures heard { AreNone self.new.troubles → sent ≡ Ok result }
+        ensures fed { AreNone self.new.troubles → All IsFed result.items }
     {
         match sent {
             Ok(reports) => {
-                if reports
-                    .iter()
-                    .any(|report| report.outcome == Outcome::Starved)
-                {
+                if !are_fed(reports.as_slice()) {
                     self.troubles.add_no_memory();
                 }
                 reports

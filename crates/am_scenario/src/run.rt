@@ -8,7 +8,7 @@ ghost use Rattle.am_scenario.specs.Told.{IsScenarioIn};
 ghost use Rattle.am_scenario.specs.declared.run.TheConstants.{BOARD_ID};
 ghost use Rattle.am_scenario.specs.declared.scenario.TheConstants.{MAX_LANES};
 
-use crate::courier::couriers_for;
+use crate::courier::{Scripts, couriers_for};
 use crate::fault::RunFault;
 use crate::phase::Run;
 use crate::report::report_text;
@@ -82,7 +82,9 @@ fn read(alloc: Global, input: &[u8]) -> Result<Scenario, InputFault>
 /// pass i + 1 in the history are just those of lane i, phase after phase, in their order, each at
 /// the moment of its phase. The pass 0 is the main thread's. In each phase it begins flushes at the
 /// phase's moment, if it is to, notes successes, each at the end of its sending, and finishes each
-/// flush when the sending of all its notices was over; it makes no other calls.
+/// flush when the sending of all its notices was over; it makes no other calls. Attempt k of a notice
+/// is answered by the k-th item of the first script for it, or by the last; so the scripts determine
+/// the reports.
 ///
 /// Refused with the place and the cause, as `run_scenario` tells them, where the configuration or a
 /// call is refused or memory is.
@@ -94,11 +96,12 @@ pub fn play_scenario<R: Threads + Wait + Sync>(
     ensures { IfOk result (λ text. IsPlayOf BOARD_ID scenario (string_bytes text)) }
 {
     let blank = blank_for(alloc, scenario.phases.as_slice())?;
-    play_on::<Brand, R>(rt, alloc, scenario, blank)
+    play_on::<Brand, Brand, R>(rt, alloc, scenario, blank)
 }
 
-/// Plays a scenario on the desk of this name, and makes its report.
-fn play_on<N: Name + Send + Sync, R: Threads + Wait + Sync>(
+/// Plays a scenario on the desk of this name, with couriers of the scripts of this name, and makes its
+/// report.
+fn play_on<N: Name + Send + Sync, S: Scripts + Send, R: Threads + Wait + Sync>(
     rt: &R,
     alloc: Global,
     scenario: Scenario,
@@ -106,6 +109,7 @@ fn play_on<N: Name + Send + Sync, R: Threads + Wait + Sync>(
 ) -> Result<String, InputFault>
     requires name { (blank ≡ N.plan) × (terms scenario.config blank.id ≡ N.terms) }
     requires id { blank.id ≡ BOARD_ID }
+    requires scripts { scenario.scripts.items ≡ S.scripts }
     requires lanes { All (λ p. vec_len p.lanes < blank.passes) scenario.phases.items }
     ensures { IfOk result (λ text. IsPlayOf BOARD_ID scenario (string_bytes text)) }
 {
@@ -116,7 +120,7 @@ fn play_on<N: Name + Send + Sync, R: Threads + Wait + Sync>(
         phases,
     } = scenario;
     let (desk, passes) = open::<N>(alloc, config, blank)?;
-    let mut couriers = couriers_for(alloc, workers, scripts.as_slice())?;
+    let mut couriers = couriers_for::<S>(alloc, workers, scripts.as_slice())?;
     let mut run = Run::new(alloc, desk, passes)?;
     for (index, phase) in phases.into_iter().enumerate() {
         run.run_phase(rt, couriers.as_mut_slice(), index, phase)?;

@@ -1,14 +1,21 @@
 //! The sending of notices.
-ghost use Rattle.std.specs.Prelude.{◌≡◌, ◌≤◌, ◌++◌, All, IfOk, OnOk, map};
+ghost use Rattle.std.specs.Prelude.{◌≡◌, ◌≤◌, ◌++◌, All, IfOk, IsTrue, OnOk, map};
 ghost use Rattle.am_alerts.specs.declared.limits.TheConstants.{MAX_MOMENT};
+ghost use Rattle.std.specs.List.{AllZip};
+ghost use Rattle.am_pool.specs.Delivery.{is_starved};
 ghost use Rattle.am_pool.specs.Work.{IsReady};
+ghost use Rattle.am_scenario.specs.Sendings.{IsFed, IsSendingOf};
 ghost use Rattle.am_scenario.specs.Steps.{StartsAt, end_on, notices_of, opened_of};
 ghost use Rattle.am_scenario.specs.Turns.{last_end, report_on, reports_on, sendable, to_send};
 
+use crate::courier::Answering;
 use am_board::notice::{Notice, Report};
 use am_desk::{Name, OwnTicket};
-use am_pool::Job;
+use am_pool::{Job, PoolFault, run_jobs};
+use am_retry::Outcome;
 use std::alloc::{AllocError, Global};
+use std::sync::Wait;
+use std::thread::Threads;
 
 /// The notices of these tickets that have something to send, by ticket and integration, each to be
 /// sent from the moment `at` on.
@@ -44,6 +51,47 @@ fn add_jobs<'t>(notices: &'t [Notice], at: u64, jobs: &mut Vec<Job<'t>>) -> Resu
         }
     }
     Ok(())
+}
+
+/// Sends the notice of each job once, by couriers of whom it is known how they answer.
+pub fn send_jobs<R: Threads + Wait + Sync, C: Answering + Send>(
+    rt: &R,
+    alloc: Global,
+    couriers: &mut [C],
+    jobs: &[Job<'_>],
+) -> Result<Vec<Report>, PoolFault>
+    requires ready { All IsReady jobs.now }
+    ensures { IfOk result (λ reports. AllZip (IsSendingOf C.answers) jobs.now reports.items) }
+{
+    let sent = run_jobs(rt, alloc, couriers, jobs);
+    know_tries(couriers);
+    sent
+}
+
+/// Each of these couriers has made no tries but those that it may make. It does nothing: what it says
+/// is its contract.
+fn know_tries<C: Answering>(couriers: &[C])
+    ensures { All (λ c. All C.answers (C.tries c)) couriers.now }
+{
+    let _ = couriers;
+}
+
+/// Whether no attempt that was due lacked memory.
+pub fn are_fed(reports: &[Report]) -> bool
+    ensures { IsTrue result → All IsFed reports.now }
+{
+    for report in reports {
+        if is_starved(report) {
+            return false;
+        }
+    }
+    true
+}
+
+fn is_starved(report: &Report) -> bool
+    ensures { result ≡ is_starved report.now.outcome }
+{
+    report.outcome == Outcome::Starved
 }
 
 /// When the sending of a ticket's notice for an integration was over, which started at `at`.

@@ -2,11 +2,13 @@
 ghost use Rattle.std.specs.Prelude.{◌≡◌, Some, IfOk};
 ghost use Rattle.serde_json.specs.Find.{as_str};
 ghost use Rattle.serde_json.specs.View.{view};
+ghost use Rattle.am_scenario.specs.Scripts.{answer_to, at_once, sent_at};
 ghost use Rattle.am_scenario.specs.Told.{answer_text};
 
 use am_alerts::limits::MAX_DURATION;
 use am_cli::fault::{InputFault, Word};
 use am_cli::reader::{FromJson, Reader};
+use am_pool::Sent;
 use am_retry::Answer;
 
 /// The answers to the attempts of one notice, in their order. The last one is that of all attempts
@@ -28,7 +30,9 @@ pub struct Planned {
 
 impl Script {
     /// The answer to the attempt of this number, from 1.
-    pub fn answer_to(&self, attempt: u64) -> Planned {
+    pub fn answer_to(&self, attempt: u64) -> Planned
+        ensures { result ≡ answer_to attempt self.now.answers.items }
+    {
         let answers = self.answers.as_slice();
         match (
             answers.get(attempt.saturating_sub(1) as usize),
@@ -42,10 +46,22 @@ impl Script {
 
 impl Planned {
     /// Done, in no time.
-    pub fn at_once() -> Planned {
+    pub fn at_once() -> Planned
+        ensures { result ≡ at_once }
+    {
         Planned {
             answer: Answer::Done,
             lasts: 0,
+        }
+    }
+
+    /// How an attempt at `at` goes.
+    pub fn sent_at(self, at: u64) -> Sent
+        ensures { result ≡ sent_at at self }
+    {
+        Sent {
+            answer: self.answer,
+            ended: at.saturating_add(self.lasts),
         }
     }
 }

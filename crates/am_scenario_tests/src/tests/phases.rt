@@ -1,4 +1,4 @@
-ghost use Rattle.std.specs.Prelude.{◌≡◌, ◌<◌, All, vec_len};
+ghost use Rattle.std.specs.Prelude.{◌≡◌, ◌<◌, ⊤, All, vec_len};
 ghost use Rattle.am_desk.specs.Terms.{terms};
 
 use super::*;
@@ -9,7 +9,7 @@ use am_cli::fault::InputFault;
 use am_desk::{Blank, Brand, Closed, Name};
 use am_pool::{Courier, Journal, Sent, Tried};
 use am_retry::Answer;
-use am_scenario::courier::couriers_for;
+use am_scenario::courier::{Answering, Scripts, couriers_for};
 use am_scenario::phase::Run;
 use am_scenario::run::{blank_for, open};
 use am_scenario::scenario::{Phase, Scenario, read_scenario};
@@ -41,9 +41,15 @@ impl Courier for Exhausted {
     }
 }
 
+impl Answering for Exhausted {
+    ghost answers = { λ _. ⊤ };
+
+    ghost answered = { λ _ _ _ _. tt };
+}
+
 /// What a run of the phases up to the first that ends with a fault leaves: that fault, and the closed
 /// desk.
-fn run_until_fault<N: Name + Send + Sync, R: Threads + Wait + Sync, C: Courier + Send>(
+fn run_until_fault<N: Name + Send + Sync, R: Threads + Wait + Sync, C: Answering + Send>(
     rt: &R,
     alloc: Global,
     config: Config,
@@ -78,16 +84,31 @@ pub fn play<R: AllocGlobal + Threads + Wait + Sync>(
     text: &str,
 ) -> Result<(Option<InputFault>, Closed), Fail> {
     let alloc = rt.alloc();
+    let scenario = read(alloc, text)?;
+    let blank = blank_for(alloc, scenario.phases.as_slice())?;
+    Ok(play_on::<Brand, Brand, R>(rt, alloc, scenario, blank)?)
+}
+
+/// A run of a scenario on the desk of this name, with couriers of the scripts of this name.
+fn play_on<N: Name + Send + Sync, S: Scripts + Send, R: Threads + Wait + Sync>(
+    rt: &R,
+    alloc: Global,
+    scenario: Scenario,
+    blank: Blank,
+) -> Result<(Option<InputFault>, Closed), InputFault>
+    requires name { (blank ≡ N.plan) × (terms scenario.config blank.id ≡ N.terms) }
+    requires scripts { scenario.scripts.items ≡ S.scripts }
+    requires lanes { All (λ p. vec_len p.lanes < blank.passes) scenario.phases.items }
+{
     let Scenario {
         config,
         workers,
         scripts,
         phases,
-    } = read(alloc, text)?;
-    let blank = blank_for(alloc, phases.as_slice())?;
-    let mut couriers = couriers_for(alloc, workers, scripts.as_slice())?;
+    } = scenario;
+    let mut couriers = couriers_for::<S>(alloc, workers, scripts.as_slice())?;
     let couriers = couriers.as_mut_slice();
-    Ok(run_until_fault::<Brand, R, _>(rt, alloc, config, blank, couriers, phases)?)
+    run_until_fault::<N, R, _>(rt, alloc, config, blank, couriers, phases)
 }
 
 /// Whether the last call of a run finished a flush of which nothing was recorded.

@@ -8,16 +8,20 @@ use Rattle.am_model.specs.declared.config.Config.{Config}
 use Rattle.am_model.specs.declared.notice.Report.{Report}
 use Rattle.am_model.specs.Replay.{IsLegal}
 use Rattle.am_desk.proofs.Crossing.{every}
+use Rattle.am_desk.specs.History.{own}
 use Rattle.am_desk.specs.Plans.{Plan}
 use Rattle.am_desk.specs.declared.word.Terms.{Terms}
 use Rattle.am_trail.proofs.trail.Trail.TheSendSync as trail
 use Rattle.am_scenario.specs.Report.{report_text}
 use Rattle.am_scenario.specs.Runs.{lanes_of}
+use Rattle.am_scenario.specs.Scripts.{IsAsPlanned}
 use Rattle.am_scenario.specs.Seats.{HaveMade}
 use Rattle.am_scenario.specs.Steps.{HadTurns}
+use Rattle.am_scenario.specs.Turns.{AreTurnsOf}
 use Rattle.am_scenario.specs.declared.lane.Seat.{Seat}
 use Rattle.am_scenario.specs.declared.run.TheConstants.{BOARD_ID}
 use Rattle.am_scenario.specs.declared.scenario.Phase.{Phase}
+use Rattle.am_scenario.specs.declared.scenario.script.Script.{Script}
 use Rattle.am_scenario.proofs.Crossing.{script_sync}
 use Rattle.am_scenario.proofs.Lanes.{numbered}
 use Rattle.am_scenario.proofs.Phases.{all_played, of_source, turn_made}
@@ -45,7 +49,7 @@ loop-index-preserved g c =
     let is = c.run_phase.new.self in
     record {
       lanes = turn_made ls n m c.in-Some.phase (lanes_of was) (lanes_of is) next at.0 at.2 c.loop-index.invariant.lanes c.in_ok-run_phase.ensures.lanes;
-      main = turn_next ls n m c.in-Some.phase was.main is.main was.reports.items is.reports.items next at.0 at.2 c.loop-index.invariant.main c.in_ok-run_phase.ensures.turn;
+      main = turn_next (IsAsPlanned g.S.Scripts.scripts) ls n m c.in-Some.phase was.main is.main was.reports.items is.reports.items next at.0 at.2 c.loop-index.invariant.main c.in_ok-run_phase.ensures.turn;
     }
 
 pub returns : goal.returns
@@ -67,9 +71,10 @@ returns g c =
     let id : closed.id ≡ BOARD_ID = ap (λ (t : Terms). t.id) terms ∙ c.requires.id in
     let passes = ap (λ (p : Plan). p.passes) c.requires.name.0 in
     let reports : c.as_slice-2.result.now ≡ run.reports.items = c.as_slice-2.ensures.value ∙ ap (λ v. v.items) c.in_ok-closed.ensures.reports in
-    let had : HadTurns ls run.main c.as_slice-2.result.now =
-    subst (λ (rs : List Report). HadTurns ls run.main rs) (sym reports)
-    (subst (λ (xs : List Phase). HadTurns xs run.main run.reports.items) (take_all n ls (omega (arith, end.1, length-enumerate_from 0 ls))) c.loop-index.invariant.main)
+    let answers = IsAsPlanned g.S.Scripts.scripts in
+    let had : HadTurns answers ls run.main c.as_slice-2.result.now =
+    subst (λ (rs : List Report). HadTurns answers ls run.main rs) (sym reports)
+    (subst (λ (xs : List Phase). HadTurns answers xs run.main run.reports.items) (take_all n ls (omega (arith, end.1, length-enumerate_from 0 ls))) c.loop-index.invariant.main)
     in
     record {
       history = closed.history;
@@ -88,5 +93,7 @@ returns g c =
             few = c.requires.lanes;
             seated = omega (arith, passes, run.seated, run.seats.ok.0, length-map run.seats.items (λ (s : Seat g.row.N.Denot). s.pass));
           };
-      main = turns_stand ls run.main c.as_slice-2.result.now closed.history had c.in_ok-closed.ensures.main;
+      main =
+          subst (λ (scripts : List Script). AreTurnsOf (IsAsPlanned scripts) ls (own 0 closed.history) c.as_slice-2.result.now) (sym c.requires.scripts)
+          (turns_stand answers ls run.main c.as_slice-2.result.now closed.history had c.in_ok-closed.ensures.main);
     }

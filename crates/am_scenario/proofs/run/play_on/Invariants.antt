@@ -1,5 +1,6 @@
 use Rattle.std.proofs.Common.{length, take}
 use Rattle.am_scenario.specs.Runs.{lanes_of}
+use Rattle.am_scenario.specs.Scripts.{IsAsPlanned}
 use Rattle.am_scenario.specs.Seats.{HaveMade}
 use Rattle.am_scenario.specs.Steps.{HadTurns}
 use Rattle.am_scenario.proofs.run.play_on.Given as goal
@@ -8,5 +9,5 @@ use Rattle.am_scenario.proofs.run.play_on.Given as goal
 abbrev pub invariant-loop-index : goal.invariant-loop-index
 invariant-loop-index g l = record {
   lanes : HaveMade 0 (take (length l.yielded) l.fn.scenario.phases.items) (lanes_of l.run);
-  main : HadTurns (take (length l.yielded) l.fn.scenario.phases.items) l.run.main l.run.reports.items;
+  main : HadTurns (IsAsPlanned g.S.Scripts.scripts) (take (length l.yielded) l.fn.scenario.phases.items) l.run.main l.run.reports.items;
 }

@@ -10,6 +10,7 @@ use Rattle.am_scenario.proofs.phase.Run.run_phase.Goals.{then-flush, else-flush}
 
 pub returns-clause-turn : goal.returns-clause-turn
 returns-clause-turn g c =
+    let answers = g.C.Answering.answers in
     let phase = c.args.phase in
     let was = c.args.self.now in
     let p : Seen = was.main in
@@ -36,12 +37,12 @@ returns-clause-turn g c =
       | else-flush w ↦ ap (λ x. x.reports) w.self-is
     ]
     in
-    if_ok c.verdict.result (TookTurn phase p c.keep.new.self.main was.reports.items since)
+    if_ok c.verdict.result (TookTurn answers phase p c.keep.new.self.main was.reports.items since)
     (λ (ok : IsOk c.verdict.result).
     let more = c.keep.ensures.more (c.verdict.ensures.0 ok) in
     let finish = c.finish_all.ensures in
-    let sends : Sends phase.at reports ts us q r = c.send_all-reports.ensures.sent (finish.keeps.2 more.0) in
+    let sends : Sends answers phase.at reports ts us q r = c.send_all-reports.ensures.sent (finish.keeps.2 more.0) in
     let finishes : Finishes phase.at reports us r s = subst (λ (rs : List Report). Finishes phase.at rs us r s) c.as_slice.ensures.value (finish.finished more.0) in
     let same : c.finish_all.new.self.reports.items ≡ was.reports.items = ap (λ v. v.items) (finish.keeps.1 ∙ (c.send_all-reports.ensures.reports ∙ kept)) in
     let now : since ≡ was.reports.items ++ reports = more.1 ∙ (ap (λ (rs : List Report). rs ++ c.as_slice-2.result.now) same ∙ ap (λ (rs : List Report). was.reports.items ++ rs) c.as_slice-2.ensures.value) in
-    subst (λ (x : Seen). TookTurn phase p x was.reports.items since) (sym c.keep.ensures.main) (turn_taken phase p q r s ts us was.reports.items reports since begins sends finishes now))
+    subst (λ (x : Seen). TookTurn answers phase p x was.reports.items since) (sym c.keep.ensures.main) (turn_taken answers phase p q r s ts us was.reports.items reports since begins sends finishes now))

@@ -6,7 +6,7 @@ use Rattle.am_scenario.specs.Seats.{HaveMade}
 use Rattle.am_scenario.specs.declared.lane.Seat.{Seat}
 use Rattle.am_scenario.proofs.Calls.{fresh_made}
 use Rattle.am_scenario.proofs.Lanes.{first_fresh, fresh_numbers}
-use Rattle.am_scenario.proofs.Turns.{first_is_fresh, no_turns}
+use Rattle.am_scenario.proofs.Turns.{first_is_fresh, none_yet}
 use Rattle.am_scenario.proofs.phase.Run.seated.Goals as goal
 
 pub returns-clause-numbers : goal.returns-clause-numbers
@@ -35,4 +35,4 @@ pub returns-clause-main : goal.returns-clause-main
 returns-clause-main g c =
     let ps = c.args.passes.items in
     let some : 0 < length ps = omega (arith, c.requires, c.args.passes.ok.0) in
-    no_turns c.remove-main.result c.new.result.items (first_is_fresh 0 ps c.remove-main.result c.requires.0 some c.remove-main.ensures.value) c.new.ensures.items
+    none_yet c.remove-main.result c.new.result.items (first_is_fresh 0 ps c.remove-main.result c.requires.0 some c.remove-main.ensures.value) c.new.ensures.items

@@ -2,9 +2,11 @@ pub mod Faults
 pub mod Report
 pub mod Lanes
 pub mod Turns
+pub mod Parts
 pub mod Plays
 pub mod Seats
 pub mod Steps
+pub mod Beside
 pub mod Troubles
 pub mod Runs
 pub mod FirstRun

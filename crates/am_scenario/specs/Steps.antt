@@ -1,6 +1,7 @@
 -- What the steps of a phase do to the main thread's pass.
 use Rattle.std.specs.Prelude.{◌≡◌, ℕ, Bool, true, All, Contains, List, [], ◌∷◌, ◌++◌, map, slice_get, Option, Some, None}
 use Rattle.std.specs.List.{AllZip}
+use mathlib.Core.List.{IsPrefix}
 use Rattle.am_model.specs.Notice.{NoticeData}
 use Rattle.am_model.specs.Ticket.{TicketData, outcome_of}
 use Rattle.am_model.specs.declared.notice.Report.{Report}
@@ -21,9 +22,9 @@ StartsAt at job = job.start ≡ at
 abbrev pub notices_of : List Job → List NoticeData
 notices_of jobs = map (λ j. j.notice.now) jobs
 
--- a pass has made these records since, and no others
+-- a pass has made these records since, and no others; what it has seen begins with what it had seen
 abbrev pub MadeRecords : List Record → Seen → Seen → Type 0
-MadeRecords rs p q = (q.number ≡ p.number) × (own p.number q.log ≡ own p.number p.log ++ rs)
+MadeRecords rs p q = (q.number ≡ p.number) × (own p.number q.log ≡ own p.number p.log ++ rs) × IsPrefix p.log q.log
 
 -- a pass has made records of this kind since, and no others
 pub record MadeOnly (Kind : Record → Type 0) (p q : Seen) : Type 0 where

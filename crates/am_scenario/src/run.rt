@@ -82,7 +82,9 @@ fn read(alloc: Global, input: &[u8]) -> Result<Scenario, InputFault>
 /// pass i + 1 in the history are just those of lane i, phase after phase, in their order, each at
 /// the moment of its phase. The pass 0 is the main thread's. In each phase it begins flushes at the
 /// phase's moment, if it is to, notes successes, each at the end of its sending, and finishes each
-/// flush when the sending of all its notices was over; it makes no other calls.
+/// flush when the sending of all its notices was over; it makes no other calls. The history is made
+/// of a part for each phase, one after the other: its begins, then the calls of its lanes, then its
+/// notes and finishes. How the calls of two lanes of a phase stand to each other isn't said.
 ///
 /// Refused with the place and the cause, as `run_scenario` tells them, where the configuration or a
 /// call is refused or memory is.

@@ -50,13 +50,15 @@ phase_more i phases phase =
 
 pub phase_made : (i : ℕ) (phases : List Phase) (phase : Phase) (ls : List Lane) (ps qs : List Seen) → ((k : ℕ) → slice_get phase.lanes.items (i + k) ≡ slice_get ls k)
     → HaveMade i phases ps → MadeLanes phase.at ls ps qs → HaveMade i (phases ++ phase ∷ []) qs
-phase_made i phases phase [] [] qs there have since = subst (λ (xs : List Seen). HaveMade i (phases ++ phase ∷ []) xs) (sym since) tt
-phase_made i phases phase [] (p ∷ ps) qs there have since =
+phase_made i phases phase [] [] [] there have since = tt
+phase_made i phases phase [] [] (q ∷ qs) there have since = absurd since
+phase_made i phases phase [] (p ∷ ps) [] there have since = absurd since
+phase_made i phases phase [] (p ∷ ps) (q ∷ qs) there have since =
     let none : phase_calls i phase ≡ [] = ap (calls_at phase.at) (ap (slice_get phase.lanes.items) (omega arith) ∙ there 0) in
-    subst (λ (xs : List Seen). HaveMade i (phases ++ phase ∷ []) xs) (sym since) (
-      have.0,
-      have.1 ∙ sym (phase_more i phases phase ∙ (ap (λ (cs : List Call). lane_calls i phases ++ cs) none ∙ append-nil (lane_calls i phases))),
-      phase_made (i + 1) phases phase [] ps ps (λ k. ap (slice_get phase.lanes.items) (omega arith) ∙ there (suc k)) have.2 refl,
+    let now : calls_by (i + 1) q.log ≡ calls_by (i + 1) p.log ++ [] = subst (λ (n : ℕ). calls_by n q.log ≡ calls_by n p.log ++ []) have.0 since.0.1 in (
+      since.0.0 ∙ have.0,
+      now ∙ (ap (λ (cs : List Call). cs ++ []) have.1 ∙ sym (phase_more i phases phase ∙ ap (λ (cs : List Call). lane_calls i phases ++ cs) none)),
+      phase_made (i + 1) phases phase [] ps qs (λ k. ap (slice_get phase.lanes.items) (omega arith) ∙ there (suc k)) have.2 since.1,
     )
 phase_made i phases phase (l ∷ ls) [] qs there have since = absurd since
 phase_made i phases phase (l ∷ ls) (p ∷ ps) [] there have since = absurd since

@@ -10,4 +10,6 @@ pub mod Crossing
 pub mod Sendings
 pub mod Steps
 pub mod Turns
+pub mod Parts
+pub mod Meetings
 pub mod Written

@@ -4,7 +4,7 @@ use Rattle.std.specs.List.{AllZip}
 use Rattle.std.proofs.lemmas.List.{map-append, take_more}
 use Rattle.std.proofs.lemmas.List.Elements.{All-head, All-rest}
 use Rattle.am_desk.specs.Known.{Seen}
-use Rattle.am_scenario.proofs.Calls.{more_made}
+use Rattle.am_scenario.proofs.Calls.{more_made, none_made}
 use Rattle.am_scenario.specs.Lanes.{call_at}
 use Rattle.am_scenario.specs.Seats.{AfterLanes, AllRan, MadeCalls, passes_in}
 use Rattle.am_scenario.specs.declared.lane.Seat.{Seat}
@@ -27,10 +27,15 @@ abbrev tail : {X : Type 0} → List X → List X
 tail [] = []
 tail (x ∷ xs) = xs
 
+-- passes that are as they were made no calls
+pub none_since : (ps : List Seen) → AllZip (MadeCalls []) ps ps
+none_since [] = tt
+none_since (p ∷ ps) = (none_made p, none_since ps)
+
 -- the first seats had taken the calls of the lanes and were run, and the others stayed
 pub after_lanes : {N : Type 0} (at : ℕ) (lanes : List Lane) (front taken ran back : List (Seat N)) → passes_in taken ≡ passes_in front
     → map (λ (s : Seat N). s.calls) taken ≡ map (λ (l : Lane). l.calls) lanes → AllRan at taken ran → AfterLanes at lanes (front ++ back) (ran ++ back)
-after_lanes at [] [] [] [] back passes calls all none = refl
+after_lanes at [] [] [] [] back passes calls all none = none_since (passes_in back)
 after_lanes at [] [] [] (r ∷ rs) back passes calls all none = absurd all
 after_lanes at [] [] (t ∷ ts) ran back passes calls all none = absurd (omega (arith, ap length passes))
 after_lanes at [] (s ∷ ss) [] ran back passes calls all none = absurd (omega (arith, ap length passes))

@@ -1,5 +1,6 @@
 -- The records that the main thread's pass makes.
 use Rattle.std.proofs.Common.{◌≡◌, ℕ, Bool, true, All, subst, List, [], ◌∷◌, ◌++◌, ◌<◌, length, get_or, map, slice_get, Some, Option, refl, sym, ap, ◌∙◌, append_assoc}
+use mathlib.Core.List.{IsPrefix}
 use Rattle.std.specs.List.{Contains}
 use Rattle.std.proofs.lemmas.Grind.{flat_map-append}
 use Rattle.std.proofs.lemmas.List.{append-nil, map-append}
@@ -18,11 +19,12 @@ use Rattle.am_desk.specs.Calls.{Called, IsRefused}
 use Rattle.am_desk.specs.History.{own}
 use Rattle.am_desk.specs.Known.{Looks, Seen}
 use Rattle.am_desk.specs.declared.word.Terms.{Terms}
-use Rattle.am_scenario.specs.Steps.{Begins, IsUnrecorded, MadeOnly, MadeRecords, NotesAt, NotesOf, end_on, opened_of}
+use Rattle.am_desk.proofs.Prefixes.{prefix_self, prefix_snoc, prefix_trans}
+use Rattle.am_scenario.specs.Steps.{Begins, FinishesOne, IsUnrecorded, MadeOnly, MadeRecords, NotesAt, NotesOf, end_on, opened_of}
 use Rattle.am_scenario.specs.Turns.{Opened, opened_by, opened_in, report_on}
 
 pub no_records : (p : Seen) → MadeRecords [] p p
-no_records p = (refl, sym (append-nil (own p.number p.log)))
+no_records p = (refl, sym (append-nil (own p.number p.log)), prefix_self p.log)
 
 -- a pass that is as it was
 pub same_records : (p q : Seen) → q ≡ p → MadeRecords [] p q
@@ -30,11 +32,15 @@ same_records p q same = subst (λ (x : Seen). MadeRecords [] p x) (sym same) (no
 
 -- a pass that looked
 pub looked_records : (t : Terms) (p q : Seen) → Looks t p q → MadeRecords [] p q
-looked_records t p q looks = (ap (λ (s : Seen). s.number) looks.same, looks.own ∙ sym (append-nil (own p.number p.log)))
+looked_records t p q looks = (ap (λ (s : Seen). s.number) looks.same, looks.own ∙ sym (append-nil (own p.number p.log)), looks.begins)
 
 -- a pass whose call was accepted
 pub one_record : (t : Terms) (p q : Seen) (Allowed : List Record → Type 0) (r : Record) → Called t p Allowed r q → MadeRecords (r ∷ []) p q
-one_record t p q Allowed r c = (ap (λ (s : Seen). s.number) c.sees, c.own)
+one_record t p q Allowed r c = (
+  ap (λ (s : Seen). s.number) c.sees,
+  c.own,
+  subst (λ (s : Seen). IsPrefix p.log s.log) (sym c.sees) (prefix_snoc p.log c.found r c.begins),
+)
 
 -- what was made first, and what was made then
 pub more_records : (rs ss : List Record) (p q r : Seen) → MadeRecords rs p q → MadeRecords ss q r → MadeRecords (rs ++ ss) p r
@@ -42,6 +48,7 @@ more_records rs ss p q r first then =
     let same : own p.number r.log ≡ own p.number q.log ++ ss = subst (λ (n : ℕ). own n r.log ≡ own n q.log ++ ss) first.0 then.1 in (
       then.0 ∙ first.0,
       same ∙ (ap (λ (xs : List Record). xs ++ ss) first.1 ∙ append_assoc (own p.number p.log) rs ss),
+      prefix_trans p.log q.log r.log first.2 then.2,
     )
 
 -- a refused call makes none
@@ -55,6 +62,11 @@ refused_records t p q why fault.HistoryFull r = looked_records t p q r.0
 
 all_one : {X : Type 0} (P : X → Type 0) (x : X) → P x → All P (x ∷ [])
 all_one P x is = All-cons P x [] is (All-nil P)
+
+-- an accepted finish
+pub one_finish : (t : Terms) (p q : Seen) (Allowed : List Record → Type 0) (now : ℕ) (ticket : TicketData) (told : Reply)
+    → Called t p Allowed (entry p.number (call.Finish now ticket.number ticket.outcomes) told) q → FinishesOne now ticket p q
+one_finish t p q Allowed now ticket told called = (entry p.number (call.Finish now ticket.number ticket.outcomes) told, one_record t p q Allowed _ called, refl)
 
 pub only_more : (Kind : Record → Type 0) (p q r : Seen) → MadeOnly Kind p q → MadeOnly Kind q r → MadeOnly Kind p r
 only_more Kind p q r first then =
@@ -89,6 +101,18 @@ begins_flush at p q ts us t told more fresh one made =
       begun = all_one (λ (r : Record). (true ≡ true) × (r.call ≡ call.Begin at)) (entry p.number (call.Begin at) told) (refl, refl);
       opened = ap (map opened_of) more ∙ (map-append opened_of ts (t ∷ []) ∙ ap (λ (os : List Opened). map opened_of ts ++ (os ++ [])) (sym one));
       unrecorded = λ all. subst (λ (xs : List TicketData). All IsUnrecorded xs) (sym more) (All-append IsUnrecorded ts (t ∷ []) all (all_one IsUnrecorded t fresh));
+    }
+
+-- a begin that opens no flush
+pub begins_quiet : (at : ℕ) (p q : Seen) (ts us : List TicketData) (told : Reply) → us ≡ ts → opened_in told ≡ []
+    → MadeRecords (entry p.number (call.Begin at) told ∷ []) p q → Begins true at p q ts us
+begins_quiet at p q ts us told same none made =
+    record {
+      begins = entry p.number (call.Begin at) told ∷ [];
+      made = made;
+      begun = all_one (λ (r : Record). (true ≡ true) × (r.call ≡ call.Begin at)) (entry p.number (call.Begin at) told) (refl, refl);
+      opened = ap (map opened_of) same ∙ (sym (append-nil (map opened_of ts)) ∙ ap (λ (os : List Opened). map opened_of ts ++ (os ++ [])) (sym none));
+      unrecorded = subst (λ (xs : List TicketData). All IsUnrecorded ts → All IsUnrecorded xs) (sym same) (λ all. all);
     }
 
 -- begins that were asked for, where no ticket was there

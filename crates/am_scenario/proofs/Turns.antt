@@ -1,8 +1,9 @@
 -- The main thread's turns, from its steps.
 use Rattle.std.proofs.Common.{◌≡◌, ◌==◌, ◌&&◌, ℕ, Bool, true, false, ◌+◌, ◌<◌, cond, All, subst, List, [], ◌∷◌, ◌++◌, length, get_or, take, map, Some, None, Option, Result, Ok, Err, IsOk, OnOk, refl, sym, ap, ◌∙◌, arith}
+use mathlib.Core.List.{IsPrefix}
 use Rattle.std.specs.List.{AllZip, Contains, flat_map}
 use Rattle.std.proofs.lemmas.Grind.{flat_map-append}
-use Rattle.std.proofs.lemmas.List.{append-nil, get_or-map, length-map, take_more}
+use Rattle.std.proofs.lemmas.List.{append-nil, get_or-map, length-map}
 use Rattle.std.proofs.lemmas.List.Elements.{All-cons, All-head, All-nil, All-rest, All-weaker}
 use Rattle.am_retry.specs.declared.outcome.Outcome.{Outcome}
 use Rattle.am_model.specs.Ticket.{TicketData, outcome_of, recorded}
@@ -14,8 +15,9 @@ use Rattle.am_desk.specs.Desks.{AreFresh, Stands}
 use Rattle.am_desk.specs.History.{own}
 use Rattle.am_desk.specs.Known.{Seen, seen}
 use Rattle.am_pool.specs.declared.courier.Tried.{Tried}
+use Rattle.am_scenario.specs.Beside.{RanFirst, TookPart}
 use Rattle.am_scenario.specs.Sendings.{IsSentFrom}
-use Rattle.am_scenario.specs.Steps.{Begins, Finishes, HadNone, HadTurns, IsUnrecorded, MadeRecords, NotesAny, Sends, TookTurn, end_on, finish_with, opened_of, recorded_all}
+use Rattle.am_scenario.specs.Steps.{Begins, Finishes, HadTurns, IsUnrecorded, MadeRecords, NotesAny, Sends, TookTurn, end_on, finish_with, opened_of, recorded_all}
 use Rattle.am_scenario.specs.Turns.{AreTurnsOf, IsTurnOf, NotesOne, Opened, Turn, finish_of, last_end, note_on, opened_by, outcomes_told, records_in, report_on, reports_on, to_send}
 use Rattle.am_scenario.specs.declared.scenario.Phase.{Phase}
 use Rattle.am_scenario.proofs.Steps.{more_records}
@@ -133,14 +135,40 @@ turn_taken Answers phase p q r s ts us had reports since begins sends finishes m
       more = more;
     }
 
-zip_push : {A B : Type 0} (R : A → B → Type 0) (xs : List A) (ys : List B) (x : A) (y : B) → AllZip R xs ys → R x y → AllZip R (xs ++ x ∷ []) (ys ++ y ∷ [])
+-- a pass whose notes came after it had made no record
+notes_after : (q joined r : Seen) (notes : List Record) → MadeRecords [] q joined → IsPrefix joined.log r.log → MadeRecords notes q r → MadeRecords notes joined r
+notes_after q joined r notes quiet begins made = (
+  made.0 ∙ sym quiet.0,
+  subst (λ (n : ℕ). own n r.log ≡ own n joined.log ++ notes) (sym quiet.0)
+      (made.1 ∙ ap (λ (rs : List Record). rs ++ notes) (sym (quiet.1 ∙ append-nil (own q.number q.log)))),
+  begins,
+)
+
+-- the steps of a phase are a turn that has the lanes between its begins and its notes
+pub part_taken : (Answers : Tried → Type 0) (phase : Phase) (p q r s : Seen) (ls ms : List Seen) (ts us : List TicketData) (had reports since : List Report) → Begins phase.flush phase.at p q [] ts
+    → Sends Answers phase.at reports ts us q r → Finishes phase.at reports us r s → since ≡ had ++ reports → RanFirst q r ls ms → TookPart Answers phase p s ls ms had since
+unfolding turn_taken
+part_taken Answers phase p q r s ls ms ts us had reports since begins sends finishes more first =
+    let notes = sends.noted in
+    record {
+      took = turn_taken Answers phase p q r s ts us had reports since begins sends finishes more;
+      begun = q;
+      joined = first.joined;
+      begins = begins.made;
+      beside = first.ran;
+      ends =
+          more_records notes.records finishes.finishes first.joined r s (notes_after q first.joined r notes.records first.ran.quiet first.begins notes.made)
+          finishes.made;
+    }
+
+pub zip_push : {A B : Type 0} (R : A → B → Type 0) (xs : List A) (ys : List B) (x : A) (y : B) → AllZip R xs ys → R x y → AllZip R (xs ++ x ∷ []) (ys ++ y ∷ [])
 zip_push R [] [] x y all one = (one, tt)
 zip_push R [] (b ∷ ys) x y all one = absurd all
 zip_push R (a ∷ xs) [] x y all one = absurd all
 zip_push R (a ∷ xs) (b ∷ ys) x y all one = (all.0, zip_push R xs ys x y all.1 one)
 
 -- one turn more
-turn_more : (Answers : Tried → Type 0) (phases : List Phase) (phase : Phase) (p q : Seen) (reports since : List Report) → HadTurns Answers phases p reports → TookTurn Answers phase p q reports since
+pub turn_more : (Answers : Tried → Type 0) (phases : List Phase) (phase : Phase) (p q : Seen) (reports since : List Report) → HadTurns Answers phases p reports → TookTurn Answers phase p q reports since
     → HadTurns Answers (phases ++ phase ∷ []) q since
 turn_more Answers phases phase p q reports since had took =
     let turns = had.1.turns in
@@ -161,27 +189,37 @@ turn_more Answers phases phase p q reports since had took =
       },
     )
 
--- the turn of the next phase of a list
-pub turn_next : (Answers : Tried → Type 0) (phases : List Phase) (n m : ℕ) (phase : Phase) (p q : Seen) (reports since : List Report) → m ≡ n + 1 → n < length phases → phase ≡ get_or phases n phase
-    → HadTurns Answers (take n phases) p reports → TookTurn Answers phase p q reports since → HadTurns Answers (take m phases) q since
-turn_next Answers phases n m phase p q reports since next there is had took =
-    let longer : take m phases ≡ take n phases ++ phase ∷ [] =
-    ap (λ (k : ℕ). take k phases) next ∙ (take_more phases n phase there ∙ ap (λ (x : Phase). take n phases ++ x ∷ []) (sym is))
-    in
-    subst (λ (xs : List Phase). HadTurns Answers xs q since) (sym longer) (turn_more Answers (take n phases) phase p q reports since had took)
+-- it comes after the others
+pub turns_more : (Answers : Tried → Type 0) (phases : List Phase) (phase : Phase) (p q : Seen) (reports since : List Report) → (had : HadTurns Answers phases p reports)
+    → (took : TookTurn Answers phase p q reports since) → (turn_more Answers phases phase p q reports since had took).1.turns ≡ had.1.turns ++ took.turn ∷ []
+unfolding turn_more
+turns_more Answers phases phase p q reports since had took = refl
 
 -- the turns stand in a history in which the pass stands
 pub turns_stand : (Answers : Tried → Type 0) (phases : List Phase) (p : Seen) (reports : List Report) (history : List Record) → HadTurns Answers phases p reports → Stands p history
     → AreTurnsOf Answers phases (own 0 history) reports
 turns_stand Answers phases p reports history had stands =
-    subst (λ (rs : List Record). AreTurnsOf Answers phases rs reports) (sym (subst (λ (n : ℕ). own n history ≡ own n p.log) had.0 stands.1)) had.1
+    record {
+      turns = had.1.turns;
+      each = had.1.each;
+      made = subst (λ (n : ℕ). own n history ≡ own n p.log) had.0 stands.1 ∙ had.1.made;
+      told = had.1.told;
+    }
+
+pub turns_stay : (Answers : Tried → Type 0) (phases : List Phase) (p : Seen) (reports : List Report) (history : List Record) → (had : HadTurns Answers phases p reports)
+    → (stands : Stands p history) → (turns_stand Answers phases p reports history had stands).turns ≡ had.1.turns
+unfolding turns_stand
+turns_stay Answers phases p reports history had stands = refl
 
 -- a pass that has seen nothing had no turn
-pub none_yet : (p : Seen) (reports : List Report) → p ≡ seen 0 0 [] → reports ≡ [] → HadNone p reports
-none_yet p reports fresh none = (ap (λ (s : Seen). s.number) fresh, ap (λ (s : Seen). own 0 s.log) fresh, none)
+pub no_turns : (Answers : Tried → Type 0) (p : Seen) (reports : List Report) → p ≡ seen 0 0 [] → reports ≡ [] → HadTurns Answers [] p reports
+no_turns Answers p reports fresh none =
+    (ap (λ (s : Seen). s.number) fresh, record { turns = []; each = tt; made = ap (λ (s : Seen). own 0 s.log) fresh; told = none })
 
-pub no_turns : (Answers : Tried → Type 0) (p : Seen) (reports : List Report) → HadNone p reports → HadTurns Answers [] p reports
-no_turns Answers p reports none = (none.0, record { turns = []; each = tt; made = none.1; told = none.2 })
+pub turns_none : (Answers : Tried → Type 0) (p : Seen) (reports : List Report) → (fresh : p ≡ seen 0 0 []) → (none : reports ≡ [])
+    → (no_turns Answers p reports fresh none).1.turns ≡ []
+unfolding no_turns
+turns_none Answers p reports fresh none = refl
 
 -- the first of passes that have seen nothing
 pub first_is_fresh : (n : ℕ) (ps : List Seen) (p : Seen) → AreFresh n ps → 0 < length ps → p ≡ get_or ps 0 p → p ≡ seen n 0 []

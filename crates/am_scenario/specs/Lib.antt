@@ -4,9 +4,11 @@ pub mod Lanes
 pub mod Scripts
 pub mod Sendings
 pub mod Turns
+pub mod Parts
 pub mod Plays
 pub mod Seats
 pub mod Steps
+pub mod Beside
 pub mod Troubles
 pub mod Runs
 pub mod FirstRun

@@ -12,9 +12,9 @@ use Rattle.am_scenario.specs.declared.scenario.Phase.{Phase}
 abbrev pub MadeCalls : List Call → Seen → Seen → Type 0
 MadeCalls calls p q = (q.number ≡ p.number) × (calls_by p.number q.log ≡ calls_by p.number p.log ++ calls)
 
--- the first passes have made the calls of these lanes since, at this moment, each those of its lane, and the others are as they were
+-- the first passes have made the calls of these lanes since, at this moment, each those of its lane, and the others none
 abbrev pub MadeLanes : ℕ → List Lane → List Seen → List Seen → Type 0
-MadeLanes at [] ps qs = qs ≡ ps
+MadeLanes at [] ps qs = AllZip (MadeCalls []) ps qs
 MadeLanes at (l ∷ ls) [] qs = ⊥
 MadeLanes at (l ∷ ls) (p ∷ ps) [] = ⊥
 MadeLanes at (l ∷ ls) (p ∷ ps) (q ∷ qs) = MadeCalls (map (call_at at) l.calls.items) p q × MadeLanes at ls ps qs

@@ -1,6 +1,7 @@
 -- What the steps of a phase do to the main thread's pass.
 use Rattle.std.specs.Prelude.{◌≡◌, ℕ, Bool, true, All, Contains, List, [], ◌∷◌, ◌++◌, map, slice_get, Option, Some, None}
 use Rattle.std.specs.List.{AllZip}
+use mathlib.Core.List.{IsPrefix}
 use Rattle.am_model.specs.Notice.{NoticeData}
 use Rattle.am_model.specs.Ticket.{TicketData, outcome_of}
 use Rattle.am_model.specs.declared.notice.Report.{Report}
@@ -23,9 +24,9 @@ StartsAt at job = job.start ≡ at
 abbrev pub notices_of : List Job → List NoticeData
 notices_of jobs = map (λ j. j.notice.now) jobs
 
--- a pass has made these records since, and no others
+-- a pass has made these records since, and no others; what it has seen begins with what it had seen
 abbrev pub MadeRecords : List Record → Seen → Seen → Type 0
-MadeRecords rs p q = (q.number ≡ p.number) × (own p.number q.log ≡ own p.number p.log ++ rs)
+MadeRecords rs p q = (q.number ≡ p.number) × (own p.number q.log ≡ own p.number p.log ++ rs) × IsPrefix p.log q.log
 
 -- a pass has made records of this kind since, and no others
 pub record MadeOnly (Kind : Record → Type 0) (p q : Seen) : Type 0 where
@@ -99,10 +100,6 @@ pub record TookTurn (Answers : Tried → Type 0) (phase : Phase) (p q : Seen) (r
   pub is : IsTurnOf Answers phase turn
   pub made : MadeRecords (records_in turn) p q
   pub more : reports_since ≡ reports ++ turn.reports
-
--- the main thread's pass has had no turn, and there is no report
-abbrev pub HadNone : Seen → List Report → Type 0
-HadNone p reports = (p.number ≡ 0) × (own 0 p.log ≡ []) × (reports ≡ [])
 
 -- the main thread's pass has had its turns in these phases, and these are all reports
 abbrev pub HadTurns : (Tried → Type 0) → List Phase → Seen → List Report → Type 0

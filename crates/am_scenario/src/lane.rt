@@ -2,9 +2,11 @@
 ghost use Rattle.std.specs.Prelude.{◌≡◌, ◌<◌, ◌≤◌, ◌∷◌, [], All, IfOk, OnOk, length, map, take, vec_len};
 ghost use Rattle.std.specs.List.{AllZip};
 ghost use Rattle.am_pool.specs.Work.{IsReady};
+ghost use Rattle.am_scenario.specs.Beside.{Meets, MeetsAll};
 ghost use Rattle.am_scenario.specs.Lanes.{call_at};
-ghost use Rattle.am_scenario.specs.Seats.{AfterLanes, AllRan, MadeCalls, Ran};
+ghost use Rattle.am_scenario.specs.Seats.{AfterLanes, AllRan, MadeCalls, Ran, passes_in};
 ghost use Rattle.am_scenario.specs.Sendings.{IsSendingOf};
+ghost use Rattle.am_scenario.specs.Steps.{MadeRecords};
 
 use crate::courier::Answering;
 use crate::scenario::{Lane, LaneCall};
@@ -57,6 +59,13 @@ impl<N: Name> Seat<N> {
         pass
     }
 
+    /// Another pass meets the lane's: each of the two sees what the other has seen.
+    fn meet(&mut self, desk: &Desk<N>, other: &mut Pass<N>)
+        ensures { MadeRecords [] other.old other.new × Meets other.old other.new self.old.pass self.new.pass }
+    {
+        desk.meet(other, &mut self.pass);
+    }
+
     /// Takes the calls of a lane.
     fn take(&mut self, lane: Lane)
         ensures pass { self.new.pass ≡ self.old.pass }
@@ -103,6 +112,15 @@ pub fn take_seats<N: Name>(seats: &mut [Seat<N>], lanes: Vec<Lane>)
 {
     for (number, lane) in lanes.into_iter().enumerate() {
         seats[number].take(lane);
+    }
+}
+
+/// The main thread's pass meets those of the lanes, one after the other. It waits for nobody.
+pub fn meet_lanes<N: Name>(desk: &Desk<N>, main: &mut Pass<N>, seats: &mut [Seat<N>])
+    ensures { MeetsAll main.old main.new (passes_in seats.old) (passes_in seats.new) }
+{
+    for seat in seats.iter_mut() {
+        seat.meet(desk, main);
     }
 }
 

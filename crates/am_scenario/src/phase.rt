@@ -5,15 +5,16 @@ ghost use Rattle.am_alerts.specs.declared.limits.TheConstants.{MAX_MOMENT};
 ghost use Rattle.am_desk.specs.Desks.{AreFresh, Stands};
 ghost use Rattle.am_desk.specs.History.{made};
 ghost use Rattle.am_desk.specs.Terms.{terms_of};
+ghost use Rattle.am_scenario.specs.Beside.{HadNoParts, MeetsAll, RanBeside, RanFirst, TookPart};
 ghost use Rattle.am_scenario.specs.Seats.{HaveMade, MadeLanes, NoneRefused, passes_in};
-ghost use Rattle.am_scenario.specs.Steps.{Begins, Finishes, FinishesOne, HadNone, MadeOnly, NotesAny, NotesAt, NotesOf, Sends};
-ghost use Rattle.am_scenario.specs.Steps.{TookTurn, opened_of, recorded_all};
+ghost use Rattle.am_scenario.specs.Steps.{Begins, Finishes, FinishesOne, MadeOnly, NotesAny, NotesAt, NotesOf, Sends};
+ghost use Rattle.am_scenario.specs.Steps.{opened_of, recorded_all};
 ghost use Rattle.am_scenario.specs.Troubles.{AreNone};
 ghost use Rattle.am_scenario.specs.Sendings.{IsFed, IsSentFrom};
 ghost use Rattle.am_scenario.specs.Turns.{to_send};
 
 use crate::courier::Answering;
-use crate::lane::{Seat, run_beside, seats_for};
+use crate::lane::{Seat, meet_lanes, run_beside, seats_for};
 use crate::scenario::{Lane, Phase};
 use crate::sending::{are_fed, end_on, jobs_of, last_end};
 use crate::trouble::{Refused, Troubles};
@@ -54,7 +55,7 @@ impl<N: Name + Send + Sync> Run<N> {
     pub fn new(alloc: Global, desk: Desk<N>, passes: Vec<Pass<N>>) -> Result<Run<N>, InputFault>
         requires { AreFresh 0 passes.items × (vec_len passes ≡ N.plan.passes) × (0 < N.plan.passes) }
         ensures lanes { IfOk result (λ run. HaveMade 0 [] (lanes_of run)) }
-        ensures main { IfOk result (λ run. HadNone run.main run.reports.items) }
+        ensures main { IfOk result (λ run. HadNoParts run.main (lanes_of run) run.reports.items) }
     {
         Run::seated(alloc, desk, passes)
     }
@@ -65,7 +66,7 @@ impl<N: Name + Send + Sync> Run<N> {
         ensures numbers { IfOk result (λ run. (run.main.number ≡ 0)
             × (map (λ s. s.pass.number) run.seats.items ≡ range_with_len 1 (vec_len run.seats))) }
         ensures lanes { IfOk result (λ run. HaveMade 0 [] (lanes_of run)) }
-        ensures main { IfOk result (λ run. HadNone run.main run.reports.items) }
+        ensures main { IfOk result (λ run. HadNoParts run.main (lanes_of run) run.reports.items) }
     {
         let main = passes.remove(0);
         let seats = seats_for(alloc, &mut passes)?;
@@ -103,6 +104,8 @@ impl<N: Name + Send + Sync> Run<N> {
 
     /// Runs the phase of this index, with couriers for its notices. All flushes that it begins are
     /// finished, whatever happens; where a begin is refused, with nothing recorded.
+    ///
+    /// The calls of the lanes come after the begins, and before the notes and the finishes.
     pub fn run_phase<R: Threads + Wait + Sync, C: Answering + Send>(
         &mut self,
         rt: &R,
@@ -112,7 +115,8 @@ impl<N: Name + Send + Sync> Run<N> {
     ) -> Result<(), InputFault>
         requires { vec_len phase.lanes < N.plan.passes }
         ensures lanes { OnOk result (MadeLanes phase.at phase.lanes.items (lanes_of self.old) (lanes_of self.new)) }
-        ensures turn { OnOk result (TookTurn C.answers phase self.old.main self.new.main self.old.reports.items self.new.reports.items) }
+        ensures turn { OnOk result (TookPart C.answers phase self.old.main self.new.main (lanes_of self.old) (lanes_of self.new)
+            self.old.reports.items self.new.reports.items) }
     {
         let Phase { at, flush, lanes } = phase;
         let mut tickets = Vec::new(self.alloc);
@@ -182,6 +186,8 @@ impl<N: Name + Send + Sync> Run<N> {
         requires lanes { vec_len lanes < N.plan.passes }
         ensures lanes { RunsLanes at lanes.items self.old self.new }
         ensures reports { self.new.reports ≡ self.old.reports }
+        ensures beside { AreNone self.new.troubles
+            → RanFirst self.old.main self.new.main (lanes_of self.old) (lanes_of self.new) }
         ensures sent { AreNone self.new.troubles
             → Sends C.answers at result.items tickets.old.items tickets.new.items self.old.main self.new.main }
     {
@@ -195,6 +201,9 @@ impl<N: Name + Send + Sync> Run<N> {
 
     /// Runs the lanes, and sends beside them the notices that have something to send. Answers the
     /// reports, by ticket and integration.
+    ///
+    /// The main thread's pass meets those of the lanes before they start and when they are joined: so it
+    /// is known that their calls come after all that it has made, and before what it makes next.
     fn run_beside<R: Threads + Wait + Sync, C: Answering + Send>(
         &mut self,
         rt: &R,
@@ -206,7 +215,9 @@ impl<N: Name + Send + Sync> Run<N> {
         requires start { at ≤ MAX_MOMENT }
         requires lanes { vec_len lanes < N.plan.passes }
         ensures lanes { RunsLanes at lanes.items self.old self.new }
-        ensures rests { Rests self.old self.new }
+        ensures reports { self.new.reports ≡ self.old.reports }
+        ensures beside { AreNone self.new.troubles
+            → RanBeside self.old.main self.new.main (lanes_of self.old) (lanes_of self.new) }
         ensures sent { AreNone self.new.troubles
             → AllZip (IsSentFrom C.answers at) (to_send (map opened_of tickets.now)) result.items }
     {
@@ -214,17 +225,19 @@ impl<N: Name + Send + Sync> Run<N> {
             self.troubles.add_no_memory();
             return Vec::new(self.alloc);
         };
+        let seats = self.seats.as_mut_slice();
+        meet_lanes(&self.desk, &mut self.main, seats);
         let sent = run_beside(
             rt,
             self.alloc,
             &self.desk,
             at,
-            self.seats.as_mut_slice(),
+            seats,
             lanes,
             couriers,
             jobs.as_slice(),
         );
-        hear_lanes(self.seats.as_slice(), &mut self.troubles);
+        hear_joined(&self.desk, &mut self.main, seats, &mut self.troubles);
         self.hear_couriers(sent)
     }
 
@@ -351,6 +364,20 @@ impl<N: Name + Send + Sync> Run<N> {
             Err(NotOpen) => self.troubles.add(Refused::Ending),
         }
     }
+}
+
+/// The lanes are joined: their refused calls are added, and the main thread's pass meets theirs.
+fn hear_joined<N: Name>(
+    desk: &Desk<N>,
+    main: &mut Pass<N>,
+    seats: &mut [Seat<N>],
+    troubles: &mut Troubles,
+)
+    ensures heard { AreNone troubles.new → AreNone troubles.old × NoneRefused seats.old }
+    ensures met { MeetsAll main.old main.new (passes_in seats.old) (passes_in seats.new) }
+{
+    hear_lanes(seats, troubles);
+    meet_lanes(desk, main, seats);
 }
 
 /// Adds the refused calls of the lanes, by lane.

@@ -84,7 +84,9 @@ fn read(alloc: Global, input: &[u8]) -> Result<Scenario, InputFault>
 /// phase's moment, if it is to, notes successes, each at the end of its sending, and finishes each
 /// flush when the sending of all its notices was over; it makes no other calls. Attempt k of a notice
 /// is answered by the k-th item of the first script for it, or by the last; so the scripts determine
-/// the reports.
+/// the reports. The history is made of a part for each phase, one after the other: its begins, then
+/// the calls of its lanes, then its notes and finishes. How the calls of two lanes of a phase stand to
+/// each other isn't said.
 ///
 /// Refused with the place and the cause, as `run_scenario` tells them, where the configuration or a
 /// call is refused or memory is.

@@ -1,10 +1,19 @@
-use Rattle.std.proofs.Common.{◌≡◌, ◌∙◌, ◌++◌, List, length, map, sym, ap, subst, arith}
-use Rattle.std.proofs.lemmas.List.{length-map, take_all}
-use Rattle.am_scenario.specs.Seats.{AfterLanes}
+use Rattle.std.proofs.Common.{◌≡◌, ◌∙◌, [], ◌++◌, List, length, map, vec_len, sym, ap, subst, arith}
+use Rattle.std.proofs.lemmas.Bool.{eqb-true}
+use Rattle.std.proofs.lemmas.List.{length-map, nil_from_length, take_all}
+use Rattle.am_scenario.specs.Seats.{AfterLanes, MadeLanes, passes_in}
 use Rattle.am_scenario.specs.declared.lane.Seat.{Seat}
+use Rattle.am_scenario.specs.declared.scenario.Lane.{Lane}
 use Rattle.am_desk.specs.Known.{Seen}
-use Rattle.am_scenario.proofs.Seats.{after_lanes}
+use Rattle.am_scenario.proofs.Seats.{after_lanes, none_since}
 use Rattle.am_scenario.proofs.lane.run_beside.Goals as goal
+
+pub returns-then-is_empty-clause-lanes : goal.returns-then-is_empty-clause-lanes
+returns-then-is_empty-clause-lanes g c none =
+    let ps : List Seen = passes_in c.args.seats.now in
+    let zero : vec_len c.args.lanes ≡ 0 = eqb-true (vec_len c.args.lanes) 0 (sym c.is_empty.ensures ∙ c.if-is_empty.true) in
+    let nil : c.args.lanes.items ≡ [] = nil_from_length c.args.lanes.items (omega (arith, zero, c.args.lanes.ok.0)) in
+    subst (λ (xs : List Lane). MadeLanes c.args.at xs ps ps) (sym nil) (none_since ps)
 
 pub returns-clause-lanes : goal.returns-clause-lanes
 returns-clause-lanes g c =

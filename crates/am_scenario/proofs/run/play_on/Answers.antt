@@ -1,4 +1,4 @@
-use Rattle.std.proofs.Common.{◌≡◌, ◌∙◌, ℕ, List, ◌∷◌, ◌++◌, [], length, sym, ap, subst, arith}
+use Rattle.std.proofs.Common.{◌≡◌, ◌<◌, ◌∙◌, ℕ, List, ◌∷◌, ◌++◌, [], length, vec_len, sym, ap, subst, arith}
 use Rattle.std.specs.Iterator.Adapters.{enumerate_count, enumerate_source}
 use Rattle.std.proofs.lemmas.List.{length-map, length_push, take_all}
 use Rattle.std.proofs.lemmas.List.FromFn.{length-enumerate_from}
@@ -12,24 +12,49 @@ use Rattle.am_desk.specs.History.{own}
 use Rattle.am_desk.specs.Plans.{Plan}
 use Rattle.am_desk.specs.declared.word.Terms.{Terms}
 use Rattle.am_trail.proofs.trail.Trail.TheSendSync as trail
+use Rattle.am_scenario.specs.Beside.{HadParts}
+use Rattle.am_scenario.specs.Parts.{ArePartsOf}
 use Rattle.am_scenario.specs.Report.{report_text}
 use Rattle.am_scenario.specs.Runs.{lanes_of}
 use Rattle.am_scenario.specs.Scripts.{IsAsPlanned}
 use Rattle.am_scenario.specs.Seats.{HaveMade}
-use Rattle.am_scenario.specs.Steps.{HadTurns}
-use Rattle.am_scenario.specs.Turns.{AreTurnsOf}
+use Rattle.am_scenario.specs.Turns.{AreTurnsOf, Turn}
 use Rattle.am_scenario.specs.declared.lane.Seat.{Seat}
 use Rattle.am_scenario.specs.declared.run.TheConstants.{BOARD_ID}
 use Rattle.am_scenario.specs.declared.scenario.Phase.{Phase}
 use Rattle.am_scenario.specs.declared.scenario.script.Script.{Script}
 use Rattle.am_scenario.proofs.Crossing.{script_sync}
 use Rattle.am_scenario.proofs.Lanes.{numbered}
+use Rattle.am_scenario.proofs.Parts.{no_parts, part_next, parts_stand}
 use Rattle.am_scenario.proofs.Phases.{all_played, of_source, turn_made}
-use Rattle.am_scenario.proofs.Turns.{turn_next, turns_stand}
+use Rattle.am_scenario.proofs.Turns.{turns_stand, turns_stay}
 use Rattle.am_scenario.proofs.run.play_on.Goals as goal
 
 pub run_phase-requires-send-C : goal.run_phase-requires-send-C
 run_phase-requires-send-C g c κs within = search (every, script_sync, trail.the_send) depth 40 fits 10000
+
+pub run_phase-requires-after_bounds : goal.run_phase-requires-after_bounds
+run_phase-requires-after_bounds g c κs within =
+    let ls = c.args.scenario.phases.items in
+    let all = c.into_iter-index-iterator.result in
+    let gives = c.into_iter-index-iterator.ensures.into_iter_gives in
+    let items : all.iter.rest.items ≡ ls = cc (gives, c.enumerate-index-items.ensures.source, c.into_iter.ensures.rest) in
+    let len : all.iter.rest.len ≡ length ls = cc (gives, c.enumerate-index-items.ensures.source, c.into_iter.ensures.len, c.args.scenario.phases.ok.0) in
+    let count : all.count ≡ 0 = cc (gives, c.enumerate-index-items.ensures.count) in
+    let so_far = c.loop-index.yielded in
+    let turn = YieldsList-turn (YieldsList-from_enumerate {s = all} (YieldsList-from_vec {s = all.iter} ls items len) count) so_far c.loop-index.index-iterator c.loop-index.yielded_by c.next.result c.next.new.self (c.in-Some.index, c.in-Some.phase) c.in-Some.is c.next.ensures.steps in
+    let at = numbered ls (length so_far) c.in-Some.index c.in-Some.phase turn.0 turn.1 in
+    let few : vec_len c.in-Some.phase.lanes < c.args.blank.passes =
+    subst (λ (p : Phase). vec_len p.lanes < c.args.blank.passes) (sym at.2) (c.requires.lanes (length so_far) c.in-Some.phase at.0)
+    in
+    subst (λ (k : ℕ). vec_len c.in-Some.phase.lanes < k) (ap (λ (p : Plan). p.passes) c.requires.name.0) few
+
+pub loop-index-established : goal.loop-index-established
+loop-index-established g c =
+    record {
+      lanes = c.in_ok-run.ensures.lanes;
+      main = no_parts (IsAsPlanned g.S.Scripts.scripts) _ _ _ c.in_ok-run.ensures.main;
+    }
 
 pub loop-index-preserved : goal.loop-index-preserved
 loop-index-preserved g c =
@@ -49,7 +74,9 @@ loop-index-preserved g c =
     let is = c.run_phase.new.self in
     record {
       lanes = turn_made ls n m c.in-Some.phase (lanes_of was) (lanes_of is) next at.0 at.2 c.loop-index.invariant.lanes c.in_ok-run_phase.ensures.lanes;
-      main = turn_next (IsAsPlanned g.S.Scripts.scripts) ls n m c.in-Some.phase was.main is.main was.reports.items is.reports.items next at.0 at.2 c.loop-index.invariant.main c.in_ok-run_phase.ensures.turn;
+      main =
+          part_next (IsAsPlanned g.S.Scripts.scripts) ls n m c.in-Some.phase was.main is.main (lanes_of was) (lanes_of is) was.reports.items is.reports.items next at.0 at.2
+          c.loop-index.invariant.lanes c.in_ok-run_phase.ensures.lanes c.loop-index.invariant.main c.in_ok-run_phase.ensures.turn;
     }
 
 pub returns : goal.returns
@@ -72,9 +99,21 @@ returns g c =
     let passes = ap (λ (p : Plan). p.passes) c.requires.name.0 in
     let reports : c.as_slice-2.result.now ≡ run.reports.items = c.as_slice-2.ensures.value ∙ ap (λ v. v.items) c.in_ok-closed.ensures.reports in
     let answers = IsAsPlanned g.S.Scripts.scripts in
-    let had : HadTurns answers ls run.main c.as_slice-2.result.now =
-    subst (λ (rs : List Report). HadTurns answers ls run.main rs) (sym reports)
-    (subst (λ (xs : List Phase). HadTurns answers xs run.main run.reports.items) (take_all n ls (omega (arith, end.1, length-enumerate_from 0 ls))) c.loop-index.invariant.main)
+    let all_taken = take_all n ls (omega (arith, end.1, length-enumerate_from 0 ls)) in
+    let have : HaveMade 0 ls (lanes_of run) = subst (λ (xs : List Phase). HaveMade 0 xs (lanes_of run)) all_taken c.loop-index.invariant.lanes in
+    let had : HadParts answers ls run.main (lanes_of run) c.as_slice-2.result.now =
+    subst (λ (rs : List Report). HadParts answers ls run.main (lanes_of run) rs) (sym reports)
+    (subst (λ (xs : List Phase). HadParts answers xs run.main (lanes_of run) run.reports.items) all_taken c.loop-index.invariant.main)
+    in
+    let stand = turns_stand answers ls run.main c.as_slice-2.result.now closed.history had.main c.in_ok-closed.ensures.main in
+    let parts : ArePartsOf ls stand.turns closed.history =
+    subst (λ (us : List Turn). ArePartsOf ls us closed.history) (sym (turns_stay answers ls run.main c.as_slice-2.result.now closed.history had.main c.in_ok-closed.ensures.main))
+    (parts_stand answers ls run.main (lanes_of run) c.as_slice-2.result.now closed.history have had c.in_ok-closed.ensures.main c.in_ok-closed.ensures.lanes
+    c.in_ok-closed.ensures.others)
+    in
+    let told : (turns : AreTurnsOf (IsAsPlanned c.args.scenario.scripts.items) ls (own 0 closed.history) c.as_slice-2.result.now) × ArePartsOf ls turns.turns closed.history =
+    subst (λ (scripts : List Script). (turns : AreTurnsOf (IsAsPlanned scripts) ls (own 0 closed.history) c.as_slice-2.result.now) × ArePartsOf ls turns.turns closed.history)
+    (sym c.requires.scripts) (stand, parts)
     in
     record {
       history = closed.history;
@@ -87,13 +126,12 @@ returns g c =
       lanes =
           all_played ls (lanes_of run) closed.history c.args.blank.passes
           record {
-            have = subst (λ (xs : List Phase). HaveMade 0 xs (lanes_of run)) (take_all n ls (omega (arith, end.1, length-enumerate_from 0 ls))) c.loop-index.invariant.lanes;
+            have = have;
             stand = c.in_ok-closed.ensures.lanes;
             others = c.in_ok-closed.ensures.others;
             few = c.requires.lanes;
             seated = omega (arith, passes, run.seated, run.seats.ok.0, length-map run.seats.items (λ (s : Seat g.row.N.Denot). s.pass));
           };
-      main =
-          subst (λ (scripts : List Script). AreTurnsOf (IsAsPlanned scripts) ls (own 0 closed.history) c.as_slice-2.result.now) (sym c.requires.scripts)
-          (turns_stand answers ls run.main c.as_slice-2.result.now closed.history had c.in_ok-closed.ensures.main);
+      main = told.0;
+      parts = told.1;
     }

@@ -1,13 +1,13 @@
 use Rattle.std.proofs.Common.{length, take}
+use Rattle.am_scenario.specs.Beside.{HadParts}
 use Rattle.am_scenario.specs.Runs.{lanes_of}
 use Rattle.am_scenario.specs.Scripts.{IsAsPlanned}
 use Rattle.am_scenario.specs.Seats.{HaveMade}
-use Rattle.am_scenario.specs.Steps.{HadTurns}
 use Rattle.am_scenario.proofs.run.play_on.Given as goal
 
--- the lanes have made their calls of the phases so far, and the main thread had its turns
+-- the lanes have made their calls of the phases so far, the main thread had its turns, and what it has seen is made of a part for each
 abbrev pub invariant-loop-index : goal.invariant-loop-index
 invariant-loop-index g l = record {
   lanes : HaveMade 0 (take (length l.yielded) l.fn.scenario.phases.items) (lanes_of l.run);
-  main : HadTurns (IsAsPlanned g.S.Scripts.scripts) (take (length l.yielded) l.fn.scenario.phases.items) l.run.main l.run.reports.items;
+  main : HadParts (IsAsPlanned g.S.Scripts.scripts) (take (length l.yielded) l.fn.scenario.phases.items) l.run.main (lanes_of l.run) l.run.reports.items;
 }

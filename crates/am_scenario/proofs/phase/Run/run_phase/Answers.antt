@@ -2,9 +2,12 @@ use Rattle.std.proofs.Common.{◌≡◌, ◌∙◌, List, [], ◌++◌, IsOk, sy
 use Rattle.am_model.specs.Ticket.{TicketData}
 use Rattle.am_model.specs.declared.notice.Report.{Report}
 use Rattle.am_desk.specs.Known.{Seen}
-use Rattle.am_scenario.specs.Steps.{Begins, Finishes, Sends, TookTurn}
+use Rattle.am_scenario.specs.Beside.{RanFirst, TookPart}
+use Rattle.am_scenario.specs.Runs.{lanes_of}
+use Rattle.am_scenario.specs.Seats.{passes_in}
+use Rattle.am_scenario.specs.Steps.{Begins, Finishes, Sends}
 use Rattle.am_scenario.proofs.Steps.{begins_asked, begins_none, same_records}
-use Rattle.am_scenario.proofs.Turns.{if_ok, turn_taken}
+use Rattle.am_scenario.proofs.Turns.{if_ok, part_taken}
 use Rattle.am_scenario.proofs.phase.Run.run_phase.Goals as goal
 use Rattle.am_scenario.proofs.phase.Run.run_phase.Goals.{then-flush, else-flush}
 
@@ -37,7 +40,15 @@ returns-clause-turn g c =
       | else-flush w ↦ ap (λ x. x.reports) w.self-is
     ]
     in
-    if_ok c.verdict.result (TookTurn answers phase p c.keep.new.self.main was.reports.items since)
+    let seats : c.if-flush.self.seats ≡ was.seats =
+    elim c.if-flush.branch [
+      | then-flush w ↦ ap (λ x. x.seats) w.self-is ∙ w.begin_all.ensures.keeps.0
+      | else-flush w ↦ ap (λ x. x.seats) w.self-is
+    ]
+    in
+    let ls : List Seen = lanes_of was in
+    let ms : List Seen = lanes_of c.keep.new.self in
+    if_ok c.verdict.result (TookPart answers phase p c.keep.new.self.main ls ms was.reports.items since)
     (λ (ok : IsOk c.verdict.result).
     let more = c.keep.ensures.more (c.verdict.ensures.0 ok) in
     let finish = c.finish_all.ensures in
@@ -45,4 +56,10 @@ returns-clause-turn g c =
     let finishes : Finishes phase.at reports us r s = subst (λ (rs : List Report). Finishes phase.at rs us r s) c.as_slice.ensures.value (finish.finished more.0) in
     let same : c.finish_all.new.self.reports.items ≡ was.reports.items = ap (λ v. v.items) (finish.keeps.1 ∙ (c.send_all-reports.ensures.reports ∙ kept)) in
     let now : since ≡ was.reports.items ++ reports = more.1 ∙ (ap (λ (rs : List Report). rs ++ c.as_slice-2.result.now) same ∙ ap (λ (rs : List Report). was.reports.items ++ rs) c.as_slice-2.ensures.value) in
-    subst (λ (x : Seen). TookTurn answers phase p x was.reports.items since) (sym c.keep.ensures.main) (turn_taken answers phase p q r s ts us was.reports.items reports since begins sends finishes now))
+    let stay : c.keep.new.self.seats ≡ c.send_all-reports.new.self.seats = c.keep.ensures.seats ∙ finish.keeps.0 in
+    let first : RanFirst q r ls ms =
+    subst (λ v. RanFirst q r ls (passes_in v.items)) (sym stay)
+    (subst (λ v. RanFirst q r (passes_in v.items) (lanes_of c.send_all-reports.new.self)) seats (c.send_all-reports.ensures.beside (finish.keeps.2 more.0)))
+    in
+    subst (λ (x : Seen). TookPart answers phase p x ls ms was.reports.items since) (sym c.keep.ensures.main)
+    (part_taken answers phase p q r s ls ms ts us was.reports.items reports since begins sends finishes now first))

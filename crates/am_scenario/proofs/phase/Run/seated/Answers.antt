@@ -2,11 +2,12 @@ use Rattle.std.proofs.Common.{◌≡◌, ◌∙◌, ◌<◌, ℕ, List, [], leng
 use Rattle.std.proofs.lemmas.Simd.{map-map}
 use Rattle.std.specs.List.{range_with_len}
 use Rattle.am_desk.specs.Known.{Seen}
+use Rattle.am_scenario.specs.Beside.{HadNoParts}
 use Rattle.am_scenario.specs.Seats.{HaveMade}
 use Rattle.am_scenario.specs.declared.lane.Seat.{Seat}
 use Rattle.am_scenario.proofs.Calls.{fresh_made}
 use Rattle.am_scenario.proofs.Lanes.{first_fresh, fresh_numbers}
-use Rattle.am_scenario.proofs.Turns.{first_is_fresh, none_yet}
+use Rattle.am_scenario.proofs.Turns.{first_is_fresh}
 use Rattle.am_scenario.proofs.phase.Run.seated.Goals as goal
 
 pub returns-clause-numbers : goal.returns-clause-numbers
@@ -35,4 +36,7 @@ pub returns-clause-main : goal.returns-clause-main
 returns-clause-main g c =
     let ps = c.args.passes.items in
     let some : 0 < length ps = omega (arith, c.requires, c.args.passes.ok.0) in
-    none_yet c.remove-main.result c.new.result.items (first_is_fresh 0 ps c.remove-main.result c.requires.0 some c.remove-main.ensures.value) c.new.ensures.items
+    let first = first_fresh 0 ps c.remove-main.result c.requires.0 some c.remove-main.ensures.value in
+    let passes = rw c.remove-main.ensures.items at c.in_ok-seats.ensures.passes in
+    subst (λ (qs : List Seen). HadNoParts c.remove-main.result qs c.new.result.items) (sym passes)
+    (first_is_fresh 0 ps c.remove-main.result c.requires.0 some c.remove-main.ensures.value, first.1, c.new.ensures.items)

@@ -1,5 +1,5 @@
 use crate::inhibit::{InhibitRule, RuleFault};
-use crate::mute::{MuteCause, mute_cause, mute_cause_with, muted, muted_under, muted_with};
+use crate::mute::{MuteCause, mute_cause, mute_cause_with, muted, muted_with};
 use crate::silence::{Silence, SilenceFault};
 use crate::silences::Silences;
 use crate::sources::Sources;
@@ -330,7 +330,6 @@ fn silences_mute_by_each_kind_of_matcher(rt: HostRuntime) -> Result<(), Fail> {
             (5, ("alertname", Operator::Equal, ""), 10),
         ],
     )?;
-    let sources = Sources::new(alloc);
     for (text, t, expected) in [
         ("alertname=A severity=warning team=db", 19, true),
         ("alertname=A severity=warning team=db", 20, false),
@@ -345,8 +344,6 @@ fn silences_mute_by_each_kind_of_matcher(rt: HostRuntime) -> Result<(), Fail> {
         let labels = labels(alloc, text)?;
         let silenced = silences.is_silenced(alloc, &labels, t)?;
         assert_eq!(rt; silenced, expected, "{text} at {t}");
-        let muted = muted_under(alloc, &labels, t, &silences, &[], &[], &sources)?;
-        assert_eq!(rt; muted, expected, "{text} at {t}, muted");
     }
     Ok(())
 }

@@ -10,7 +10,8 @@ ghost use Rattle.am_model.specs.Insert.{same_alert, put_into_group, names_for, a
 ghost use Rattle.am_board.specs.Kept.{state_of, member_state, group_state};
 ghost use Rattle.am_board.specs.Step.{IsGood, Accepts, Stays, IsAnswer};
 ghost use Rattle.std.specs.List.{IsDistinct};
-ghost use Rattle.am_board.specs.Inserting.{IsFound, AreFound, AreApart, place_in, target_of, IsReservedState, IsReadyFor, IsEmptyWithRoom, HaveRoom};
+ghost use Rattle.am_board.specs.Inserting.{IsFound, AreFound, AreApart, place_in, target_of};
+ghost use Rattle.am_board.specs.Inserting.{IsReservedState, IsReadyFor, IsEmptyWithRoom, HaveRoom};
 ghost use Rattle.am_board.specs.Inserting.{AreRoutedPlacements, IsPlacementOf, IsWhereToPut, name_at, stamped_alert};
 ghost use Rattle.am_model.specs.State.{MemberState, same_name};
 ghost use Rattle.am_alerts.specs.declared.limits.TheConstants.{MAX_MOMENT};

@@ -2,6 +2,7 @@ pub mod FirstRun
 pub mod Attempts
 pub mod Calls
 pub mod Lanes
+pub mod Noting
 pub mod Phases
 pub mod Seats
 pub mod Crossing

@@ -1,11 +1,14 @@
 -- The main thread's turns, from its steps.
-use Rattle.std.proofs.Common.{◌≡◌, ◌==◌, ◌&&◌, ℕ, Bool, true, false, ◌+◌, ◌<◌, cond, All, subst, List, [], ◌∷◌, ◌++◌, length, get_or, take, map, Some, None, Option, Result, Ok, Err, IsOk, OnOk, refl, sym, ap, ◌∙◌, arith}
-use Rattle.std.specs.List.{AllZip, Contains, flat_map}
+use Rattle.std.proofs.Common.{◌≡◌, ◌==◌, ◌&&◌, ◌||◌, ⊎_elim, inl, inr, ℕ, Bool, true, false, ◌+◌, ◌<◌, cond, All, subst, List, [], ◌∷◌, ◌++◌, length, get_or, take, map, Some, None, Option, Result, Ok, Err, IsOk, OnOk, refl, sym, ap, ◌∙◌, append_assoc, arith}
+use Rattle.std.specs.List.{AllZip, filter, flat_map}
+use mathlib.Core.List.{IsPrefix}
 use Rattle.std.proofs.lemmas.Grind.{flat_map-append}
-use Rattle.std.proofs.lemmas.List.{append-nil, get_or-map, length-map, take_more}
-use Rattle.std.proofs.lemmas.List.Elements.{All-cons, All-head, All-nil, All-rest, All-weaker}
+use Rattle.std.proofs.lemmas.List.{append-nil, take_more}
+use Rattle.std.proofs.lemmas.List.Elements.{All-cons, All-head, All-nil, All-rest}
 use Rattle.am_retry.specs.declared.outcome.Outcome.{Outcome}
-use Rattle.am_model.specs.Ticket.{TicketData, outcome_of, recorded}
+use Rattle.am_model.specs.Finish.{is_delivered}
+use Rattle.am_model.specs.Notice.{NoticeData, is_nothing}
+use Rattle.am_model.specs.Ticket.{TicketData, outcome_of}
 use Rattle.am_model.specs.declared.notice.Report.{Report}
 use Rattle.am_model.specs.declared.record.Call.{Call}
 use Rattle.am_model.specs.declared.record.Call.TheVariants as call
@@ -13,9 +16,12 @@ use Rattle.am_model.specs.declared.record.Record.{Record}
 use Rattle.am_desk.specs.Desks.{AreFresh, Stands}
 use Rattle.am_desk.specs.History.{own}
 use Rattle.am_desk.specs.Known.{Seen, seen}
-use Rattle.am_scenario.specs.Steps.{Begins, Finishes, HadTurns, IsUnrecorded, MadeRecords, NotesAny, Sends, TookTurn, end_on, finish_with, opened_of, recorded_all}
-use Rattle.am_scenario.specs.Turns.{AreTurnsOf, IsSentFrom, IsTurnOf, NotesOne, Opened, Turn, finish_of, last_end, note_on, opened_by, outcomes_told, records_in, report_on, reports_on, to_send}
+use Rattle.am_desk.specs.declared.word.Terms.{Terms}
+use Rattle.am_desk.proofs.Prefixes.{prefix_trans}
+use Rattle.am_scenario.specs.Steps.{Begins, Finishes, HadTurns, IsUnrecorded, MadeRecords, Sends, TookTurn, end_on, finish_with, is_recorded_success, note_of, notes_of, notes_of_all, opened_of, recorded_all}
+use Rattle.am_scenario.specs.Turns.{AreNoted, AreTurnsFrom, AreTurnsOf, EndRightly, EndedByNothing, FoundDue, HasManyOpen, IsSentFrom, IsTurnOf, Once, Opened, Turn, all_notes_due, finish_of, is_success, last_end, note_on, notes_due, opened_by, outcome_in, outcomes_told, records_in, report_on, reports_on, to_send}
 use Rattle.am_scenario.specs.declared.scenario.Phase.{Phase}
+use Rattle.am_scenario.proofs.Noting.{noted_longer, once_longer}
 use Rattle.am_scenario.proofs.Steps.{more_records}
 
 -- what is recorded in a ticket leaves its flush
@@ -23,30 +29,25 @@ same_flushes : (reports : List Report) (ts : List TicketData) → map opened_of 
 same_flushes reports [] = refl
 same_flushes reports (t ∷ ts) = ap (λ (os : List Opened). opened_of t ∷ os) (same_flushes reports ts)
 
--- the outcome that the reports on a flush tell of an integration
-abbrev told_outcome : Option Report → Option Outcome
-told_outcome None = None
-told_outcome (Some r) = Some r.outcome
-
-by_integration : (b : Bool) (r : Report) (told : Option Outcome) (later : Option Report) → told ≡ told_outcome later
-    → cond b (Some r.outcome) told ≡ told_outcome (cond b (Some r) later)
+by_integration : (b : Bool) (r : Report) (told : Option Outcome) (later : Option Report) → told ≡ outcome_in later
+    → cond b (Some r.outcome) told ≡ outcome_in (cond b (Some r) later)
 by_integration true r told later same = refl
 by_integration false r told later same = same
 
 by_flush : (a : Bool) (number integration : ℕ) (r : Report) (rs : List Report)
-    → outcome_of (outcomes_told (reports_on number rs)) integration ≡ told_outcome (report_on number integration rs)
+    → outcome_of (outcomes_told (reports_on number rs)) integration ≡ outcome_in (report_on number integration rs)
     → outcome_of (outcomes_told (cond a (r ∷ reports_on number rs) (reports_on number rs))) integration
-    ≡ told_outcome (cond (a && (r.integration == integration)) (Some r) (report_on number integration rs))
+    ≡ outcome_in (cond (a && (r.integration == integration)) (Some r) (report_on number integration rs))
 by_flush true number integration r rs later =
     by_integration (r.integration == integration) r (outcome_of (outcomes_told (reports_on number rs)) integration) (report_on number integration rs) later
 by_flush false number integration r rs later = later
 
-outcome_told : (number integration : ℕ) (rs : List Report) → outcome_of (outcomes_told (reports_on number rs)) integration ≡ told_outcome (report_on number integration rs)
+outcome_told : (number integration : ℕ) (rs : List Report) → outcome_of (outcomes_told (reports_on number rs)) integration ≡ outcome_in (report_on number integration rs)
 outcome_told number integration [] = refl
 outcome_told number integration (r ∷ rs) = by_flush (r.ticket == number) number integration r rs (outcome_told number integration rs)
 
 -- the note with what was recorded is the note of what the report tells
-note_told : (at number integration : ℕ) (told : Option Report) → call.Note (end_on at told) number integration (told_outcome told) ≡ note_on at number integration told
+note_told : (at number integration : ℕ) (told : Option Report) → call.Note (end_on at told) number integration (outcome_in told) ≡ note_on at number integration told
 note_told at number integration None = refl
 note_told at number integration (Some r) = refl
 
@@ -61,33 +62,43 @@ all_told reports (t ∷ ts) fresh =
     (ap (λ (os : List (ℕ × Outcome)). os ++ outcomes_told (reports_on t.number reports)) (All-head IsUnrecorded t ts fresh))
     (all_told reports ts (All-rest IsUnrecorded t ts (t ∷ ts) refl fresh))
 
--- what holds of all holds of what is there
-of_there : {X : Type 0} (P : X → Type 0) (xs : List X) (x : X) → All P xs → Contains xs x → P x
-of_there P xs x all there = subst P there.2 (all there.0 x there.1)
+-- filtered by one test and by another that tells the same, and mapped to the same
+by_one_test : {X Y : Type 0} (f g : X → Y) (x : X) (xs ys : List X) → f x ≡ g x → map f xs ≡ map g ys → (b : Bool)
+    → map f (cond b (x ∷ xs) xs) ≡ map g (cond b (x ∷ ys) ys)
+by_one_test f g x xs ys one rest true = ap (λ y. y ∷ map f xs) one ∙ ap (λ zs. g x ∷ zs) rest
+by_one_test f g x xs ys one rest false = rest
 
-there_mapped : {X Y : Type 0} (f : X → Y) (xs : List X) (x : X) → Contains xs x → Contains (map f xs) (f x)
-there_mapped f xs x there =
-    let within : there.0 < length (map f xs) = omega (arith, there.1, length-map xs f) in
-    (there.0, within, get_or-map f xs there.0 x (f x) there.1 ∙ ap f there.2)
+by_same_test : {X Y : Type 0} (p q : X → Bool) (f g : X → Y) → ((x : X) → p x ≡ q x) → ((x : X) → f x ≡ g x) → (xs : List X)
+    → map f (filter p xs) ≡ map g (filter q xs)
+by_same_test p q f g tests maps [] = refl
+by_same_test p q f g tests maps (x ∷ xs) =
+    ap (λ b. map f (cond b (x ∷ filter p xs) (filter p xs))) (tests x)
+    ∙ by_one_test f g x (filter p xs) (filter q xs) (maps x) (by_same_test p q f g tests maps xs) (q x)
 
--- a note of a ticket of these is one of a flush of theirs
-note_of_one : (at : ℕ) (reports : List Report) (ts us : List TicketData) (r : Record) → us ≡ map (recorded_all reports) ts → All IsUnrecorded ts → NotesAny at reports us r
-    → NotesOne at reports (map opened_of ts) r
-note_of_one at reports ts us r same fresh notes =
-    let u = notes.0 in
-    let n = notes.2.0 in
-    let told : IsTold reports u = of_there (IsTold reports) us u (subst (λ (xs : List TicketData). All (IsTold reports) xs) (sym same) (all_told reports ts fresh)) notes.1 in
-    let flushes : map opened_of us ≡ map opened_of ts = ap (map opened_of) same ∙ same_flushes reports ts in
-    let report = report_on u.number n.integration reports in (
-      opened_of u,
-      subst (λ (os : List Opened). Contains os (opened_of u)) flushes (there_mapped opened_of us u notes.1),
-      n,
-      notes.2.1,
-      notes.2.2
-          ∙ (ap (λ (os : List (ℕ × Outcome)). call.Note (end_on at report) u.number n.integration (outcome_of os n.integration)) told
-          ∙ (ap (λ (o : Option Outcome). call.Note (end_on at report) u.number n.integration o) (outcome_told u.number n.integration reports)
-          ∙ note_told at u.number n.integration report)),
-    )
+-- the notes by what is recorded in a ticket are those by its reports
+notes_told : (at : ℕ) (reports : List Report) (u : TicketData) → IsTold reports u → notes_of at reports u u.notices ≡ notes_due at reports (opened_of u)
+notes_told at reports u told =
+    let outcome = λ (n : NoticeData). ap (λ (os : List (ℕ × Outcome)). outcome_of os n.integration) told ∙ outcome_told u.number n.integration reports in
+    by_same_test (is_recorded_success u) (is_success reports u.number) (note_of at reports u) (λ (n : NoticeData). note_on at u.number n.integration (report_on u.number n.integration reports))
+    (λ n. ap (λ (o : Option Outcome). is_nothing n || is_delivered o) (outcome n))
+    (λ n.
+    let report = report_on u.number n.integration reports in
+    ap (λ (o : Option Outcome). call.Note (end_on at report) u.number n.integration o) (outcome n) ∙ note_told at u.number n.integration report)
+    u.notices
+
+notes_told_all : (at : ℕ) (reports : List Report) (us : List TicketData) → All (IsTold reports) us → notes_of_all at reports us ≡ all_notes_due at reports (map opened_of us)
+notes_told_all at reports [] told = refl
+notes_told_all at reports (u ∷ us) told =
+    ap (λ (cs : List Call). cs ++ notes_of_all at reports us) (notes_told at reports u (All-head (IsTold reports) u us told))
+    ∙ ap (λ (cs : List Call). notes_due at reports (opened_of u) ++ cs) (notes_told_all at reports us (All-rest (IsTold reports) u us (u ∷ us) refl told))
+
+-- the notes of tickets in which the reports are recorded are those of their flushes
+notes_each : (at : ℕ) (reports : List Report) (ts us : List TicketData) → us ≡ map (recorded_all reports) ts → All IsUnrecorded ts
+    → notes_of_all at reports us ≡ all_notes_due at reports (map opened_of ts)
+notes_each at reports ts us same fresh =
+    ap (notes_of_all at reports) same
+    ∙ (notes_told_all at reports (map (recorded_all reports) ts) (all_told reports ts fresh)
+    ∙ ap (all_notes_due at reports) (same_flushes reports ts))
 
 -- the finishes of these tickets are those of their flushes
 finish_each : (at : ℕ) (reports : List Report) (ts : List TicketData) → All IsUnrecorded ts
@@ -106,22 +117,76 @@ pub record FinishesSoFar (at : ℕ) (reports : List Report) (ts left : List Tick
   pub made : MadeRecords finishes p q
   pub calls : map (λ (r : Record). r.call) finishes ++ map (finish_with at reports) left ≡ map (finish_with at reports) ts
 
+-- begins that ended rightly did so, seen from later
+rightly_longer : (t : Terms) (pass : ℕ) (history later before : List Record) (at : ℕ) (begins : List Record) → IsPrefix history later
+    → EndRightly t pass history before at begins → EndRightly t pass later before at begins
+rightly_longer t pass history later before at begins longer ended =
+    ⊎_elim (λ (nothing : EndedByNothing begins). inl nothing)
+    (λ (many : All FoundDue begins × Once pass history (before ++ begins) (HasManyOpen t at)).
+    inr (many.0, once_longer pass history later (before ++ begins) (HasManyOpen t at) longer many.1))
+    ended
+
+-- a turn was one, seen from later
+turn_longer : (t : Terms) (pass : ℕ) (history later before : List Record) (phase : Phase) (turn : Turn) → IsPrefix history later
+    → IsTurnOf t pass history before phase turn → IsTurnOf t pass later before phase turn
+turn_longer t pass history later before phase turn longer is =
+    record {
+      begun = is.begun;
+      ended = λ asked. rightly_longer t pass history later before phase.at turn.begins longer (is.ended asked);
+      sent = is.sent;
+      noted = noted_longer t pass history later (before ++ turn.begins) (all_notes_due phase.at turn.reports (opened_by turn.begins)) turn.notes longer is.noted;
+      finished = is.finished;
+    }
+
+turns_longer : (t : Terms) (pass : ℕ) (history later before : List Record) (phases : List Phase) (turns : List Turn) → IsPrefix history later
+    → AreTurnsFrom t pass history before phases turns → AreTurnsFrom t pass later before phases turns
+turns_longer t pass history later before [] [] longer are = tt
+turns_longer t pass history later before [] (u ∷ us) longer are = absurd are
+turns_longer t pass history later before (p ∷ ps) [] longer are = absurd are
+turns_longer t pass history later before (p ∷ ps) (u ∷ us) longer are =
+    (turn_longer t pass history later before p u longer are.0, turns_longer t pass history later (before ++ records_in u) ps us longer are.1)
+
+-- one turn more at the end
+turns_push : (t : Terms) (pass : ℕ) (history before : List Record) (phases : List Phase) (turns : List Turn) (phase : Phase) (turn : Turn) → AreTurnsFrom t pass history before phases turns
+    → IsTurnOf t pass history (before ++ flat_map records_in turns) phase turn → AreTurnsFrom t pass history before (phases ++ phase ∷ []) (turns ++ turn ∷ [])
+turns_push t pass history before [] [] phase turn are is =
+    (subst (λ (xs : List Record). IsTurnOf t pass history xs phase turn) (append-nil before) is, tt)
+turns_push t pass history before [] (u ∷ us) phase turn are is = absurd are
+turns_push t pass history before (p ∷ ps) [] phase turn are is = absurd are
+turns_push t pass history before (p ∷ ps) (u ∷ us) phase turn are is = (
+  are.0,
+  turns_push t pass history (before ++ records_in u) ps us phase turn are.1
+      (subst (λ (xs : List Record). IsTurnOf t pass history xs phase turn) (sym (append_assoc before (records_in u) (flat_map records_in us))) is),
+)
+
 -- the steps of a phase are a turn
-pub turn_taken : (phase : Phase) (p q r s : Seen) (ts us : List TicketData) (had reports since : List Report) → Begins phase.flush phase.at p q [] ts
-    → Sends phase.at reports ts us q r → Finishes phase.at reports us r s → since ≡ had ++ reports → TookTurn phase p s had since
-turn_taken phase p q r s ts us had reports since begins sends finishes more =
+pub turn_taken : (t : Terms) (phase : Phase) (p q r s : Seen) (ts us : List TicketData) (had reports since : List Report) → Begins t phase.flush false phase.at p q [] ts
+    → Sends t phase.at reports ts us q r → Finishes phase.at reports us r s → since ≡ had ++ reports → TookTurn t phase p s had since
+turn_taken t phase p q r s ts us had reports since begins sends finishes more =
     let notes = sends.noted in
+    let before = own p.number p.log in
     let fresh : All IsUnrecorded ts = begins.unrecorded (All-nil IsUnrecorded) in
     let opened : map opened_of ts ≡ opened_by begins.begins = begins.opened in
+    let noted : AreNoted t p.number r.log (before ++ begins.begins) (notes_of_all phase.at reports us) notes.records =
+    subst (λ (xs : List Record). AreNoted t p.number r.log xs (notes_of_all phase.at reports us) notes.records) begins.made.1
+    (subst (λ (n : ℕ). AreNoted t n r.log (own n q.log) (notes_of_all phase.at reports us) notes.records) begins.made.0 notes.noted)
+    in
+    let due : notes_of_all phase.at reports us ≡ all_notes_due phase.at reports (opened_by begins.begins) =
+    notes_each phase.at reports ts us sends.recorded fresh ∙ ap (all_notes_due phase.at reports) opened
+    in
+    let later : IsPrefix r.log s.log =
+    finishes.made.2
+    in
     record {
       turn = record { begins = begins.begins; reports = reports; notes = notes.records; finishes = finishes.finishes };
       is =
           record {
             begun = begins.begun;
+            ended = λ asked. rightly_longer t p.number q.log s.log before phase.at begins.begins (prefix_trans q.log r.log s.log notes.made.2 later) (begins.ended asked refl);
             sent = subst (λ (os : List Opened). AllZip (IsSentFrom phase.at) (to_send os) reports) opened sends.sent;
             noted =
-                subst (λ (os : List Opened). All (NotesOne phase.at reports os) notes.records) opened
-                (All-weaker (NotesAny phase.at reports us) (NotesOne phase.at reports (map opened_of ts)) (λ x note. note_of_one phase.at reports ts us x sends.recorded fresh note) notes.records notes.kind);
+                noted_longer t p.number r.log s.log (before ++ begins.begins) (all_notes_due phase.at reports (opened_by begins.begins)) notes.records later
+                (subst (λ (cs : List Call). AreNoted t p.number r.log (before ++ begins.begins) cs notes.records) due noted);
             finished =
                 finishes.calls
                 ∙ (ap (map (finish_with phase.at reports)) sends.recorded
@@ -131,22 +196,20 @@ turn_taken phase p q r s ts us had reports since begins sends finishes more =
       more = more;
     }
 
-zip_push : {A B : Type 0} (R : A → B → Type 0) (xs : List A) (ys : List B) (x : A) (y : B) → AllZip R xs ys → R x y → AllZip R (xs ++ x ∷ []) (ys ++ y ∷ [])
-zip_push R [] [] x y all one = (one, tt)
-zip_push R [] (b ∷ ys) x y all one = absurd all
-zip_push R (a ∷ xs) [] x y all one = absurd all
-zip_push R (a ∷ xs) (b ∷ ys) x y all one = (all.0, zip_push R xs ys x y all.1 one)
-
 -- one turn more
-turn_more : (phases : List Phase) (phase : Phase) (p q : Seen) (reports since : List Report) → HadTurns phases p reports → TookTurn phase p q reports since
-    → HadTurns (phases ++ phase ∷ []) q since
-turn_more phases phase p q reports since had took =
+turn_more : (t : Terms) (phases : List Phase) (phase : Phase) (p q : Seen) (reports since : List Report) → HadTurns t phases p reports → TookTurn t phase p q reports since
+    → HadTurns t (phases ++ phase ∷ []) q since
+turn_more t phases phase p q reports since had took =
     let turns = had.1.turns in
-    let more : own 0 q.log ≡ own 0 p.log ++ records_in took.turn = subst (λ (n : ℕ). own n q.log ≡ own n p.log ++ records_in took.turn) had.0 took.made.1 in (
+    let more : own 0 q.log ≡ own 0 p.log ++ records_in took.turn = subst (λ (n : ℕ). own n q.log ≡ own n p.log ++ records_in took.turn) had.0 took.made.1 in
+    let is : IsTurnOf t 0 q.log (flat_map records_in turns) phase took.turn =
+    subst (λ (xs : List Record). IsTurnOf t 0 q.log xs phase took.turn) had.1.made
+    (subst (λ (n : ℕ). IsTurnOf t n q.log (own n p.log) phase took.turn) had.0 took.is)
+    in (
       took.made.0 ∙ had.0,
       record {
         turns = turns ++ took.turn ∷ [];
-        each = zip_push IsTurnOf phases turns phase took.turn had.1.each took.is;
+        each = turns_push t 0 q.log [] phases turns phase took.turn (turns_longer t 0 p.log q.log [] phases turns took.made.2 had.1.each) is;
         made =
             more
             ∙ (ap (λ (rs : List Record). rs ++ records_in took.turn) had.1.made
@@ -154,29 +217,35 @@ turn_more phases phase p q reports since had took =
         told =
             took.more
             ∙ (ap (λ (rs : List Report). rs ++ took.turn.reports) had.1.told
-            ∙ sym (flat_map-append (λ (t : Turn). t.reports) turns (took.turn ∷ [])
-            ∙ ap (λ (rs : List Report). flat_map (λ (t : Turn). t.reports) turns ++ rs) (append-nil took.turn.reports)));
+            ∙ sym (flat_map-append (λ (u : Turn). u.reports) turns (took.turn ∷ [])
+            ∙ ap (λ (rs : List Report). flat_map (λ (u : Turn). u.reports) turns ++ rs) (append-nil took.turn.reports)));
       },
     )
 
 -- the turn of the next phase of a list
-pub turn_next : (phases : List Phase) (n m : ℕ) (phase : Phase) (p q : Seen) (reports since : List Report) → m ≡ n + 1 → n < length phases → phase ≡ get_or phases n phase
-    → HadTurns (take n phases) p reports → TookTurn phase p q reports since → HadTurns (take m phases) q since
-turn_next phases n m phase p q reports since next there is had took =
+pub turn_next : (t : Terms) (phases : List Phase) (n m : ℕ) (phase : Phase) (p q : Seen) (reports since : List Report) → m ≡ n + 1 → n < length phases → phase ≡ get_or phases n phase
+    → HadTurns t (take n phases) p reports → TookTurn t phase p q reports since → HadTurns t (take m phases) q since
+turn_next t phases n m phase p q reports since next there is had took =
     let longer : take m phases ≡ take n phases ++ phase ∷ [] =
     ap (λ (k : ℕ). take k phases) next ∙ (take_more phases n phase there ∙ ap (λ (x : Phase). take n phases ++ x ∷ []) (sym is))
     in
-    subst (λ (xs : List Phase). HadTurns xs q since) (sym longer) (turn_more (take n phases) phase p q reports since had took)
+    subst (λ (xs : List Phase). HadTurns t xs q since) (sym longer) (turn_more t (take n phases) phase p q reports since had took)
 
 -- the turns stand in a history in which the pass stands
-pub turns_stand : (phases : List Phase) (p : Seen) (reports : List Report) (history : List Record) → HadTurns phases p reports → Stands p history
-    → AreTurnsOf phases (own 0 history) reports
-turns_stand phases p reports history had stands =
-    subst (λ (rs : List Record). AreTurnsOf phases rs reports) (sym (subst (λ (n : ℕ). own n history ≡ own n p.log) had.0 stands.1)) had.1
+pub turns_stand : (t : Terms) (phases : List Phase) (p : Seen) (reports : List Report) (history : List Record) → HadTurns t phases p reports → Stands p history
+    → AreTurnsOf t 0 history phases reports
+turns_stand t phases p reports history had stands =
+    let so_far = had.1 in
+    record {
+      turns = so_far.turns;
+      each = turns_longer t 0 p.log history [] phases so_far.turns stands.0 so_far.each;
+      made = subst (λ (n : ℕ). own n history ≡ own n p.log) had.0 stands.1 ∙ so_far.made;
+      told = so_far.told;
+    }
 
 -- a pass that has seen nothing had no turn
-pub no_turns : (p : Seen) (reports : List Report) → p ≡ seen 0 0 [] → reports ≡ [] → HadTurns [] p reports
-no_turns p reports fresh none =
+pub no_turns : (t : Terms) (p : Seen) (reports : List Report) → p ≡ seen 0 0 [] → reports ≡ [] → HadTurns t [] p reports
+no_turns t p reports fresh none =
     (ap (λ (s : Seen). s.number) fresh, record { turns = []; each = tt; made = ap (λ (s : Seen). own 0 s.log) fresh; told = none })
 
 -- the first of passes that have seen nothing

@@ -1,22 +1,21 @@
 //! The phases of a run.
-ghost use Rattle.std.specs.Prelude.{◌≡◌, ◌<◌, ◌≤◌, ◌+◌, ◌++◌, ◌∷◌, [], ℕ, true, All, IfOk, IsTrue, OnOk, Ok, length, map, vec_len};
+ghost use Rattle.std.specs.Prelude.{◌≡◌, ◌<◌, ◌≤◌, ◌+◌, ◌++◌, ◌∷◌, [], ℕ, false, true, All, IfOk, IsTrue, OnOk, Ok, length, map, vec_len};
 ghost use Rattle.std.specs.List.{AllZip, range_with_len};
 ghost use Rattle.am_alerts.specs.declared.limits.TheConstants.{MAX_MOMENT};
 ghost use Rattle.am_desk.specs.Desks.{AreFresh, Stands};
 ghost use Rattle.am_desk.specs.History.{made};
 ghost use Rattle.am_desk.specs.Terms.{terms_of};
 ghost use Rattle.am_scenario.specs.Seats.{HaveMade, MadeLanes, NoneRefused, passes_in};
-ghost use Rattle.am_scenario.specs.Steps.{Begins, Finishes, FinishesOne, HadTurns, MadeOnly, NotesAny, NotesAt, NotesOf, Sends};
-ghost use Rattle.am_scenario.specs.Steps.{TookTurn, opened_of, recorded_all};
+ghost use Rattle.am_scenario.specs.Steps.{Begins, Finishes, FinishesOne, Grows, HadTurns, Notes, NotesAt, Sends};
+ghost use Rattle.am_scenario.specs.Steps.{TookTurn, notes_of, notes_of_all, opened_of, recorded_all};
 ghost use Rattle.am_scenario.specs.Troubles.{AreNone};
 ghost use Rattle.am_scenario.specs.Turns.{IsSentFrom, to_send};
 
 use crate::lane::{Seat, run_beside, seats_for};
 use crate::scenario::{Lane, Phase};
-use crate::sending::{end_on, jobs_of, last_end};
+use crate::sending::{end_on, has_succeeded, jobs_of, last_end};
 use crate::trouble::{Refused, Troubles};
 use am_board::begin::Begun;
-use am_board::config::MAX_HISTORY;
 use am_board::fault::{Fault, NoteFault};
 use am_board::notice::Report;
 use am_cli::fault::{InputFault, Word};
@@ -52,7 +51,7 @@ impl<N: Name + Send + Sync> Run<N> {
     pub fn new(alloc: Global, desk: Desk<N>, passes: Vec<Pass<N>>) -> Result<Run<N>, InputFault>
         requires { AreFresh 0 passes.items × (vec_len passes ≡ N.plan.passes) × (0 < N.plan.passes) }
         ensures lanes { IfOk result (λ run. HaveMade 0 [] (lanes_of run)) }
-        ensures main { IfOk result (λ run. HadTurns [] run.main run.reports.items) }
+        ensures main { IfOk result (λ run. HadTurns N.terms [] run.main run.reports.items) }
     {
         Run::seated(alloc, desk, passes)
     }
@@ -63,7 +62,7 @@ impl<N: Name + Send + Sync> Run<N> {
         ensures numbers { IfOk result (λ run. (run.main.number ≡ 0)
             × (map (λ s. s.pass.number) run.seats.items ≡ range_with_len 1 (vec_len run.seats))) }
         ensures lanes { IfOk result (λ run. HaveMade 0 [] (lanes_of run)) }
-        ensures main { IfOk result (λ run. HadTurns [] run.main run.reports.items) }
+        ensures main { IfOk result (λ run. HadTurns N.terms [] run.main run.reports.items) }
     {
         let main = passes.remove(0);
         let seats = seats_for(alloc, &mut passes)?;
@@ -110,7 +109,8 @@ impl<N: Name + Send + Sync> Run<N> {
     ) -> Result<(), InputFault>
         requires { vec_len phase.lanes < N.plan.passes }
         ensures lanes { OnOk result (MadeLanes phase.at phase.lanes.items (lanes_of self.old) (lanes_of self.new)) }
-        ensures turn { OnOk result (TookTurn phase self.old.main self.new.main self.old.reports.items self.new.reports.items) }
+        ensures turn { OnOk result
+            (TookTurn N.terms phase self.old.main self.new.main self.old.reports.items self.new.reports.items) }
     {
         let Phase { at, flush, lanes } = phase;
         let mut tickets = Vec::new(self.alloc);
@@ -126,20 +126,19 @@ impl<N: Name + Send + Sync> Run<N> {
     /// Begins flushes until no group is due, or as many are open as may be.
     fn begin_all<R: Wait>(&mut self, rt: &R, at: u64, tickets: &mut Vec<OwnTicket<N>>)
         ensures keeps { Keeps self.old self.new }
-        ensures begins { Begins true at self.old.main self.new.main tickets.old.items tickets.new.items }
+        ensures begins { AreNone self.new.troubles
+            → Begins N.terms true false at self.old.main self.new.main tickets.old.items tickets.new.items }
     {
-        // Each begin leaves a record: the history is full before this ends.
-        for _ in 0..MAX_HISTORY + 1 {
-            if !self.begin(rt, at, tickets) {
-                return;
-            }
-        }
+        // This ends, since each begin leaves a record.
+        while self.begin(rt, at, tickets) {}
     }
 
     /// Begins a flush. Answers whether there may be more to begin.
     fn begin<R: Wait>(&mut self, rt: &R, at: u64, tickets: &mut Vec<OwnTicket<N>>) -> bool
         ensures keeps { Keeps self.old self.new }
-        ensures begins { Begins true at self.old.main self.new.main tickets.old.items tickets.new.items }
+        ensures begins { AreNone self.new.troubles
+            → Begins N.terms true result at self.old.main self.new.main tickets.old.items tickets.new.items }
+        ensures grows { IsTrue result → Grows N.terms self.old.main self.new.main }
     {
         if tickets.reserve(1).is_err() {
             self.troubles.add_no_memory();
@@ -181,7 +180,7 @@ impl<N: Name + Send + Sync> Run<N> {
         ensures lanes { RunsLanes at lanes.items self.old self.new }
         ensures reports { self.new.reports ≡ self.old.reports }
         ensures sent { AreNone self.new.troubles
-            → Sends at result.items tickets.old.items tickets.new.items self.old.main self.new.main }
+            → Sends N.terms at result.items tickets.old.items tickets.new.items self.old.main self.new.main }
     {
         if !self.troubles.are_none() {
             return Vec::new(self.alloc);
@@ -273,7 +272,8 @@ impl<N: Name + Send + Sync> Run<N> {
         ensures keeps { Keeps self.old self.new }
         ensures recorded { AreNone self.new.troubles
             → tickets.new.items ≡ map (recorded_all reports.now) tickets.old.items }
-        ensures noted { MadeOnly (NotesAny at reports.now tickets.new.items) self.old.main self.new.main }
+        ensures noted { AreNone self.new.troubles
+            → Notes N.terms (notes_of_all at reports.now tickets.new.items) self.old.main self.new.main }
     {
         if !record_all(tickets, reports) {
             self.troubles.add(Refused::Ending);
@@ -285,7 +285,8 @@ impl<N: Name + Send + Sync> Run<N> {
     /// Notes each success of these flushes.
     fn note_all<R: Wait>(&mut self, rt: &R, at: u64, tickets: &[OwnTicket<N>], reports: &[Report])
         ensures keeps { Keeps self.old self.new }
-        ensures noted { MadeOnly (NotesAny at reports.now tickets.now) self.old.main self.new.main }
+        ensures noted { AreNone self.new.troubles
+            → Notes N.terms (notes_of_all at reports.now tickets.now) self.old.main self.new.main }
     {
         for own in tickets {
             self.settle(rt, at, own, reports);
@@ -295,11 +296,13 @@ impl<N: Name + Send + Sync> Run<N> {
     /// Notes each success of a flush, when the sending of its notice was over.
     fn settle<R: Wait>(&mut self, rt: &R, at: u64, own: &OwnTicket<N>, reports: &[Report])
         ensures keeps { Keeps self.old self.new }
-        ensures noted { MadeOnly (NotesOf at reports.now own.now) self.old.main self.new.main }
+        ensures noted { AreNone self.new.troubles
+            → Notes N.terms (notes_of at reports.now own.now own.now.notices) self.old.main self.new.main }
     {
         let ticket = own.ticket();
         for (place, notice) in ticket.notices().iter().enumerate() {
-            if notice.nothing() || ticket.outcome(place) == Some(Outcome::Delivered) {
+            let succeeded = has_succeeded(notice, ticket.outcome(place));
+            if succeeded {
                 let end = end_on(reports, ticket.number(), notice.integration, at);
                 self.note(rt, end, own, place);
             }
@@ -309,13 +312,14 @@ impl<N: Name + Send + Sync> Run<N> {
     /// Logs the success of a notice. Where the history has no room the finish logs it.
     fn note<R: Wait>(&mut self, rt: &R, now: u64, own: &OwnTicket<N>, place: usize)
         ensures keeps { Keeps self.old self.new }
-        ensures noted { MadeOnly (NotesAt now own.now place) self.old.main self.new.main }
+        ensures noted { AreNone self.new.troubles → NotesAt N.terms now own.now place self.old.main self.new.main }
     {
         match self
             .desk
             .note(rt, self.alloc, &mut self.main, own.ticket(), place, now)
         {
-            Ok(_) | Err(NoteFault::HistoryFull) => {}
+            Ok(_) => {}
+            Err(NoteFault::HistoryFull) => {}
             Err(NoteFault::NoMemory) => self.troubles.add_no_memory(),
             Err(_) => self.troubles.add(Refused::Ending),
         }

@@ -1,6 +1,8 @@
 //! The sending of notices.
-ghost use Rattle.std.specs.Prelude.{◌≡◌, ◌≤◌, ◌++◌, All, IfOk, OnOk, map};
+ghost use Rattle.std.specs.Prelude.{◌≡◌, ◌≤◌, ◌++◌, ◌||◌, All, IfOk, OnOk, map};
 ghost use Rattle.am_alerts.specs.declared.limits.TheConstants.{MAX_MOMENT};
+ghost use Rattle.am_model.specs.Finish.{is_delivered};
+ghost use Rattle.am_model.specs.Notice.{is_nothing};
 ghost use Rattle.am_pool.specs.Work.{IsReady};
 ghost use Rattle.am_scenario.specs.Steps.{StartsAt, end_on, notices_of, opened_of};
 ghost use Rattle.am_scenario.specs.Turns.{last_end, report_on, reports_on, sendable, to_send};
@@ -8,6 +10,7 @@ ghost use Rattle.am_scenario.specs.Turns.{last_end, report_on, reports_on, senda
 use am_board::notice::{Notice, Report};
 use am_desk::{Name, OwnTicket};
 use am_pool::Job;
+use am_retry::Outcome;
 use std::alloc::{AllocError, Global};
 
 /// The notices of these tickets that have something to send, by ticket and integration, each to be
@@ -44,6 +47,14 @@ fn add_jobs<'t>(notices: &'t [Notice], at: u64, jobs: &mut Vec<Job<'t>>) -> Resu
         }
     }
     Ok(())
+}
+
+/// Whether a notice of which this outcome is recorded succeeded: it has nothing to send, or was
+/// delivered.
+pub fn has_succeeded(notice: &Notice, outcome: Option<Outcome>) -> bool
+    ensures { result ≡ is_nothing notice.now || is_delivered outcome }
+{
+    notice.nothing() || matches!(outcome, Some(Outcome::Delivered))
 }
 
 /// When the sending of a ticket's notice for an integration was over, which started at `at`.

@@ -9,12 +9,14 @@ use Rattle.am_model.specs.declared.notice.Report.{Report}
 use Rattle.am_model.specs.Replay.{IsLegal}
 use Rattle.am_desk.proofs.Crossing.{every}
 use Rattle.am_desk.specs.Plans.{Plan}
+use Rattle.am_desk.specs.Terms.{terms}
 use Rattle.am_desk.specs.declared.word.Terms.{Terms}
 use Rattle.am_trail.proofs.trail.Trail.TheSendSync as trail
 use Rattle.am_scenario.specs.Report.{report_text}
 use Rattle.am_scenario.specs.Runs.{lanes_of}
 use Rattle.am_scenario.specs.Seats.{HaveMade}
 use Rattle.am_scenario.specs.Steps.{HadTurns}
+use Rattle.am_scenario.specs.Turns.{AreTurnsOf}
 use Rattle.am_scenario.specs.declared.lane.Seat.{Seat}
 use Rattle.am_scenario.specs.declared.run.TheConstants.{BOARD_ID}
 use Rattle.am_scenario.specs.declared.scenario.Phase.{Phase}
@@ -45,7 +47,7 @@ loop-index-preserved g c =
     let is = c.run_phase.new.self in
     record {
       lanes = turn_made ls n m c.in-Some.phase (lanes_of was) (lanes_of is) next at.0 at.2 c.loop-index.invariant.lanes c.in_ok-run_phase.ensures.lanes;
-      main = turn_next ls n m c.in-Some.phase was.main is.main was.reports.items is.reports.items next at.0 at.2 c.loop-index.invariant.main c.in_ok-run_phase.ensures.turn;
+      main = turn_next g.N.Name.terms ls n m c.in-Some.phase was.main is.main was.reports.items is.reports.items next at.0 at.2 c.loop-index.invariant.main c.in_ok-run_phase.ensures.turn;
     }
 
 pub returns : goal.returns
@@ -62,14 +64,17 @@ returns g c =
     let end = YieldsList-end (YieldsList-from_enumerate {s = all} (YieldsList-from_vec {s = all.iter} ls items len) count) c.loop-index.yielded c.loop-index.index-iterator c.loop-index.yielded_by c.next.result c.next.new.self c.in-None.is c.next.ensures.steps in
     let run = c.loop-index.run in
     let closed = c.in_ok-closed.closed in
-    let terms = c.in_ok-closed.ensures.terms ∙ sym c.requires.name.1 in
-    let config : closed.config ≡ c.args.scenario.config = ap (λ (t : Terms). t.config) terms in
-    let id : closed.id ≡ BOARD_ID = ap (λ (t : Terms). t.id) terms ∙ c.requires.id in
+    let same = c.in_ok-closed.ensures.terms ∙ sym c.requires.name.1 in
+    let config : closed.config ≡ c.args.scenario.config = ap (λ (t : Terms). t.config) same in
+    let id : closed.id ≡ BOARD_ID = ap (λ (t : Terms). t.id) same ∙ c.requires.id in
     let passes = ap (λ (p : Plan). p.passes) c.requires.name.0 in
+    let played : g.N.Name.terms ≡ terms c.args.scenario.config BOARD_ID =
+    sym c.requires.name.1 ∙ ap (terms c.args.scenario.config) c.requires.id
+    in
     let reports : c.as_slice-2.result.now ≡ run.reports.items = c.as_slice-2.ensures.value ∙ ap (λ v. v.items) c.in_ok-closed.ensures.reports in
-    let had : HadTurns ls run.main c.as_slice-2.result.now =
-    subst (λ (rs : List Report). HadTurns ls run.main rs) (sym reports)
-    (subst (λ (xs : List Phase). HadTurns xs run.main run.reports.items) (take_all n ls (omega (arith, end.1, length-enumerate_from 0 ls))) c.loop-index.invariant.main)
+    let had : HadTurns g.N.Name.terms ls run.main c.as_slice-2.result.now =
+    subst (λ (rs : List Report). HadTurns g.N.Name.terms ls run.main rs) (sym reports)
+    (subst (λ (xs : List Phase). HadTurns g.N.Name.terms xs run.main run.reports.items) (take_all n ls (omega (arith, end.1, length-enumerate_from 0 ls))) c.loop-index.invariant.main)
     in
     record {
       history = closed.history;
@@ -88,5 +93,7 @@ returns g c =
             few = c.requires.lanes;
             seated = omega (arith, passes, run.seated, run.seats.ok.0, length-map run.seats.items (λ (s : Seat g.row.N.Denot). s.pass));
           };
-      main = turns_stand ls run.main c.as_slice-2.result.now closed.history had c.in_ok-closed.ensures.main;
+      main =
+          subst (λ (t : Terms). AreTurnsOf t 0 closed.history ls c.as_slice-2.result.now) played
+          (turns_stand g.N.Name.terms ls run.main c.as_slice-2.result.now closed.history had c.in_ok-closed.ensures.main);
     }

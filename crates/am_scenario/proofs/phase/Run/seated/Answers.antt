@@ -35,4 +35,4 @@ pub returns-clause-main : goal.returns-clause-main
 returns-clause-main g c =
     let ps = c.args.passes.items in
     let some : 0 < length ps = omega (arith, c.requires, c.args.passes.ok.0) in
-    no_turns c.remove-main.result c.new.result.items (first_is_fresh 0 ps c.remove-main.result c.requires.0 some c.remove-main.ensures.value) c.new.ensures.items
+    no_turns g.N.Name.terms c.remove-main.result c.new.result.items (first_is_fresh 0 ps c.remove-main.result c.requires.0 some c.remove-main.ensures.value) c.new.ensures.items

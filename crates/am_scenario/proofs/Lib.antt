@@ -4,6 +4,7 @@ pub mod Determined
 pub mod Attempts
 pub mod Calls
 pub mod Lanes
+pub mod Noting
 pub mod Phases
 pub mod Seats
 pub mod Crossing

@@ -14,7 +14,8 @@ use Rattle.am_desk.proofs.Prefixes.{prefix_trans}
 use Rattle.am_scenario.specs.Beside.{MadeBetween, Meets, MeetsAll, RanBeside}
 use Rattle.am_scenario.specs.Lanes.{call_at, calls_by}
 use Rattle.am_scenario.specs.Seats.{MadeCalls, MadeLanes}
-use Rattle.am_scenario.specs.Steps.{MadeOnly, MadeRecords}
+use Rattle.am_scenario.specs.Steps.{MadeRecords, Notes}
+use Rattle.am_scenario.specs.Turns.{AreNoted}
 use Rattle.am_scenario.specs.declared.scenario.Lane.{Lane}
 use Rattle.am_scenario.proofs.Calls.{more_made}
 use Rattle.am_scenario.proofs.Steps.{looked_records, more_records, no_records}
@@ -157,7 +158,14 @@ ran_beside at xs p q r ks ls ms ns first made last =
           (zip_through (Meets p q) SameNumber (Starts p) ks ls ms (λ k l m met same. starts p q k l m met same) first.each (lanes_numbers at xs ls ms made)) last.each;
     }
 
--- records that were made after a meeting
-pub quiet_first : (Kind : Record → Type 0) (p q r : Seen) → MadeRecords [] p q → MadeOnly Kind q r → MadeOnly Kind p r
-quiet_first Kind p q r quiet made =
-    record { records = made.records; made = more_records [] made.records p q r quiet made.made; kind = made.kind }
+-- notes that were made after a meeting
+pub quiet_first : (t : Terms) (calls : List Call) (p q r : Seen) → MadeRecords [] p q → Notes t calls q r → Notes t calls p r
+quiet_first t calls p q r quiet notes =
+    let same : own p.number q.log ≡ own p.number p.log = quiet.1 ∙ append-nil (own p.number p.log) in
+    record {
+      records = notes.records;
+      made = more_records [] notes.records p q r quiet notes.made;
+      noted =
+          subst (λ (xs : List Record). AreNoted t p.number r.log xs calls notes.records) same
+          (subst (λ (n : ℕ). AreNoted t n r.log (own n q.log) calls notes.records) quiet.0 notes.noted);
+    }

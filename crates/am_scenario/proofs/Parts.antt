@@ -15,6 +15,7 @@ use Rattle.am_desk.specs.History.{own, made}
 use Rattle.am_desk.specs.Known.{Seen, seen}
 use Rattle.am_desk.proofs.Histories.{own-append, own_prefix}
 use Rattle.am_desk.proofs.Prefixes.{prefix_both, prefix_nil, prefix_self, prefix_trans}
+use Rattle.am_desk.specs.declared.word.Terms.{Terms}
 use Rattle.am_pool.specs.declared.courier.Tried.{Tried}
 use Rattle.am_scenario.specs.Beside.{HadNoParts, HadParts, HasNoMore, MadeBetween, RanBeside, RanFirst, TookPart}
 use Rattle.am_scenario.specs.Lanes.{calls_at, calls_by, phase_calls}
@@ -190,17 +191,17 @@ in_order [] bs ys ns fs = sym (append_assoc (bs ++ ys) ns fs)
 in_order (p ∷ ps) bs ys ns fs = ap (λ (rs : List Record). p ∷ rs) (in_order ps bs ys ns fs)
 
 -- what is known at the end of a phase
-record PartOver (Answers : Tried → Type 0) (phases : List Phase) (phase : Phase) (p s : Seen) (ls ms : List Seen) (reports since : List Report) : Type 0 where
+record PartOver (Answers : Tried → Type 0) (desk : Terms) (phases : List Phase) (phase : Phase) (p s : Seen) (ls ms : List Seen) (reports since : List Report) : Type 0 where
   have : HaveMade 0 phases ls
   lanes : MadeLanes phase.at phase.lanes.items ls ms
-  had : HadParts Answers phases p ls reports
-  took : TookPart Answers phase p s ls ms reports since
+  had : HadParts Answers desk phases p ls reports
+  took : TookPart Answers desk phase p s ls ms reports since
   no_more : HasNoMore ms s.log
 
 -- each pass over the phase
-passes_over : (Answers : Tried → Type 0) (phases : List Phase) (phase : Phase) (p s : Seen) (ls ms : List Seen) (reports since : List Report)
-    → (o : PartOver Answers phases phase p s ls ms reports since) → AllZip (PassOver p.log o.took.begun.log o.took.joined.log s.log) ls ms
-passes_over Answers phases phase p s ls ms reports since o =
+passes_over : (Answers : Tried → Type 0) (desk : Terms) (phases : List Phase) (phase : Phase) (p s : Seen) (ls ms : List Seen) (reports since : List Report)
+    → (o : PartOver Answers desk phases phase p s ls ms reports since) → AllZip (PassOver p.log o.took.begun.log o.took.joined.log s.log) ls ms
+passes_over Answers desk phases phase p s ls ms reports since o =
     let t = o.took in
     zip_weaker (MadeBetween t.begun.log t.joined.log) (PassOver p.log t.begun.log t.joined.log s.log)
     (λ (l : Seen). IsPrefix (own l.number l.log) (own l.number p.log)) (λ (m : Seen). IsPrefix (own m.number s.log) (own m.number m.log)) ls ms
@@ -217,14 +218,14 @@ record PartMade (phase : Phase) (turn : Turn) (before since : List Record) : Typ
   is : IsPartOf phase (record { turn = turn; beside = beside })
   made : since ≡ before ++ all_in (record { turn = turn; beside = beside })
 
-part_made : (Answers : Tried → Type 0) (phases : List Phase) (phase : Phase) (p s : Seen) (ls ms : List Seen) (reports since : List Report)
-    → (o : PartOver Answers phases phase p s ls ms reports since) → PartMade phase o.took.took.turn p.log s.log
-part_made Answers phases phase p s ls ms reports since o =
+part_made : (Answers : Tried → Type 0) (desk : Terms) (phases : List Phase) (phase : Phase) (p s : Seen) (ls ms : List Seen) (reports since : List Report)
+    → (o : PartOver Answers desk phases phase p s ls ms reports since) → PartMade phase o.took.took.turn p.log s.log
+part_made Answers desk phases phase p s ls ms reports since o =
     let t = o.took in
     let turn = t.took.turn in
     let begun = t.begun.log in
     let joined = t.joined.log in
-    let over = passes_over Answers phases phase p s ls ms reports since o in
+    let over = passes_over Answers desk phases phase p s ls ms reports since o in
     let Over = PassOver p.log begun joined s.log in
     let same = zip_length Over ls ms over in
     let zero : t.begun.number ≡ 0 = t.begins.0 ∙ o.had.main.0 in
@@ -298,48 +299,48 @@ no_more_before p s ls ms begun joined first all between no_more =
     }
 
 -- one part more
-part_more : (Answers : Tried → Type 0) (phases : List Phase) (phase : Phase) (p s : Seen) (ls ms : List Seen) (reports since : List Report) → HaveMade 0 phases ls
-    → MadeLanes phase.at phase.lanes.items ls ms → HadParts Answers phases p ls reports → TookPart Answers phase p s ls ms reports since → HadParts Answers (phases ++ phase ∷ []) s ms since
-part_more Answers phases phase p s ls ms reports since have lanes had t =
+part_more : (Answers : Tried → Type 0) (desk : Terms) (phases : List Phase) (phase : Phase) (p s : Seen) (ls ms : List Seen) (reports since : List Report) → HaveMade 0 phases ls
+    → MadeLanes phase.at phase.lanes.items ls ms → HadParts Answers desk phases p ls reports → TookPart Answers desk phase p s ls ms reports since → HadParts Answers desk (phases ++ phase ∷ []) s ms since
+part_more Answers desk phases phase p s ls ms reports since have lanes had t =
     let turn = t.took.turn in
     let begun = t.begun.log in
     let joined = t.joined.log in
     let to_end : IsPrefix begun s.log = prefix_trans begun joined s.log t.beside.quiet.2 t.ends.2 in
     let all : IsPrefix p.log s.log = prefix_trans p.log begun s.log t.begins.2 to_end in
     record {
-      main = turn_more Answers phases phase p s reports since had.main t.took;
+      main = turn_more Answers desk phases phase p s reports since had.main t.took;
       sees =
           zip_seconds (MadeBetween begun joined) (λ (m : Seen). IsPrefix (own m.number m.log) (own m.number s.log)) ls ms
           (λ l m x. prefix_trans (own m.number m.log) (own m.number joined) (own m.number s.log) x.ends (own_prefix m.number joined s.log t.ends.2)) t.beside.each;
       parts = λ no_more.
           let before = had.parts (no_more_before p s ls ms begun joined t.begins.2 all t.beside.each no_more) in
-          let one = part_made Answers phases phase p s ls ms reports since (record { have = have; lanes = lanes; had = had; took = t; no_more = no_more }) in
+          let one = part_made Answers desk phases phase p s ls ms reports since (record { have = have; lanes = lanes; had = had; took = t; no_more = no_more }) in
           let part : Part = record { turn = turn; beside = one.beside } in
           record {
             parts = before.parts ++ part ∷ [];
             turned =
                 map-append (λ (x : Part). x.turn) before.parts (part ∷ [])
-                ∙ (ap (λ (us : List Turn). us ++ turn ∷ []) before.turned ∙ sym (turns_more Answers phases phase p s reports since had.main t.took));
+                ∙ (ap (λ (us : List Turn). us ++ turn ∷ []) before.turned ∙ sym (turns_more Answers desk phases phase p s reports since had.main t.took));
             each = zip_push IsPartOf phases before.parts phase part before.each one.is;
             made = flat_more all_in before.parts part p.log s.log before.made one.made;
           };
     }
 
 -- the part of the next phase of a list
-pub part_next : (Answers : Tried → Type 0) (phases : List Phase) (n m : ℕ) (phase : Phase) (p q : Seen) (ls ms : List Seen) (reports since : List Report) → m ≡ n + 1 → n < length phases
+pub part_next : (Answers : Tried → Type 0) (desk : Terms) (phases : List Phase) (n m : ℕ) (phase : Phase) (p q : Seen) (ls ms : List Seen) (reports since : List Report) → m ≡ n + 1 → n < length phases
     → phase ≡ get_or phases n phase → HaveMade 0 (take n phases) ls → MadeLanes phase.at phase.lanes.items ls ms
-    → HadParts Answers (take n phases) p ls reports → TookPart Answers phase p q ls ms reports since → HadParts Answers (take m phases) q ms since
-part_next Answers phases n m phase p q ls ms reports since next there is have lanes had took =
+    → HadParts Answers desk (take n phases) p ls reports → TookPart Answers desk phase p q ls ms reports since → HadParts Answers desk (take m phases) q ms since
+part_next Answers desk phases n m phase p q ls ms reports since next there is have lanes had took =
     let longer : take m phases ≡ take n phases ++ phase ∷ [] =
     ap (λ (k : ℕ). take k phases) next ∙ (take_more phases n phase there ∙ ap (λ (x : Phase). take n phases ++ x ∷ []) (sym is))
     in
-    subst (λ (xs : List Phase). HadParts Answers xs q ms since) (sym longer) (part_more Answers (take n phases) phase p q ls ms reports since have lanes had took)
+    subst (λ (xs : List Phase). HadParts Answers desk xs q ms since) (sym longer) (part_more Answers desk (take n phases) phase p q ls ms reports since have lanes had took)
 
 -- a history in which all passes stand, and no other made a call, is made of these parts
-pub parts_stand : (Answers : Tried → Type 0) (phases : List Phase) (p : Seen) (ls : List Seen) (reports : List Report) (history : List Record) → HaveMade 0 phases ls
-    → (had : HadParts Answers phases p ls reports) → Stands p history → All (λ (l : Seen). Stands l history) ls → ((k : ℕ) → length ls < k → made k history ≡ 0)
+pub parts_stand : (Answers : Tried → Type 0) (desk : Terms) (phases : List Phase) (p : Seen) (ls : List Seen) (reports : List Report) (history : List Record) → HaveMade 0 phases ls
+    → (had : HadParts Answers desk phases p ls reports) → Stands p history → All (λ (l : Seen). Stands l history) ls → ((k : ℕ) → length ls < k → made k history ≡ 0)
     → ArePartsOf phases had.main.1.turns history
-parts_stand Answers phases p ls reports history have had stands each others =
+parts_stand Answers desk phases p ls reports history have had stands each others =
     let none : (k : ℕ) → length ls < k → own k history ≡ [] = λ k more. nil_from_length (own k history) (others k more) in
     let no_more : HasNoMore ls p.log =
     record {
@@ -369,10 +370,10 @@ fresh_seen n p (l ∷ ls) fresh =
     (subst (λ (x : Seen). IsPrefix (own x.number x.log) (own x.number p.log)) (sym fresh.0) (prefix_nil (own n p.log))) (fresh_seen (n + 1) p ls fresh.1)
 
 -- before the first phase
-pub no_parts : (Answers : Tried → Type 0) (p : Seen) (ls : List Seen) (reports : List Report) → HadNoParts p ls reports → HadParts Answers [] p ls reports
-no_parts Answers p ls reports none =
+pub no_parts : (Answers : Tried → Type 0) (desk : Terms) (p : Seen) (ls : List Seen) (reports : List Report) → HadNoParts p ls reports → HadParts Answers desk [] p ls reports
+no_parts Answers desk p ls reports none =
     record {
-      main = no_turns Answers p reports none.0 none.2;
+      main = no_turns Answers desk p reports none.0 none.2;
       sees = fresh_seen 1 p ls none.1;
-      parts = λ no_more. record { parts = []; turned = sym (turns_none Answers p reports none.0 none.2); each = tt; made = ap (λ (s : Seen). s.log) none.0 };
+      parts = λ no_more. record { parts = []; turned = sym (turns_none Answers desk p reports none.0 none.2); each = tt; made = ap (λ (s : Seen). s.log) none.0 };
     }

@@ -1,27 +1,25 @@
 -- The records that the main thread's pass makes.
-use Rattle.std.proofs.Common.{◌≡◌, ℕ, Bool, true, All, subst, List, [], ◌∷◌, ◌++◌, ◌<◌, length, get_or, map, slice_get, Some, Option, refl, sym, ap, ◌∙◌, append_assoc}
+use Rattle.std.proofs.Common.{◌≡◌, ◌≢◌, ◌⊎◌, inl, inr, ⊎_elim, ℕ, Bool, true, false, true≢false, All, subst, List, [], ◌∷◌, ◌++◌, map, length, ◌+◌, Some, None, arith, refl, sym, ap, ◌∙◌, append_assoc}
 use mathlib.Core.List.{IsPrefix}
-use Rattle.std.specs.List.{Contains}
 use Rattle.std.proofs.lemmas.Grind.{flat_map-append}
-use Rattle.std.proofs.lemmas.List.{append-nil, map-append}
-use Rattle.std.proofs.lemmas.List.Elements.{All-append, All-cons, All-nil, All-weaker}
-use Rattle.std.proofs.lemmas.Option.{get_or_from_slice_get, slice_get_within}
-use Rattle.am_model.specs.Notice.{NoticeData}
+use Rattle.std.proofs.lemmas.List.{append-nil, length_push, map-append}
+use Rattle.std.proofs.lemmas.List.Elements.{All-append, All-cons, All-nil}
 use Rattle.am_model.specs.Records.{entry}
-use Rattle.am_model.specs.Ticket.{TicketData, outcome_of}
-use Rattle.am_model.specs.declared.fault.Fault.{Fault}
+use Rattle.am_model.specs.Replay.{replay}
+use Rattle.am_model.specs.Ticket.{TicketData}
 use Rattle.am_model.specs.declared.fault.Fault.TheVariants as fault
-use Rattle.am_model.specs.declared.notice.Report.{Report}
 use Rattle.am_model.specs.declared.record.Call.TheVariants as call
 use Rattle.am_model.specs.declared.record.Record.{Record}
 use Rattle.am_model.specs.declared.record.Reply.{Reply}
-use Rattle.am_desk.specs.Calls.{Called, IsRefused}
+use Rattle.am_model.specs.declared.record.Reply.TheVariants as reply
+use Rattle.am_desk.specs.Calls.{Called, why_begin}
 use Rattle.am_desk.specs.History.{own}
 use Rattle.am_desk.specs.Known.{Looks, Seen}
 use Rattle.am_desk.specs.declared.word.Terms.{Terms}
-use Rattle.am_desk.proofs.Prefixes.{prefix_self, prefix_snoc, prefix_trans}
-use Rattle.am_scenario.specs.Steps.{Begins, FinishesOne, IsUnrecorded, MadeOnly, MadeRecords, NotesAt, NotesOf, end_on, opened_of}
-use Rattle.am_scenario.specs.Turns.{Opened, opened_by, opened_in, report_on}
+use Rattle.am_board.proofs.keeping.Calls.{room_of}
+use Rattle.am_desk.proofs.Prefixes.{prefix_length, prefix_self, prefix_snoc, prefix_trans}
+use Rattle.am_scenario.specs.Steps.{Begins, FinishesOne, Grows, IsUnrecorded, MadeRecords, opened_of}
+use Rattle.am_scenario.specs.Turns.{EndRightly, EndedByNothing, FoundDue, HasManyOpen, Once, Opened, opened_by, opened_in}
 
 pub no_records : (p : Seen) → MadeRecords [] p p
 no_records p = (refl, sym (append-nil (own p.number p.log)), prefix_self p.log)
@@ -36,11 +34,8 @@ looked_records t p q looks = (ap (λ (s : Seen). s.number) looks.same, looks.own
 
 -- a pass whose call was accepted
 pub one_record : (t : Terms) (p q : Seen) (Allowed : List Record → Type 0) (r : Record) → Called t p Allowed r q → MadeRecords (r ∷ []) p q
-one_record t p q Allowed r c = (
-  ap (λ (s : Seen). s.number) c.sees,
-  c.own,
-  subst (λ (s : Seen). IsPrefix p.log s.log) (sym c.sees) (prefix_snoc p.log c.found r c.begins),
-)
+one_record t p q Allowed r c =
+    (ap (λ (s : Seen). s.number) c.sees, c.own, subst (λ (s : Seen). IsPrefix p.log s.log) (sym c.sees) (prefix_snoc p.log c.found r c.begins))
 
 -- what was made first, and what was made then
 pub more_records : (rs ss : List Record) (p q r : Seen) → MadeRecords rs p q → MadeRecords ss q r → MadeRecords (rs ++ ss) p r
@@ -51,15 +46,6 @@ more_records rs ss p q r first then =
       prefix_trans p.log q.log r.log first.2 then.2,
     )
 
--- a refused call makes none
-pub refused_records : (t : Terms) (p q : Seen) (why : List Record → Option Fault) (f : Fault) → IsRefused t p why f q → MadeRecords [] p q
-refused_records t p q why fault.NoMemory r = same_records p q r
-refused_records t p q why fault.TooManyNames r = looked_records t p q r.0
-refused_records t p q why fault.TooManyGroups r = looked_records t p q r.0
-refused_records t p q why fault.TooManySilences r = looked_records t p q r.0
-refused_records t p q why fault.TooManyOpen r = looked_records t p q r.0
-refused_records t p q why fault.HistoryFull r = looked_records t p q r.0
-
 all_one : {X : Type 0} (P : X → Type 0) (x : X) → P x → All P (x ∷ [])
 all_one P x is = All-cons P x [] is (All-nil P)
 
@@ -68,64 +54,139 @@ pub one_finish : (t : Terms) (p q : Seen) (Allowed : List Record → Type 0) (no
     → Called t p Allowed (entry p.number (call.Finish now ticket.number ticket.outcomes) told) q → FinishesOne now ticket p q
 one_finish t p q Allowed now ticket told called = (entry p.number (call.Finish now ticket.number ticket.outcomes) told, one_record t p q Allowed _ called, refl)
 
-pub only_more : (Kind : Record → Type 0) (p q r : Seen) → MadeOnly Kind p q → MadeOnly Kind q r → MadeOnly Kind p r
-only_more Kind p q r first then =
-    record {
-      records = first.records ++ then.records;
-      made = more_records first.records then.records p q r first.made then.made;
-      kind = All-append Kind first.records then.records first.kind then.kind;
-    }
+-- begins that were made before these, which all found a group due
+rightly_more : (t : Terms) (pass : ℕ) (history before : List Record) (at : ℕ) (xs ys : List Record) → All FoundDue xs
+    → EndRightly t pass history (before ++ xs) at ys → EndRightly t pass history before at (xs ++ ys)
+rightly_more t pass history before at xs ys found then =
+    ⊎_elim
+    (λ (nothing : EndedByNothing ys).
+    inl (
+      xs ++ nothing.0,
+      nothing.1,
+      ap (λ (rs : List Record). xs ++ rs) nothing.2 ∙ sym (append_assoc xs nothing.0 (nothing.1 ∷ [])),
+      All-append FoundDue xs nothing.0 found nothing.3,
+      nothing.4,
+    ))
+    (λ (many : All FoundDue ys × Once pass history ((before ++ xs) ++ ys) (HasManyOpen t at)).
+    inr (
+      All-append FoundDue xs ys found many.0,
+      subst (λ (rs : List Record). Once pass history rs (HasManyOpen t at)) (append_assoc before xs ys) many.1,
+    ))
+    then
 
-pub only_weaker : (Kind Other : Record → Type 0) (p q : Seen) → ((r : Record) → Kind r → Other r) → MadeOnly Kind p q → MadeOnly Other p q
-only_weaker Kind Other p q weaker made =
-    record { records = made.records; made = made.made; kind = All-weaker Kind Other weaker made.records made.kind }
+-- a begin that wasn't asked for
+not_asked : (flush : Bool) → flush ≡ false → flush ≡ true → ⊥
+not_asked flush unset set = true≢false (sym set ∙ unset)
 
--- no begin, and the tickets are as they were
-pub begins_none : (flush : Bool) (at : ℕ) (p q : Seen) (ts us : List TicketData) → us ≡ ts → MadeRecords [] p q → Begins flush at p q ts us
-begins_none flush at p q ts us same made =
+-- an accepted begin leaves a record, for which there was room
+pub begin_grows : (t : Terms) (at : ℕ) (p q : Seen) (r : Record) → Called t p (λ h. why_begin t at h ≡ None) r q → Grows t p q
+begin_grows t at p q r c =
+    let room = (room_of t.config (length c.found) (replay t.config c.found) 2 (Some fault.HistoryFull) _ c.allowed (λ h. absurd (cc))).0 in
+    let longer : length q.log ≡ length c.found + 1 = ap (λ (s : Seen). length s.log) c.sees ∙ length_push c.found r in
+    (omega (arith, prefix_length p.log c.found c.begins, longer), omega (arith, room, longer))
+
+-- no flush was asked for, and nothing was done
+pub begins_none : (t : Terms) (flush : Bool) (at : ℕ) (p q : Seen) (ts us : List TicketData) → flush ≡ false → us ≡ ts → MadeRecords [] p q → Begins t flush false at p q ts us
+begins_none t flush at p q ts us none same made =
     record {
       begins = [];
       made = made;
       begun = All-nil (λ (r : Record). (flush ≡ true) × (r.call ≡ call.Begin at));
+      found = λ more. absurd (true≢false (sym more));
+      ended = λ asked end. absurd (not_asked flush none asked);
       opened = ap (map opened_of) same ∙ sym (append-nil (map opened_of ts));
       unrecorded = subst (λ (xs : List TicketData). All IsUnrecorded ts → All IsUnrecorded xs) (sym same) (λ all. all);
     }
 
--- a begin that opens a flush, whose ticket comes last
-pub begins_flush : (at : ℕ) (p q : Seen) (ts us : List TicketData) (t : TicketData) (told : Reply) → us ≡ ts ++ t ∷ [] → t.outcomes ≡ [] → opened_in told ≡ opened_of t ∷ []
-    → MadeRecords (entry p.number (call.Begin at) told ∷ []) p q → Begins true at p q ts us
-begins_flush at p q ts us t told more fresh one made =
+-- as many flushes are open as may be
+pub begins_full : (t : Terms) (at : ℕ) (p q : Seen) (ts us : List TicketData) → us ≡ ts → Looks t p q → why_begin t at q.log ≡ Some fault.TooManyOpen → Begins t true false at p q ts us
+begins_full t at p q ts us same looks why =
     record {
-      begins = entry p.number (call.Begin at) told ∷ [];
-      made = made;
-      begun = all_one (λ (r : Record). (true ≡ true) × (r.call ≡ call.Begin at)) (entry p.number (call.Begin at) told) (refl, refl);
-      opened = ap (map opened_of) more ∙ (map-append opened_of ts (t ∷ []) ∙ ap (λ (os : List Opened). map opened_of ts ++ (os ++ [])) (sym one));
-      unrecorded = λ all. subst (λ (xs : List TicketData). All IsUnrecorded xs) (sym more) (All-append IsUnrecorded ts (t ∷ []) all (all_one IsUnrecorded t fresh));
+      begins = [];
+      made = looked_records t p q looks;
+      begun = All-nil (λ (r : Record). (true ≡ true) × (r.call ≡ call.Begin at));
+      found = λ more. absurd (true≢false (sym more));
+      ended = λ asked end. inr (All-nil FoundDue, (q.log, prefix_self q.log, looks.own ∙ sym (append-nil (own p.number p.log)), why));
+      opened = ap (map opened_of) same ∙ sym (append-nil (map opened_of ts));
+      unrecorded = subst (λ (xs : List TicketData). All IsUnrecorded ts → All IsUnrecorded xs) (sym same) (λ all. all);
     }
 
--- a begin that opens no flush
-pub begins_quiet : (at : ℕ) (p q : Seen) (ts us : List TicketData) (told : Reply) → us ≡ ts → opened_in told ≡ []
-    → MadeRecords (entry p.number (call.Begin at) told ∷ []) p q → Begins true at p q ts us
-begins_quiet at p q ts us told same none made =
+-- a begin that finds no group due
+pub begins_nothing : (t : Terms) (at : ℕ) (p q : Seen) (ts us : List TicketData) → us ≡ ts → MadeRecords (entry p.number (call.Begin at) reply.NothingDue ∷ []) p q → Begins t true false at p q ts us
+begins_nothing t at p q ts us same made =
+    let r = entry p.number (call.Begin at) reply.NothingDue in
     record {
-      begins = entry p.number (call.Begin at) told ∷ [];
+      begins = r ∷ [];
       made = made;
-      begun = all_one (λ (r : Record). (true ≡ true) × (r.call ≡ call.Begin at)) (entry p.number (call.Begin at) told) (refl, refl);
+      begun = all_one (λ (x : Record). (true ≡ true) × (x.call ≡ call.Begin at)) r (refl, refl);
+      found = λ more. absurd (true≢false (sym more));
+      ended = λ asked end. inl ([], r, refl, All-nil FoundDue, refl);
+      opened = ap (map opened_of) same ∙ sym (append-nil (map opened_of ts));
+      unrecorded = subst (λ (xs : List TicketData). All IsUnrecorded ts → All IsUnrecorded xs) (sym same) (λ all. all);
+    }
+
+-- a begin that takes a group and opens no flush
+pub begins_quiet : (t : Terms) (at : ℕ) (p q : Seen) (ts us : List TicketData) (told : Reply) → told ≢ reply.NothingDue → opened_in told ≡ [] → us ≡ ts
+    → MadeRecords (entry p.number (call.Begin at) told ∷ []) p q → Begins t true true at p q ts us
+begins_quiet t at p q ts us told found none same made =
+    let r = entry p.number (call.Begin at) told in
+    record {
+      begins = r ∷ [];
+      made = made;
+      begun = all_one (λ (x : Record). (true ≡ true) × (x.call ≡ call.Begin at)) r (refl, refl);
+      found = λ more. all_one FoundDue r found;
+      ended = λ asked end. absurd (true≢false end);
       opened = ap (map opened_of) same ∙ (sym (append-nil (map opened_of ts)) ∙ ap (λ (os : List Opened). map opened_of ts ++ (os ++ [])) (sym none));
       unrecorded = subst (λ (xs : List TicketData). All IsUnrecorded ts → All IsUnrecorded xs) (sym same) (λ all. all);
     }
 
--- begins that were asked for, where no ticket was there
-pub begins_asked : (flush : Bool) (at : ℕ) (p q : Seen) (ts none us : List TicketData) → ts ≡ none → flush ≡ true → Begins true at p q ts us → Begins flush at p q none us
-begins_asked flush at p q ts none us same asked begins =
-    subst (λ (b : Bool). Begins b at p q none us) (sym asked) (subst (λ (xs : List TicketData). Begins true at p q xs us) same begins)
+-- a begin that opens a flush, whose ticket comes last
+pub begins_flush : (t : Terms) (at : ℕ) (p q : Seen) (ts us : List TicketData) (u : TicketData) (told : Reply) → us ≡ ts ++ u ∷ [] → u.outcomes ≡ [] → told ≢ reply.NothingDue
+    → opened_in told ≡ opened_of u ∷ [] → MadeRecords (entry p.number (call.Begin at) told ∷ []) p q → Begins t true true at p q ts us
+begins_flush t at p q ts us u told more fresh found one made =
+    let r = entry p.number (call.Begin at) told in
+    record {
+      begins = r ∷ [];
+      made = made;
+      begun = all_one (λ (x : Record). (true ≡ true) × (x.call ≡ call.Begin at)) r (refl, refl);
+      found = λ _. all_one FoundDue r found;
+      ended = λ asked end. absurd (true≢false end);
+      opened = ap (map opened_of) more ∙ (map-append opened_of ts (u ∷ []) ∙ ap (λ (os : List Opened). map opened_of ts ++ (os ++ [])) (sym one));
+      unrecorded = λ all. subst (λ (xs : List TicketData). All IsUnrecorded xs) (sym more) (All-append IsUnrecorded ts (u ∷ []) all (all_one IsUnrecorded u fresh));
+    }
 
-pub begins_more : (at : ℕ) (p q r : Seen) (ts us vs : List TicketData) → Begins true at p q ts us → Begins true at q r us vs → Begins true at p r ts vs
-begins_more at p q r ts us vs first then =
+-- begins that were asked for, where no ticket was there
+pub begins_asked : (t : Terms) (flush : Bool) (at : ℕ) (p q : Seen) (ts none us : List TicketData) → ts ≡ none → flush ≡ true → Begins t true false at p q ts us
+    → Begins t flush false at p q none us
+begins_asked t flush at p q ts none us same asked begins =
+    subst (λ (b : Bool). Begins t b false at p q none us) (sym asked) (subst (λ (xs : List TicketData). Begins t true false at p q xs us) same begins)
+
+-- no begin so far
+pub begins_start : (t : Terms) (at : ℕ) (p : Seen) (ts : List TicketData) → Begins t true true at p p ts ts
+begins_start t at p ts =
+    record {
+      begins = [];
+      made = no_records p;
+      begun = All-nil (λ (r : Record). (true ≡ true) × (r.call ≡ call.Begin at));
+      found = λ more. All-nil FoundDue;
+      ended = λ asked end. absurd (true≢false end);
+      opened = sym (append-nil (map opened_of ts));
+      unrecorded = λ all. all;
+    }
+
+pub begins_more : (t : Terms) (more : Bool) (at : ℕ) (p q r : Seen) (ts us vs : List TicketData) → Begins t true true at p q ts us → Begins t true more at q r us vs
+    → Begins t true more at p r ts vs
+begins_more t more at p q r ts us vs first then =
     record {
       begins = first.begins ++ then.begins;
       made = more_records first.begins then.begins p q r first.made then.made;
       begun = All-append (λ (x : Record). (true ≡ true) × (x.call ≡ call.Begin at)) first.begins then.begins first.begun then.begun;
+      found = λ m. All-append FoundDue first.begins then.begins (first.found refl) (then.found m);
+      ended =
+          λ asked end.
+          rightly_more t p.number r.log (own p.number p.log) at first.begins then.begins (first.found refl)
+          (subst (λ (xs : List Record). EndRightly t p.number r.log xs at then.begins) first.made.1
+          (subst (λ (n : ℕ). EndRightly t n r.log (own n q.log) at then.begins) first.made.0 (then.ended asked end)));
       opened =
           then.opened
           ∙ (ap (λ (os : List Opened). os ++ opened_by then.begins) first.opened
@@ -133,23 +194,3 @@ begins_more at p q r ts us vs first then =
           ∙ ap (λ (os : List Opened). map opened_of ts ++ os) (sym (flat_map-append (λ (x : Record). opened_in x.reply) first.begins then.begins))));
       unrecorded = λ all. then.unrecorded (first.unrecorded all);
     }
-
--- what comes next is there
-pub there_next : {X : Type 0} (xs : List X) (k : ℕ) (x : X) → k < length xs → x ≡ get_or xs k x → Contains xs x
-there_next xs k x within is = (k, within, sym is)
-
--- what stands at a place is there
-pub there_at : {X : Type 0} (xs : List X) (k : ℕ) (x : X) → slice_get xs k ≡ Some x → Contains xs x
-there_at xs k x is = (k, slice_get_within xs k x is, get_or_from_slice_get xs k x x is)
-
--- a note of the notice at a place, at the end of its sending
-pub note_at_end : (now at : ℕ) (reports : List Report) (t : TicketData) (place : ℕ) (n : NoticeData) (r : Record) → n ≡ get_or t.notices place n
-    → now ≡ end_on at (report_on t.number n.integration reports) → NotesAt now t place r → NotesOf at reports t r
-note_at_end now at reports t place n r here is notes =
-    let same : notes.0 ≡ n = sym (get_or_from_slice_get t.notices place notes.0 n notes.1) ∙ sym here in (
-      notes.0,
-      there_at t.notices place notes.0 notes.1,
-      notes.2
-          ∙ ap (λ (k : ℕ). call.Note k t.number notes.0.integration (outcome_of t.outcomes notes.0.integration))
-          (is ∙ ap (λ (m : NoticeData). end_on at (report_on t.number m.integration reports)) (sym same)),
-    )

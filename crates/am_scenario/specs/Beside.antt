@@ -7,6 +7,7 @@ use Rattle.am_model.specs.declared.record.Record.{Record}
 use Rattle.am_desk.specs.Desks.{AreFresh}
 use Rattle.am_desk.specs.History.{own}
 use Rattle.am_desk.specs.Known.{Seen, seen}
+use Rattle.am_desk.specs.declared.word.Terms.{Terms}
 use Rattle.am_pool.specs.declared.courier.Tried.{Tried}
 use Rattle.am_scenario.specs.Parts.{ArePartsOf}
 use Rattle.am_scenario.specs.Steps.{HadTurns, MadeRecords, TookTurn}
@@ -39,8 +40,8 @@ pub record RanFirst (p q : Seen) (ls ms : List Seen) : Type 0 where
   pub begins : IsPrefix joined.log q.log
 
 -- the main thread had its turn in a phase, and the passes of the lanes made their calls between its begins and its notes
-pub record TookPart (Answers : Tried → Type 0) (phase : Phase) (p q : Seen) (ls ms : List Seen) (reports reports_since : List Report) : Type 0 where
-  pub took : TookTurn Answers phase p q reports reports_since
+pub record TookPart (Answers : Tried → Type 0) (t : Terms) (phase : Phase) (p q : Seen) (ls ms : List Seen) (reports reports_since : List Report) : Type 0 where
+  pub took : TookTurn Answers t phase p q reports reports_since
   pub begun : Seen
   pub joined : Seen
   pub begins : MadeRecords took.turn.begins p begun
@@ -54,8 +55,8 @@ pub record HasNoMore (ls : List Seen) (rs : List Record) : Type 0 where
 
 -- between two phases the main thread's pass had its turns and has seen all calls of the lanes; if it has seen no others, what it has
 -- seen is made of a part for each phase so far. That there are no others is known when it meets the lanes again, or when the desk is closed
-pub record HadParts (Answers : Tried → Type 0) (phases : List Phase) (p : Seen) (ls : List Seen) (reports : List Report) : Type 0 where
-  pub main : HadTurns Answers phases p reports
+pub record HadParts (Answers : Tried → Type 0) (t : Terms) (phases : List Phase) (p : Seen) (ls : List Seen) (reports : List Report) : Type 0 where
+  pub main : HadTurns Answers t phases p reports
   pub sees : All (λ l. IsPrefix (own l.number l.log) (own l.number p.log)) ls
   pub parts : HasNoMore ls p.log → ArePartsOf phases main.1.turns p.log
 

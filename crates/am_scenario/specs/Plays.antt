@@ -1,7 +1,7 @@
 -- What the report on a scenario that was played tells.
 use Rattle.std.specs.Prelude.{◌≡◌, ℕ, ◌+◌, List}
 use Rattle.am_model.specs.declared.record.Record.{Record}
-use Rattle.am_desk.specs.History.{own}
+use Rattle.am_desk.specs.Terms.{terms}
 use Rattle.am_scenario.specs.Lanes.{calls_by, lane_calls}
 use Rattle.am_scenario.specs.Parts.{ArePartsOf}
 use Rattle.am_scenario.specs.Report.{IsReportOn}
@@ -18,7 +18,7 @@ pub record IsPlayOf (id : ℕ) (scenario : Scenario) (text : List ℕ) : Type 0 
   pub history : List Record
   pub report : IsReportOn scenario.config id history text
   pub lanes : (i : ℕ) → calls_by (i + 1) history ≡ lane_calls i scenario.phases.items
-  pub main : AreTurnsOf (IsAsPlanned scenario.scripts.items) scenario.phases.items (own 0 history) report.reports
+  pub main : AreTurnsOf (IsAsPlanned scenario.scripts.items) (terms scenario.config id) 0 history scenario.phases.items report.reports
   pub parts : ArePartsOf scenario.phases.items main.turns history
 
 -- the text is the report on the scenario that an input tells, which was played on the board of this id

@@ -1,5 +1,5 @@
 //! The phases of a run.
-ghost use Rattle.std.specs.Prelude.{◌≡◌, ◌<◌, ◌≤◌, ◌+◌, ◌++◌, ◌∷◌, [], ℕ, true, All, IfOk, IsTrue, OnOk, Ok, length, map, vec_len};
+ghost use Rattle.std.specs.Prelude.{◌≡◌, ◌<◌, ◌≤◌, ◌+◌, ◌++◌, ◌∷◌, [], ℕ, false, true, All, IfOk, IsTrue, OnOk, Ok, length, map, vec_len};
 ghost use Rattle.std.specs.List.{AllZip, range_with_len};
 ghost use Rattle.am_alerts.specs.declared.limits.TheConstants.{MAX_MOMENT};
 ghost use Rattle.am_desk.specs.Desks.{AreFresh, Stands};
@@ -7,8 +7,8 @@ ghost use Rattle.am_desk.specs.History.{made};
 ghost use Rattle.am_desk.specs.Terms.{terms_of};
 ghost use Rattle.am_scenario.specs.Beside.{HadNoParts, MeetsAll, RanBeside, RanFirst, TookPart};
 ghost use Rattle.am_scenario.specs.Seats.{HaveMade, MadeLanes, NoneRefused, passes_in};
-ghost use Rattle.am_scenario.specs.Steps.{Begins, Finishes, FinishesOne, MadeOnly, NotesAny, NotesAt, NotesOf, Sends};
-ghost use Rattle.am_scenario.specs.Steps.{opened_of, recorded_all};
+ghost use Rattle.am_scenario.specs.Steps.{Begins, Finishes, FinishesOne, Grows, Notes, NotesAt, Sends};
+ghost use Rattle.am_scenario.specs.Steps.{notes_of, notes_of_all, opened_of, recorded_all};
 ghost use Rattle.am_scenario.specs.Troubles.{AreNone};
 ghost use Rattle.am_scenario.specs.Sendings.{IsFed, IsSentFrom};
 ghost use Rattle.am_scenario.specs.Turns.{to_send};
@@ -16,10 +16,9 @@ ghost use Rattle.am_scenario.specs.Turns.{to_send};
 use crate::courier::Answering;
 use crate::lane::{Seat, meet_lanes, run_beside, seats_for};
 use crate::scenario::{Lane, Phase};
-use crate::sending::{are_fed, end_on, jobs_of, last_end};
+use crate::sending::{are_fed, end_on, has_succeeded, jobs_of, last_end};
 use crate::trouble::{Refused, Troubles};
 use am_board::begin::Begun;
-use am_board::config::MAX_HISTORY;
 use am_board::fault::{Fault, NoteFault};
 use am_board::notice::Report;
 use am_cli::fault::{InputFault, Word};
@@ -115,8 +114,8 @@ impl<N: Name + Send + Sync> Run<N> {
     ) -> Result<(), InputFault>
         requires { vec_len phase.lanes < N.plan.passes }
         ensures lanes { OnOk result (MadeLanes phase.at phase.lanes.items (lanes_of self.old) (lanes_of self.new)) }
-        ensures turn { OnOk result (TookPart C.answers phase self.old.main self.new.main (lanes_of self.old) (lanes_of self.new)
-            self.old.reports.items self.new.reports.items) }
+        ensures turn { OnOk result (TookPart C.answers N.terms phase self.old.main self.new.main
+            (lanes_of self.old) (lanes_of self.new) self.old.reports.items self.new.reports.items) }
     {
         let Phase { at, flush, lanes } = phase;
         let mut tickets = Vec::new(self.alloc);
@@ -132,20 +131,19 @@ impl<N: Name + Send + Sync> Run<N> {
     /// Begins flushes until no group is due, or as many are open as may be.
     fn begin_all<R: Wait>(&mut self, rt: &R, at: u64, tickets: &mut Vec<OwnTicket<N>>)
         ensures keeps { Keeps self.old self.new }
-        ensures begins { Begins true at self.old.main self.new.main tickets.old.items tickets.new.items }
+        ensures begins { AreNone self.new.troubles
+            → Begins N.terms true false at self.old.main self.new.main tickets.old.items tickets.new.items }
     {
-        // Each begin leaves a record: the history is full before this ends.
-        for _ in 0..MAX_HISTORY + 1 {
-            if !self.begin(rt, at, tickets) {
-                return;
-            }
-        }
+        // This ends, since each begin leaves a record.
+        while self.begin(rt, at, tickets) {}
     }
 
     /// Begins a flush. Answers whether there may be more to begin.
     fn begin<R: Wait>(&mut self, rt: &R, at: u64, tickets: &mut Vec<OwnTicket<N>>) -> bool
         ensures keeps { Keeps self.old self.new }
-        ensures begins { Begins true at self.old.main self.new.main tickets.old.items tickets.new.items }
+        ensures begins { AreNone self.new.troubles
+            → Begins N.terms true result at self.old.main self.new.main tickets.old.items tickets.new.items }
+        ensures grows { IsTrue result → Grows N.terms self.old.main self.new.main }
     {
         if tickets.reserve(1).is_err() {
             self.troubles.add_no_memory();
@@ -189,7 +187,7 @@ impl<N: Name + Send + Sync> Run<N> {
         ensures beside { AreNone self.new.troubles
             → RanFirst self.old.main self.new.main (lanes_of self.old) (lanes_of self.new) }
         ensures sent { AreNone self.new.troubles
-            → Sends C.answers at result.items tickets.old.items tickets.new.items self.old.main self.new.main }
+            → Sends C.answers N.terms at result.items tickets.old.items tickets.new.items self.old.main self.new.main }
     {
         if !self.troubles.are_none() {
             return Vec::new(self.alloc);
@@ -286,7 +284,8 @@ impl<N: Name + Send + Sync> Run<N> {
         ensures keeps { Keeps self.old self.new }
         ensures recorded { AreNone self.new.troubles
             → tickets.new.items ≡ map (recorded_all reports.now) tickets.old.items }
-        ensures noted { MadeOnly (NotesAny at reports.now tickets.new.items) self.old.main self.new.main }
+        ensures noted { AreNone self.new.troubles
+            → Notes N.terms (notes_of_all at reports.now tickets.new.items) self.old.main self.new.main }
     {
         if !record_all(tickets, reports) {
             self.troubles.add(Refused::Ending);
@@ -298,7 +297,8 @@ impl<N: Name + Send + Sync> Run<N> {
     /// Notes each success of these flushes.
     fn note_all<R: Wait>(&mut self, rt: &R, at: u64, tickets: &[OwnTicket<N>], reports: &[Report])
         ensures keeps { Keeps self.old self.new }
-        ensures noted { MadeOnly (NotesAny at reports.now tickets.now) self.old.main self.new.main }
+        ensures noted { AreNone self.new.troubles
+            → Notes N.terms (notes_of_all at reports.now tickets.now) self.old.main self.new.main }
     {
         for own in tickets {
             self.settle(rt, at, own, reports);
@@ -308,11 +308,13 @@ impl<N: Name + Send + Sync> Run<N> {
     /// Notes each success of a flush, when the sending of its notice was over.
     fn settle<R: Wait>(&mut self, rt: &R, at: u64, own: &OwnTicket<N>, reports: &[Report])
         ensures keeps { Keeps self.old self.new }
-        ensures noted { MadeOnly (NotesOf at reports.now own.now) self.old.main self.new.main }
+        ensures noted { AreNone self.new.troubles
+            → Notes N.terms (notes_of at reports.now own.now own.now.notices) self.old.main self.new.main }
     {
         let ticket = own.ticket();
         for (place, notice) in ticket.notices().iter().enumerate() {
-            if notice.nothing() || ticket.outcome(place) == Some(Outcome::Delivered) {
+            let succeeded = has_succeeded(notice, ticket.outcome(place));
+            if succeeded {
                 let end = end_on(reports, ticket.number(), notice.integration, at);
                 self.note(rt, end, own, place);
             }
@@ -322,13 +324,14 @@ impl<N: Name + Send + Sync> Run<N> {
     /// Logs the success of a notice. Where the history has no room the finish logs it.
     fn note<R: Wait>(&mut self, rt: &R, now: u64, own: &OwnTicket<N>, place: usize)
         ensures keeps { Keeps self.old self.new }
-        ensures noted { MadeOnly (NotesAt now own.now place) self.old.main self.new.main }
+        ensures noted { AreNone self.new.troubles → NotesAt N.terms now own.now place self.old.main self.new.main }
     {
         match self
             .desk
             .note(rt, self.alloc, &mut self.main, own.ticket(), place, now)
         {
-            Ok(_) | Err(NoteFault::HistoryFull) => {}
+            Ok(_) => {}
+            Err(NoteFault::HistoryFull) => {}
             Err(NoteFault::NoMemory) => self.troubles.add_no_memory(),
             Err(_) => self.troubles.add(Refused::Ending),
         }

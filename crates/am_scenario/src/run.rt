@@ -80,13 +80,14 @@ fn read(alloc: Global, input: &[u8]) -> Result<Scenario, InputFault>
 ///
 /// The report is the text of a legal history of the scenario's own configuration. The calls of the
 /// pass i + 1 in the history are just those of lane i, phase after phase, in their order, each at
-/// the moment of its phase. The pass 0 is the main thread's. In each phase it begins flushes at the
-/// phase's moment, if it is to, notes successes, each at the end of its sending, and finishes each
-/// flush when the sending of all its notices was over; it makes no other calls. Attempt k of a notice
-/// is answered by the k-th item of the first script for it, or by the last; so the scripts determine
-/// the reports. The history is made of a part for each phase, one after the other: its begins, then
-/// the calls of its lanes, then its notes and finishes. How the calls of two lanes of a phase stand to
-/// each other isn't said.
+/// the moment of its phase. The pass 0 is the main thread's. In each phase that asks for it it begins
+/// flushes at the phase's moment, until no group is due or as many are open as may be. It notes each
+/// success at the end of its sending, but where the history has no room when the note's turn comes,
+/// and finishes each flush when the sending of all its notices was over; it makes no other calls.
+/// Attempt k of a notice is answered by the k-th item of the first script for it, or by the last; so
+/// the scripts determine the reports. The history is made of a part for each phase, one after the
+/// other: its begins, then the calls of its lanes, then its notes and finishes. How the calls of two
+/// lanes of a phase stand to each other isn't said.
 ///
 /// Refused with the place and the cause, as `run_scenario` tells them, where the configuration or a
 /// call is refused or memory is.

@@ -1,7 +1,9 @@
 //! The sending of notices.
-ghost use Rattle.std.specs.Prelude.{◌≡◌, ◌≤◌, ◌++◌, All, IfOk, IsTrue, OnOk, map};
+ghost use Rattle.std.specs.Prelude.{◌≡◌, ◌≤◌, ◌++◌, ◌||◌, All, IfOk, IsTrue, OnOk, map};
 ghost use Rattle.am_alerts.specs.declared.limits.TheConstants.{MAX_MOMENT};
 ghost use Rattle.std.specs.List.{AllZip};
+ghost use Rattle.am_model.specs.Finish.{is_delivered};
+ghost use Rattle.am_model.specs.Notice.{is_nothing};
 ghost use Rattle.am_pool.specs.Delivery.{is_starved};
 ghost use Rattle.am_pool.specs.Work.{IsReady};
 ghost use Rattle.am_scenario.specs.Sendings.{IsFed, IsSendingOf};
@@ -92,6 +94,14 @@ fn is_starved(report: &Report) -> bool
     ensures { result ≡ is_starved report.now.outcome }
 {
     report.outcome == Outcome::Starved
+}
+
+/// Whether a notice of which this outcome is recorded succeeded: it has nothing to send, or was
+/// delivered.
+pub fn has_succeeded(notice: &Notice, outcome: Option<Outcome>) -> bool
+    ensures { result ≡ is_nothing notice.now || is_delivered outcome }
+{
+    notice.nothing() || matches!(outcome, Some(Outcome::Delivered))
 }
 
 /// When the sending of a ticket's notice for an integration was over, which started at `at`.

@@ -10,6 +10,7 @@ use Rattle.am_model.specs.Replay.{IsLegal}
 use Rattle.am_desk.proofs.Crossing.{every}
 use Rattle.am_desk.specs.History.{own}
 use Rattle.am_desk.specs.Plans.{Plan}
+use Rattle.am_desk.specs.Terms.{terms}
 use Rattle.am_desk.specs.declared.word.Terms.{Terms}
 use Rattle.am_trail.proofs.trail.Trail.TheSendSync as trail
 use Rattle.am_scenario.specs.Beside.{HadParts}
@@ -49,11 +50,11 @@ run_phase-requires-after_bounds g c κs within =
     in
     subst (λ (k : ℕ). vec_len c.in-Some.phase.lanes < k) (ap (λ (p : Plan). p.passes) c.requires.name.0) few
 
-pub loop-index-established : goal.loop-index-established
-loop-index-established g c =
+pub loop-index-init : goal.loop-index-init
+loop-index-init g c =
     record {
       lanes = c.in_ok-run.ensures.lanes;
-      main = no_parts (IsAsPlanned g.S.Scripts.scripts) _ _ _ c.in_ok-run.ensures.main;
+      main = no_parts (IsAsPlanned g.S.Scripts.scripts) g.N.Name.terms _ _ _ c.in_ok-run.ensures.main;
     }
 
 pub loop-index-preserved : goal.loop-index-preserved
@@ -75,8 +76,8 @@ loop-index-preserved g c =
     record {
       lanes = turn_made ls n m c.in-Some.phase (lanes_of was) (lanes_of is) next at.0 at.2 c.loop-index.invariant.lanes c.in_ok-run_phase.ensures.lanes;
       main =
-          part_next (IsAsPlanned g.S.Scripts.scripts) ls n m c.in-Some.phase was.main is.main (lanes_of was) (lanes_of is) was.reports.items is.reports.items next at.0 at.2
-          c.loop-index.invariant.lanes c.in_ok-run_phase.ensures.lanes c.loop-index.invariant.main c.in_ok-run_phase.ensures.turn;
+          part_next (IsAsPlanned g.S.Scripts.scripts) g.N.Name.terms ls n m c.in-Some.phase was.main is.main (lanes_of was) (lanes_of is) was.reports.items is.reports.items next at.0
+          at.2 c.loop-index.invariant.lanes c.in_ok-run_phase.ensures.lanes c.loop-index.invariant.main c.in_ok-run_phase.ensures.turn;
     }
 
 pub returns : goal.returns
@@ -93,27 +94,32 @@ returns g c =
     let end = YieldsList-end (YieldsList-from_enumerate {s = all} (YieldsList-from_vec {s = all.iter} ls items len) count) c.loop-index.yielded c.loop-index.index-iterator c.loop-index.yielded_by c.next.result c.next.new.self c.in-None.is c.next.ensures.steps in
     let run = c.loop-index.run in
     let closed = c.in_ok-closed.closed in
-    let terms = c.in_ok-closed.ensures.terms ∙ sym c.requires.name.1 in
-    let config : closed.config ≡ c.args.scenario.config = ap (λ (t : Terms). t.config) terms in
-    let id : closed.id ≡ BOARD_ID = ap (λ (t : Terms). t.id) terms ∙ c.requires.id in
+    let same = c.in_ok-closed.ensures.terms ∙ sym c.requires.name.1 in
+    let config : closed.config ≡ c.args.scenario.config = ap (λ (t : Terms). t.config) same in
+    let id : closed.id ≡ BOARD_ID = ap (λ (t : Terms). t.id) same ∙ c.requires.id in
     let passes = ap (λ (p : Plan). p.passes) c.requires.name.0 in
+    let played : g.N.Name.terms ≡ terms c.args.scenario.config BOARD_ID =
+    sym c.requires.name.1 ∙ ap (terms c.args.scenario.config) c.requires.id
+    in
     let reports : c.as_slice-2.result.now ≡ run.reports.items = c.as_slice-2.ensures.value ∙ ap (λ v. v.items) c.in_ok-closed.ensures.reports in
     let answers = IsAsPlanned g.S.Scripts.scripts in
+    let desk = g.N.Name.terms in
     let all_taken = take_all n ls (omega (arith, end.1, length-enumerate_from 0 ls)) in
     let have : HaveMade 0 ls (lanes_of run) = subst (λ (xs : List Phase). HaveMade 0 xs (lanes_of run)) all_taken c.loop-index.invariant.lanes in
-    let had : HadParts answers ls run.main (lanes_of run) c.as_slice-2.result.now =
-    subst (λ (rs : List Report). HadParts answers ls run.main (lanes_of run) rs) (sym reports)
-    (subst (λ (xs : List Phase). HadParts answers xs run.main (lanes_of run) run.reports.items) all_taken c.loop-index.invariant.main)
+    let had : HadParts answers desk ls run.main (lanes_of run) c.as_slice-2.result.now =
+    subst (λ (rs : List Report). HadParts answers desk ls run.main (lanes_of run) rs) (sym reports)
+    (subst (λ (xs : List Phase). HadParts answers desk xs run.main (lanes_of run) run.reports.items) all_taken c.loop-index.invariant.main)
     in
-    let stand = turns_stand answers ls run.main c.as_slice-2.result.now closed.history had.main c.in_ok-closed.ensures.main in
+    let stand = turns_stand answers desk ls run.main c.as_slice-2.result.now closed.history had.main c.in_ok-closed.ensures.main in
     let parts : ArePartsOf ls stand.turns closed.history =
-    subst (λ (us : List Turn). ArePartsOf ls us closed.history) (sym (turns_stay answers ls run.main c.as_slice-2.result.now closed.history had.main c.in_ok-closed.ensures.main))
-    (parts_stand answers ls run.main (lanes_of run) c.as_slice-2.result.now closed.history have had c.in_ok-closed.ensures.main c.in_ok-closed.ensures.lanes
+    subst (λ (us : List Turn). ArePartsOf ls us closed.history) (sym (turns_stay answers desk ls run.main c.as_slice-2.result.now closed.history had.main c.in_ok-closed.ensures.main))
+    (parts_stand answers desk ls run.main (lanes_of run) c.as_slice-2.result.now closed.history have had c.in_ok-closed.ensures.main c.in_ok-closed.ensures.lanes
     c.in_ok-closed.ensures.others)
     in
-    let told : (turns : AreTurnsOf (IsAsPlanned c.args.scenario.scripts.items) ls (own 0 closed.history) c.as_slice-2.result.now) × ArePartsOf ls turns.turns closed.history =
-    subst (λ (scripts : List Script). (turns : AreTurnsOf (IsAsPlanned scripts) ls (own 0 closed.history) c.as_slice-2.result.now) × ArePartsOf ls turns.turns closed.history)
-    (sym c.requires.scripts) (stand, parts)
+    let told =
+    subst (λ (t : Terms). (turns : AreTurnsOf (IsAsPlanned c.args.scenario.scripts.items) t 0 closed.history ls c.as_slice-2.result.now) × ArePartsOf ls turns.turns closed.history) played
+    (subst (λ (scripts : List Script). (turns : AreTurnsOf (IsAsPlanned scripts) desk 0 closed.history ls c.as_slice-2.result.now) × ArePartsOf ls turns.turns closed.history)
+    (sym c.requires.scripts) (stand, parts))
     in
     record {
       history = closed.history;

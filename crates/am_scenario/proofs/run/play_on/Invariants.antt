@@ -9,5 +9,5 @@ use Rattle.am_scenario.proofs.run.play_on.Given as goal
 abbrev pub invariant-loop-index : goal.invariant-loop-index
 invariant-loop-index g l = record {
   lanes : HaveMade 0 (take (length l.yielded) l.fn.scenario.phases.items) (lanes_of l.run);
-  main : HadParts (IsAsPlanned g.S.Scripts.scripts) (take (length l.yielded) l.fn.scenario.phases.items) l.run.main (lanes_of l.run) l.run.reports.items;
+  main : HadParts (IsAsPlanned g.S.Scripts.scripts) g.N.Name.terms (take (length l.yielded) l.fn.scenario.phases.items) l.run.main (lanes_of l.run) l.run.reports.items;
 }

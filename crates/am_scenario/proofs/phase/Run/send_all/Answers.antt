@@ -2,7 +2,6 @@ use Rattle.std.proofs.Common.{subst, sym}
 use Rattle.am_scenario.specs.Beside.{RanBeside}
 use Rattle.am_scenario.specs.Runs.{lanes_of}
 use Rattle.am_scenario.specs.Seats.{passes_in}
-use Rattle.am_scenario.specs.Steps.{NotesAny}
 use Rattle.am_scenario.proofs.Meetings.{quiet_first}
 use Rattle.am_scenario.proofs.phase.Run.send_all.Goals as goal
 
@@ -15,17 +14,15 @@ returns-clause-beside g c none =
     record {
       joined = joined.main;
       ran = subst (λ v. RanBeside was.main joined.main (lanes_of was) (passes_in v.items)) (sym settled.keeps.0) ran;
-      begins = settled.noted.made.2;
+      begins = (settled.noted none).made.2;
     }
 
 pub returns-clause-sent : goal.returns-clause-sent
 returns-clause-sent g c none =
     let settled = c.settle_all.ensures in
-    let reports = c.run_beside-reports.result.items in
-    let us = c.settle_all.new.tickets.items in
     let ran = c.run_beside-reports.ensures.beside (settled.keeps.2 none) in
     record {
       sent = rw c.as_slice.ensures.value at (c.run_beside-reports.ensures.sent (settled.keeps.2 none));
       recorded = rw c.as_slice-2.ensures.value at (settled.recorded none);
-      noted = quiet_first (NotesAny c.args.at reports us) _ _ _ ran.quiet (rw c.as_slice-2.ensures.value at settled.noted);
+      noted = quiet_first g.N.Name.terms _ _ _ _ ran.quiet (rw c.as_slice-2.ensures.value at (settled.noted none));
     }

@@ -16,6 +16,7 @@ mod known;
 mod maintain;
 mod members;
 mod note;
+mod order;
 pub mod outlook;
 mod plan;
 mod silence;

@@ -10,6 +10,7 @@ pub mod Learnt
 pub mod Limits
 pub mod LogRows
 pub mod Members
+pub mod Order
 pub mod Shown
 pub mod Sound
 pub mod Staying

@@ -12,7 +12,9 @@ pub mod Kept
 pub mod Keyed
 pub mod Known
 pub mod LogRows
+pub mod MemberTable
 pub mod Members
 pub mod Noting
+pub mod Order
 pub mod Outlook
 pub mod Step

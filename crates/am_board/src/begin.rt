@@ -1,12 +1,14 @@
 //! Begins.
-ghost use Rattle.std.specs.Prelude.{◌≡◌, ◌≢◌, ℕ, ◌+◌, ◌<◌, ◌≤◌, [], None, length};
+ghost use Rattle.std.specs.Prelude.{◌≡◌, ◌≢◌, ℕ, ◌+◌, ◌<◌, ◌≤◌, [], None, length, map};
 ghost use Rattle.std.specs.Prelude.{All, IsTrue, MatchResult, OnOk, vec_len, vec_capacity};
+ghost use Rattle.std.specs.List.{IsDistinct};
 ghost use Rattle.am_alerts.specs.RoutingTree.{route_at};
 ghost use Rattle.am_nflog.specs.Log.{is_known};
 ghost use Rattle.am_nflog.specs.declared.key.LogKey.{LogKey};
 ghost use Rattle.am_mute.specs.Sources.{AreLearnt};
 ghost use Rattle.am_model.specs.Begin.{asked_of, taken};
 ghost use Rattle.am_model.specs.Causes.{begin_cause};
+ghost use Rattle.am_model.specs.Insert.{same_member};
 ghost use Rattle.am_model.specs.Records.{entry};
 ghost use Rattle.am_board.specs.History.{reply_of, IsFresh};
 ghost use Rattle.am_board.specs.Kept.{state_of, group_state};
@@ -91,10 +93,20 @@ pub(crate) fn take_group(
         place,
         due,
     };
+    put_in_order(alloc, state, place);
     match plan(alloc, config, id, state, sources, chosen)? {
         None => begin_quiet(alloc, state, chosen),
         Some(planned) => begin_flush(alloc, id, state, chosen, planned),
     }
+}
+
+/// Works the order by labels of the alerts of the group at a place out, unless it is there.
+fn put_in_order(alloc: Global, state: &mut State, place: usize)
+    requires place { place < length state.old.groups.items }
+    requires apart { All (λ g. IsDistinct same_member g.members) (map group_state state.old.groups.items) }
+    ensures { state.new ≡ state.old }
+{
+    state.groups.put_in_order(place, alloc);
 }
 
 /// When a group of this route that is taken at `t` is due again.

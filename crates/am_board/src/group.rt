@@ -1,8 +1,9 @@
 //! Aggregation groups.
 ghost use Rattle.std.specs.Prelude.{◌≡◌, ◌+◌, ◌<◌, ◌≤◌, ◌&&◌, min, nat_lt, not, true, if◌then◌else◌, OnOk};
+ghost use Rattle.std.specs.List.{IsDistinct};
 ghost use Rattle.am_model.specs.Begin.{count_resolved, without_resolved};
 ghost use Rattle.am_board.specs.Group.{Fits, IsReserved};
-ghost use Rattle.am_model.specs.Insert.{wait_of, group_with};
+ghost use Rattle.am_model.specs.Insert.{same_member, wait_of, group_with};
 ghost use Rattle.am_board.specs.Kept.{member_state, group_state};
 ghost use Rattle.am_model.specs.declared.config.Config.{Config};
 
@@ -10,7 +11,7 @@ use crate::members::Members;
 use am_alerts::alert::Alert;
 use am_alerts::labels::Labels;
 pub use am_model::group::GroupName;
-use std::alloc::AllocError;
+use std::alloc::{AllocError, Global};
 
 /// An alert of a group, with the stamp of the insert that put it there.
 #[derive(Debug, Drop)]
@@ -68,6 +69,14 @@ pub(crate) fn reserve_members(group: &mut Group, more: usize) -> Result<(), Allo
     ensures room { OnOk result (Fits more group.new) }
 {
     group.members.reserve(more)
+}
+
+/// Works the order of a group's alerts by their labels out, unless it is there.
+pub(crate) fn put_in_order(group: &mut Group, alloc: Global)
+    requires { IsDistinct same_member (group_state group.old).members }
+    ensures { group.new ≡ group.old }
+{
+    group.members.put_in_order(alloc);
 }
 
 /// A group that was taken is due at this moment again.

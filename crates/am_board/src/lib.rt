@@ -17,6 +17,7 @@ mod known;
 mod maintain;
 mod members;
 mod note;
+mod order;
 pub mod outlook;
 mod plan;
 mod silence;

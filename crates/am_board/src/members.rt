@@ -1,17 +1,20 @@
 //! The alerts of a group, found by their labels.
 ghost use Rattle.std.specs.Prelude.{◌≡◌, ◌+◌, ◌<◌, ◌≤◌, ◌↔◌, All, IfOk, IsTrue, OnOk, [], count_by, length, map, not};
+ghost use Rattle.std.specs.List.{IsDistinct, list_any};
 ghost use Rattle.std.specs.Map.{values_of};
 ghost use Rattle.am_alerts.specs.AlertData.{is_resolved};
 ghost use Rattle.am_model.specs.Finish.{is_leaving};
 ghost use Rattle.am_model.specs.Insert.{same_member};
-ghost use Rattle.am_model.specs.Lists.{changed_where, put_in, without};
+ghost use Rattle.am_model.specs.Lists.{changed_where, in_order, put_in, without};
 ghost use Rattle.am_board.specs.Finishing.{marked, stands_as};
 ghost use Rattle.am_board.specs.Keyed.{AreKeyed};
 ghost use Rattle.am_board.specs.Kept.{member_state, stamped};
 ghost use Rattle.am_board.specs.Members.{AreMembers, labels_of};
+ghost use Rattle.am_board.specs.Order.{member_cmp};
 
 use crate::flush::LeavingAlert;
 use crate::group::Member;
+use crate::order::{forget, keep_where, ordered, renew};
 use am_alerts::labels::Labels;
 use indexmap::IndexMap;
 use std::alloc::{AllocError, Global};
@@ -21,18 +24,22 @@ use std::marker::Model;
 #[derive(Debug, Drop)]
 pub(crate) struct Members {
     members: IndexMap<Labels, Member>,
+    /// Their places in the order of their labels, unless a label set came or left since that was
+    /// worked out.
+    order: Option<Vec<usize>>,
 }
 
 impl Model for Members {
     ghost use Rattle.std.specs.Map.{values_of};
     ghost use Rattle.indexmap.specs.IndexMap.{spare};
-    ghost use Rattle.am_board.specs.Members.{MemberList, AreMembers};
+    ghost use Rattle.am_board.specs.Members.{MemberList};
+    ghost use Rattle.am_board.specs.MemberTable.{IsTable};
 
     ghost Value = { MemberList };
 
     ghost view = { λ m. record { items = values_of m.members.entries; room = spare m.members } };
 
-    ghost invariant = { λ m. AreMembers m.members.entries };
+    ghost invariant = { λ m. IsTable m.members.entries m.order };
 }
 
 impl Members {
@@ -42,6 +49,7 @@ impl Members {
     {
         Members {
             members: IndexMap::new(alloc),
+            order: None,
         }
     }
 
@@ -52,6 +60,7 @@ impl Members {
     {
         Ok(Members {
             members: IndexMap::with_capacity(alloc, room)?,
+            order: None,
         })
     }
 
@@ -75,6 +84,23 @@ impl Members {
         self.members.values().as_slice()
     }
 
+    /// The alerts in the order of their labels.
+    pub(crate) fn by_labels(&self, alloc: Global) -> Result<Vec<&Member>, AllocError>
+        requires { IsDistinct same_member (map member_state self.now.items) }
+        ensures { IfOk result (λ found. map (λ m. m.now) found.items ≡ in_order member_cmp self.now.items) }
+    {
+        ordered(alloc, &self.order, self.members.values().as_slice())
+    }
+
+    /// Works the order of the alerts by their labels out, unless it is there. It only saves time:
+    /// where memory for it is refused, it is worked out at each use.
+    pub(crate) fn put_in_order(&mut self, alloc: Global)
+        requires { IsDistinct same_member (map member_state self.old.items) }
+        ensures { self.new ≡ self.old }
+    {
+        renew(alloc, &mut self.order, self.members.values().as_slice());
+    }
+
     /// Makes room for so many more alerts.
     pub(crate) fn reserve(&mut self, more: usize) -> Result<(), AllocError>
         ensures items { self.new.items ≡ self.old.items }
@@ -92,8 +118,11 @@ impl Members {
             ≡ put_in same_member (member_state member) (map member_state self.old.items) }
         ensures room { self.old.room ≤ self.new.room + 1 }
     {
+        let before = self.members.len();
         member.leaves = false;
         self.members.insert(labels, member).unwrap();
+        let same = self.members.len() == before;
+        keep_where(&mut self.order, same);
     }
 
     /// Takes the alerts out that are resolved at `t`, and answers how many.
@@ -101,7 +130,11 @@ impl Members {
         ensures members { map member_state self.new.items ≡ without (λ m. is_resolved m.alert t) (map member_state self.old.items) }
         ensures count { result ≡ count_by (λ m. is_resolved m.alert t) (map member_state self.old.items) }
     {
+        if is_none_resolved(self.members.values().as_slice(), t) {
+            return 0;
+        }
         let before = self.members.len();
+        forget(&mut self.order);
         self.members.retain(
             |_labels: &Labels, member: &mut Member| -> bool
                 ensures { (result ≡ not (is_resolved member.old.alert t)) × (member.new ≡ member.old) }
@@ -119,6 +152,7 @@ impl Members {
         if leaving.is_empty() {
             return 0;
         }
+        forget(&mut self.order);
         mark_all(&mut self.members, leaving);
         let before = self.members.len();
         self.members.retain(
@@ -128,6 +162,20 @@ impl Members {
         );
         before - self.members.len()
     }
+}
+
+/// Whether none of these alerts is resolved at `t`.
+fn is_none_resolved(members: &[Member], t: u64) -> bool
+    ensures { result ≡ not (list_any (λ m. is_resolved m.alert t) members.now) }
+{
+    !is_any_resolved(members, t)
+}
+
+/// Whether one of these alerts is resolved at `t`.
+fn is_any_resolved(members: &[Member], t: u64) -> bool
+    ensures { result ≡ list_any (λ m. is_resolved m.alert t) members.now }
+{
+    members.iter().any(|member| member.alert.resolved_at(t))
 }
 
 /// Marks the alerts of a group that stand there as they did when they were found resolved.

@@ -45,18 +45,18 @@ impl Unmuted {
         requires apart { IsDistinct same_member (group_state group.now).members }
         ensures { IfOk result (IsUnmuted config.now (state_of state.now) t (group_state group.now)) }
     {
-        let members = group.members.as_slice();
+        let members = group.members.by_labels(alloc)?;
         let (firing, resolved) = firing_and_resolved(
             alloc,
             config.rules.as_slice(),
             state,
             sources,
-            members,
+            members.as_slice(),
             t,
         )?;
         Ok(Unmuted {
-            firing: by_labels(firing),
-            resolved: by_labels(resolved),
+            firing: Sequence::from(firing),
+            resolved: Sequence::from(resolved),
         })
     }
 
@@ -106,11 +106,12 @@ fn firing_and_resolved(
     rules: &[InhibitRule],
     state: &State,
     sources: &Sources,
-    members: &[Member],
+    members: &[&Member],
     t: u64,
 ) -> Result<(Vec<Alert>, Vec<Alert>), AllocError>
     requires { AreLearnt rules.now state.now.known.items sources.now }
-    ensures { IfOk result (λ unmuted. AreUnmuted rules.now (state_of state.now) t members.now unmuted.0.items unmuted.1.items) }
+    ensures { IfOk result (λ unmuted.
+        AreUnmuted rules.now (state_of state.now) t (map (λ m. m.now) members.now) unmuted.0.items unmuted.1.items) }
 {
     let mut firing = Vec::new(alloc);
     let mut resolved = Vec::new(alloc);

@@ -2,7 +2,7 @@
 use Rattle.std.proofs.Common.{◌≡◌, ℕ, zero, suc, ◌<◌, false, true≢false, Some, None, List, [], ◌∷◌, length, get_or, get_or-set_same, slice_get, set, sym, ap, ◌∙◌, subst}
 use Rattle.std.specs.List.{position, AllByRecursion, IsDistinct}
 use Rattle.std.specs.Map.{values_of}
-use Rattle.std.proofs.lemmas.List.{get_or_default}
+use Rattle.std.proofs.lemmas.List.{get_or_default, set-get_or}
 use Rattle.std.proofs.lemmas.List.Elements.{All-nil, All-cons}
 use Rattle.std.proofs.lemmas.List.Quantifiers.{position-Some}
 use Rattle.indexmap.specs.Layout.{set_value_at}
@@ -34,6 +34,12 @@ module _ (es : List (GroupName × Group)) (room : ℕ) (k : GroupList) (seen : l
   -- what is written there stands there
   pub written_at : (to d : Group) → get_or (values_of (set_value_at es i to)) i d ≡ to
   written_at to d = ap (λ gs. get_or gs i d) (values-set es i to) ∙ get_or-set_same (values_of es) i to d (value_at (values_of es) i from at).1
+
+  -- it was written as it was
+  pub same_at : (to : Group) → to ≡ from → listed (set_value_at es i to) room ≡ k
+  same_at to same =
+      ap (λ gs. record { items = gs; room = room }) (values-set es i to ∙ ap (set (values_of es) i) (same ∙ (value_at (values_of es) i from at).0) ∙ set-get_or (values_of es) i from)
+      ∙ seen
 
   -- it was changed
   pub changes_at : (change : Group → Group → Type 0) (to : Group) → to.name ≡ from.name → change from to → Changes change i k (listed (set_value_at es i to) room)

@@ -1,6 +1,6 @@
 //! Groups are found by their names, made, changed in their places and removed.
 ghost use Rattle.std.specs.Prelude.{◌≡◌, ℕ, ◌+◌, ◌<◌, ◌≤◌, ◌∷◌, [], ◌++◌, None, count_by, length, map, not, position, slice_index_or};
-ghost use Rattle.std.specs.Prelude.{true, IfSome, OnOk};
+ghost use Rattle.std.specs.Prelude.{true, All, IfSome, OnOk};
 ghost use Rattle.std.specs.List.{IsDistinct};
 ghost use Rattle.am_alerts.specs.RoutingTree.{RoutingTree};
 ghost use Rattle.am_model.specs.Begin.{count_resolved, without_resolved};
@@ -8,6 +8,7 @@ ghost use Rattle.am_model.specs.Finish.{is_leaving};
 ghost use Rattle.am_board.specs.Group.{names_of, AreRouted, HasRoom, Fits, IsReserved, Changes, Gets};
 ghost use Rattle.am_board.specs.Inserting.{place_in};
 ghost use Rattle.am_board.specs.Kept.{member_state, stamped, group_state};
+ghost use Rattle.am_model.specs.Insert.{same_member};
 ghost use Rattle.am_model.specs.Lists.{without};
 ghost use Rattle.am_model.specs.State.{same_name};
 ghost use Rattle.am_model.specs.Upkeep.{is_deserted};
@@ -15,9 +16,11 @@ ghost use Rattle.am_model.specs.Upkeep.{is_deserted};
 use super::Groups;
 use crate::finish::take_leaving;
 use crate::flush::LeavingAlert;
-use crate::group::{Group, GroupName, Member, mark_begun, reserve_members, take_resolved};
+use crate::group::{
+    Group, GroupName, Member, mark_begun, put_in_order, reserve_members, take_resolved,
+};
 use am_alerts::labels::Labels;
-use std::alloc::AllocError;
+use std::alloc::{AllocError, Global};
 
 impl Groups {
     /// The place of the group of this name.
@@ -80,6 +83,15 @@ impl Groups {
         let before = group.due;
         group.insert(labels, member, wait, t);
         self.due.change(&group.name, before, group.due);
+    }
+
+    /// Works the order by labels of the alerts of the group at a place out, unless it is there.
+    pub(crate) fn put_in_order(&mut self, i: usize, alloc: Global)
+        requires place { i < length self.old.items }
+        requires apart { All (λ g. IsDistinct same_member g.members) (map group_state self.old.items) }
+        ensures { self.new ≡ self.old }
+    {
+        put_in_order(&mut self.groups[i], alloc);
     }
 
     /// The group at a place was taken, and is due at this moment again.

@@ -1,4 +1,4 @@
-use Rattle.std.proofs.Common.{◌<◌, List, length, Ok, Some, vec_len, refl, ap, ◌∙◌, arith}
+use Rattle.std.proofs.Common.{◌≡◌, ◌≢◌, ℕ, ◌<◌, List, [], length, Result, Ok, Err, Option, Some, vec_len, slice_index_or, refl, sym, ap, ◌∙◌, subst, arith}
 use Rattle.std.proofs.lemmas.List.{length-map}
 use Rattle.std.proofs.lemmas.Result.{err_from_is_err_and}
 use Rattle.am_board.specs.declared.begin.ChosenGroup.{ChosenGroup}
@@ -7,7 +7,14 @@ use Rattle.am_model.specs.Causes.{begin_cause, opens_by}
 use Rattle.am_model.specs.Notice.{NoticeData}
 use Rattle.am_model.proofs.configuration.FewAsked.{few_asked}
 use Rattle.am_board.specs.Kept.{state_of, group_state}
-use Rattle.am_board.specs.Beginning.{IsPlan, IsChosen}
+use Rattle.am_mute.specs.Sources.{AreLearnt}
+use Rattle.am_board.specs.Beginning.{IsPlan, IsChosen, IsEnd, IsPlannedFlush}
+use Rattle.am_board.specs.Step.{IsGood, Stays}
+use Rattle.am_board.specs.declared.group.Group.{Group}
+use Rattle.am_board.specs.declared.plan.PlannedFlush.{PlannedFlush}
+use Rattle.am_board.specs.declared.state.State.{State}
+use Rattle.am_model.specs.declared.config.Config.{Config}
+use Rattle.am_model.specs.declared.fault.Fault.{Fault}
 use Rattle.am_model.specs.State.{moment}
 use Rattle.am_board.proofs.beginning.Causes.{told, taken-none, cause-closed, cause-few, cause-quiet, planned_none, planned_some, planned_err, taking_found}
 use Rattle.am_board.proofs.keeping.GroupNames.{routed_at}
@@ -40,17 +47,51 @@ returns-in_default c =
     told config c.args.id c.args.pass c.args.now s c.begin_nothing.new.state (begin_cause config (vec_len s.history) (state_of s) (moment (state_of s) c.args.now)) c.begin_nothing.result cause
     (c.begin_nothing.ensures config c.args.id c.requires.good c.moment-t.ensures none)
 
+pub put_in_order-requires-clause-place : goal.put_in_order-requires-clause-place
+put_in_order-requires-clause-place c = c.in-Some.ensures.within
+
+pub put_in_order-requires-clause-apart : goal.put_in_order-requires-clause-apart
+put_in_order-requires-clause-apart c = c.requires.good.consistent.members
+
+pub plan-requires-clause-good : goal.plan-requires-clause-good
+plan-requires-clause-good c = subst (IsGood c.args.config.now) (sym c.put_in_order.ensures) c.requires.good
+
+pub plan-requires-clause-sources : goal.plan-requires-clause-sources
+plan-requires-clause-sources c =
+    subst (λ (x : State). AreLearnt c.args.config.now.rules x.known.items c.args.sources.now) (sym c.put_in_order.ensures) c.requires.sources
+
+pub plan-requires-clause-place : goal.plan-requires-clause-place
+plan-requires-clause-place c = subst (λ (x : State). c.in-Some.place < length x.groups.items) (sym c.put_in_order.ensures) c.in-Some.ensures.within
+
+-- what the begin works out, of the state before it was put in order
+abbrev Plans : Config → ℕ → ChosenGroup → Result (Option PlannedFlush) Fault → State → Type 0
+Plans config id chosen result s =
+    (d : Group) → IsPlan config id (vec_len s.flushes) (state_of s) chosen.t (group_state (slice_index_or s.groups.items chosen.place d)) result
+
 pub returns-in_err-plan : goal.returns-in_err-plan
 returns-in_err-plan c =
     let at = (goal.at.returns-in_err-plan c).After-due_again-due in
     let p = err_from_is_err_and c.from_residual.result c.from_residual.ensures.1 in
-    rw (p.1, p.2)
-    (planned_err c.args.config.now c.args.id c.args.state.now (chosen at) c.at.result.now (takes at) (c.has_room.ensures.0 c.if-not-has_room.false) c.in_err-plan.field-0.0 c.in_err-plan.ensures, stays_itself c.args.config.now c.args.state.now c.requires.good)
+    let same = c.put_in_order.ensures in
+    let plan = subst (Plans c.args.config.now c.args.id (chosen at) (Err c.in_err-plan.field-0.0)) same c.in_err-plan.ensures in
+    rw (p.1, p.2) (
+      planned_err c.args.config.now c.args.id c.args.state.now (chosen at) c.at.result.now (takes at) (c.has_room.ensures.0 c.if-not-has_room.false) c.in_err-plan.field-0.0 plan,
+      subst (Stays c.args.config.now c.args.state.now) (sym same) (stays_itself c.args.config.now c.args.state.now c.requires.good),
+    )
 
 -- the flush that is opened, where the begin takes the group
 opened : (c : In-Some-2) → IsChosen c.args.config.now c.args.state.now (record { pass = c.args.pass; now = c.args.now; t = c.moment-t.result; place = c.in-Some.place; due = c.due_again-due.result }) c.at.result.now
     → IsPlan c.args.config.now c.args.id (vec_len c.args.state.now.flushes) (state_of c.args.state.now) c.moment-t.result (group_state c.at.result.now) (Ok (Some c.in-Some-2.planned))
-opened c takes = planned_some c.args.config.now c.args.id c.args.state.now _ c.at.result.now takes c.in_ok-plan.field-0 c.in-Some-2.planned c.in_ok-plan.ensures c.in-Some-2.is
+opened c takes =
+    planned_some c.args.config.now c.args.id c.args.state.now _ c.at.result.now takes c.in_ok-plan.field-0 c.in-Some-2.planned
+    (subst (Plans c.args.config.now c.args.id (record { pass = c.args.pass; now = c.args.now; t = c.moment-t.result; place = c.in-Some.place; due = c.due_again-due.result }) (Ok c.in_ok-plan.field-0)) c.put_in_order.ensures c.in_ok-plan.ensures)
+    c.in-Some-2.is
+
+pub begin_quiet-requires : goal.begin_quiet-requires
+begin_quiet-requires c = subst (λ (x : State). c.in-Some.place < length x.groups.items) (sym c.put_in_order.ensures) c.in-Some.ensures.within
+
+pub begin_flush-requires-clause-place : goal.begin_flush-requires-clause-place
+begin_flush-requires-clause-place c = subst (λ (x : State). c.in-Some.place < length x.groups.items) (sym c.put_in_order.ensures) c.in-Some.ensures.within
 
 pub begin_flush-requires-clause-none : goal.begin_flush-requires-clause-none
 begin_flush-requires-clause-none c =
@@ -77,17 +118,25 @@ returns-in-None c =
     let config = c.args.config.now in
     let s = c.args.state.now in
     let at = (goal.at.returns-in-None c).After-due_again-due in
-    let none = planned_none config c.args.id s (chosen at) c.at.result.now (takes at) c.in_ok-plan.field-0 c.in_ok-plan.ensures c.in-None.is in
-    let cause = cause-quiet config c.args.id s (chosen at) c.at.result.now (takes at) (c.has_room.ensures.0 c.if-not-has_room.false) none in
+    let same = c.put_in_order.ensures in
+    let g = c.at.result.now in
+    let none = planned_none config c.args.id s (chosen at) g (takes at) c.in_ok-plan.field-0 (subst (Plans config c.args.id (chosen at) (Ok c.in_ok-plan.field-0)) same c.in_ok-plan.ensures) c.in-None.is in
+    let cause = cause-quiet config c.args.id s (chosen at) g (takes at) (c.has_room.ensures.0 c.if-not-has_room.false) none in
+    let ends = subst (λ (x : State). IsGood config x → IsChosen config x (chosen at) g → asked_of config (state_of x) c.moment-t.result (group_state g) ≡ [] → IsEnd config c.args.id c.args.pass c.args.now x c.begin_quiet.new.state c.begin_quiet.result)
+    same (c.begin_quiet.ensures config c.args.id g) in
     told config c.args.id c.args.pass c.args.now s c.begin_quiet.new.state (begin_cause config (vec_len s.history) (state_of s) (moment (state_of s) c.args.now)) c.begin_quiet.result cause
-    (c.begin_quiet.ensures config c.args.id c.at.result.now c.requires.good (takes at) none)
+    (ends c.requires.good (takes at) none)
 
 pub returns-in-Some-2 : goal.returns-in-Some-2
 returns-in-Some-2 c =
     let config = c.args.config.now in
     let s = c.args.state.now in
     let at = (goal.at.returns-in-Some-2 c).After-due_again-due in
+    let g = c.at.result.now in
     let plan = opened (goal.at.returns-in-Some-2 c).In-Some-2 (takes at) in
     let cause = cause-few config s c.args.now c.moment-t.result c.moment-t.ensures (c.has_room.ensures.0 c.if-not-has_room.false) plan.1 in
+    let ends = subst (λ (x : State). IsGood config x → IsChosen config x (chosen at) g → asked_of config (state_of x) c.moment-t.result (group_state g) ≢ []
+    → IsPlannedFlush config c.args.id (state_of x) c.moment-t.result (group_state g) c.in-Some-2.planned → IsEnd config c.args.id c.args.pass c.args.now x c.begin_flush.new.state c.begin_flush.result)
+    c.put_in_order.ensures (c.begin_flush.ensures config g) in
     told config c.args.id c.args.pass c.args.now s c.begin_flush.new.state (begin_cause config (vec_len s.history) (state_of s) (moment (state_of s) c.args.now)) c.begin_flush.result cause
-    (c.begin_flush.ensures config c.at.result.now c.requires.good (takes at) plan.0 plan.2)
+    (ends c.requires.good (takes at) plan.0 plan.2)

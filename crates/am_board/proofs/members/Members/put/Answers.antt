@@ -1,14 +1,16 @@
-use Rattle.std.proofs.Common.{◌≡◌, false, map, refl, ap, sym, subst, ◌∙◌}
+use Rattle.std.proofs.Common.{◌≡◌, false, List, length, map, refl, ap, sym, subst, ◌∙◌, eqb-true, arith}
 use Rattle.std.specs.Prelude.{OnOk}
 use Rattle.std.specs.Map.{values_of}
 use Rattle.indexmap.specs.IndexMap.{insert_entry}
 use Rattle.am_alerts.specs.Labels.{same_label_set}
+use Rattle.am_alerts.specs.declared.labels.Label.{Label}
 use Rattle.am_model.specs.Insert.{same_member}
 use Rattle.am_model.specs.Lists.{put_in}
 use Rattle.am_board.specs.Kept.{member_state}
 use Rattle.am_board.specs.Members.{MemberList, AreMembers}
+use Rattle.am_board.specs.Order.{IsOrder}
 use Rattle.am_board.specs.declared.group.Member.{Member}
-use Rattle.am_board.proofs.keeping.Members.{are_put, members_put}
+use Rattle.am_board.proofs.keeping.Members.{are_put, members_put, order_put}
 use Rattle.am_board.proofs.members.Members.put.Goals as goal
 use Rattle.am_board.proofs.members.Members.put.Goals.{After-unwrap}
 
@@ -25,11 +27,20 @@ entered c =
 pub invariant_of-self : goal.invariant_of-self
 invariant_of-self c =
     let at = (goal.at.invariant_of-self c).After-unwrap in
-    subst AreMembers (sym (entered at)) (are_put (unmarked c.args.member) c.self.inside.members.entries c.self.invariant refl)
+    let es = c.self.inside.members.entries in
+    let put = are_put (unmarked c.args.member) es c.self.invariant.members refl in
+    record {
+      members = subst AreMembers (sym (entered at)) put;
+      sorted =
+          subst (λ (fs : List (List Label × Member)). IsOrder c.keep_where.new.order (values_of fs)) (sym (entered at))
+          (order_put c.self.inside.order c.keep_where.new.order (unmarked c.args.member) es _ c.self.invariant.members put
+          (λ e. omega (arith, eqb-true c.len.result c.len-before.result e, c.len.ensures.len, c.len-before.ensures.len, ap length (entered at)))
+          c.keep_where.ensures c.self.invariant.sorted);
+    }
 
 pub returns-clause-members : goal.returns-clause-members
 returns-clause-members c =
     let at = (goal.at.returns-clause-members c).After-unwrap in
     ap (λ es. map member_state (values_of es)) (entered at)
-    ∙ members_put (unmarked c.args.member) c.self.inside.members.entries c.self.invariant
+    ∙ members_put (unmarked c.args.member) c.self.inside.members.entries c.self.invariant.members
     ∙ ap (λ (k : MemberList). put_in same_member (member_state c.args.member) (map member_state k.items)) c.self.view_is

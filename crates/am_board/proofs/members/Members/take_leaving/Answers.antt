@@ -1,9 +1,11 @@
-use Rattle.std.proofs.Common.{◌≡◌, ◌∙◌, eqb-true, length, not, map, filter, count_by, sym, ap, rules, arith}
+use Rattle.std.proofs.Common.{◌≡◌, ◌∙◌, eqb-true, length, not, map, filter, count_by, sym, ap, subst, rules, arith}
 use Rattle.indexmap.proofs.CallerLemmas.{filter-RetainsPairs}
 use Rattle.am_model.specs.Finish.{is_leaving}
 use Rattle.am_model.specs.Lists.{without}
 use Rattle.am_board.specs.Kept.{member_state, stamped}
+use Rattle.std.specs.Map.{values_of}
 use Rattle.am_board.specs.Members.{MemberList}
+use Rattle.am_board.specs.Order.{IsOrder}
 use Rattle.am_board.proofs.finishing.LeavingAlerts.{others_stay, are_unmarked, nothing_leaves, nothing_counts}
 use Rattle.am_board.proofs.keeping.Members.{members_left, members_gone}
 use Rattle.am_board.proofs.members.Members.take_leaving.Goals as goal
@@ -17,7 +19,7 @@ stay c = others_stay c.args.leaving.now c.mark_all.new.members.entries c.retain.
 
 pub invariant_of-self : goal.invariant_of-self
 invariant_of-self c =
-    are_unmarked c.args.leaving.now c.mark_all.new.members.entries c.retain.new.self.entries c.mark_all.ensures.marks (unmarked_stay ((goal.at.invariant_of-self c).After-retain)) c.mark_all.ensures.keyed
+    record { members = are_unmarked c.args.leaving.now c.mark_all.new.members.entries c.retain.new.self.entries c.mark_all.ensures.marks (unmarked_stay ((goal.at.invariant_of-self c).After-retain)) c.mark_all.ensures.keyed; sorted = subst (λ o. IsOrder o (values_of c.retain.new.self.entries)) (sym c.forget.ensures) tt }
 
 pub returns-clause-members : goal.returns-clause-members
 returns-clause-members c =

@@ -1,0 +1,27 @@
+-- The alerts of a group in the order of their labels.
+use Rattle.std.specs.Prelude.{◌≡◌, ℕ, List, Option, IfSome, Vec, length, map, slice_get}
+use Rattle.std.specs.Global.{Global}
+use Rattle.std.specs.List.{range_with_len}
+use Rattle.std.specs.Option.{option_cmp}
+use Rattle.std.specs.declared.cmp.Ordering.{Ordering}
+use Rattle.am_alerts.specs.Labels.{label_set_cmp}
+use Rattle.am_alerts.specs.declared.labels.Label.{Label}
+use Rattle.am_board.specs.declared.group.Member.{Member}
+use Rattle.am_board.specs.Members.{labels_of}
+use Rattle.am_model.specs.Lists.{in_order}
+
+-- the order of alerts of a group by their labels
+abbrev pub member_cmp : Member → Member → Ordering
+member_cmp a b = label_set_cmp (labels_of a) (labels_of b)
+
+-- the order of places by the label sets that stand there
+abbrev pub place_cmp : List (List Label) → ℕ → ℕ → Ordering
+place_cmp sets i j = option_cmp label_set_cmp (slice_get sets i) (slice_get sets j)
+
+-- the places of label sets, in the order of these
+abbrev pub places_in_order : List (List Label) → List ℕ
+places_in_order sets = in_order (place_cmp sets) (range_with_len 0 (length sets))
+
+-- if places are kept, they are those of the alerts in the order of their labels
+abbrev pub IsOrder : Option (Vec ℕ Global) → List Member → Type 0
+IsOrder order members = IfSome order (λ places. places.items ≡ places_in_order (map labels_of members))

@@ -1,6 +1,5 @@
 -- Scripts determine the reports on what is sent.
-use Rattle.std.proofs.Common.{◌≡◌, ℕ, zero, suc, ◌+◌, ◌<◌, nat_lt, true, false, All, List, [], ◌∷◌, ◌++◌, length, map, refl, sym, ap, ◌∙◌, subst, append_assoc, arith}
-use Rattle.std.specs.List.{AllZip}
+use Rattle.std.proofs.Common.{◌≡◌, ℕ, zero, suc, ◌+◌, false, All, List, [], ◌∷◌, ◌++◌, length, map, refl, sym, ap, ◌∙◌, subst, append_assoc, arith}
 use Rattle.std.proofs.lemmas.List.{map-append}
 use Rattle.std.proofs.lemmas.List.Elements.{All-head}
 use Rattle.am_model.specs.Notice.{NoticeData}
@@ -14,10 +13,9 @@ use Rattle.am_retry.proofs.Tries.{one_more_try}
 use Rattle.am_pool.specs.Delivery.{is_starved}
 use Rattle.am_pool.specs.Tries.{all_tried_for, tried_for}
 use Rattle.am_pool.specs.declared.courier.Sent.{Sent}
-use Rattle.am_pool.specs.declared.courier.Tried.{Tried}
 use Rattle.am_scenario.specs.Laws.{ScriptsDetermineReports}
 use Rattle.am_scenario.specs.Scripts.{IsAsPlanned, planned_for, sent_at}
-use Rattle.am_scenario.specs.Sendings.{IsFed, IsSending, IsSentFrom}
+use Rattle.am_scenario.specs.Sendings.{IsSentFrom}
 use Rattle.am_scenario.specs.declared.scenario.script.Script.{Script}
 use Rattle.am_scenario.proofs.Answered.{all_behind, all_front}
 

@@ -12,7 +12,7 @@ use Rattle.am_desk.specs.declared.word.Terms.{Terms}
 use Rattle.am_desk.proofs.Histories.{own_prefix}
 use Rattle.am_desk.proofs.Prefixes.{prefix_trans}
 use Rattle.am_scenario.specs.Beside.{MadeBetween, Meets, MeetsAll, RanBeside}
-use Rattle.am_scenario.specs.Lanes.{call_at, calls_by}
+use Rattle.am_scenario.specs.Lanes.{call_at}
 use Rattle.am_scenario.specs.Seats.{MadeCalls, MadeLanes}
 use Rattle.am_scenario.specs.Steps.{MadeRecords, Notes}
 use Rattle.am_scenario.specs.Turns.{AreNoted}

@@ -1,5 +1,5 @@
 -- The parts of a history, from what the main thread's pass has seen.
-use Rattle.std.proofs.Common.{◌≡◌, ◌≢◌, ◌==◌, ℕ, Bool, suc, ◌+◌, ◌<◌, ◌≤◌, ◌-◌, cond, ne_eqb, eq-eqb, All, subst, List, [], ◌∷◌, ◌++◌, length, get_or, take, map, slice_get, refl, sym, ap, ◌∙◌, append_assoc, arith}
+use Rattle.std.proofs.Common.{◌≡◌, ◌≢◌, ℕ, Bool, suc, ◌+◌, ◌<◌, ◌≤◌, ◌-◌, cond, ne_eqb, eq-eqb, All, subst, List, [], ◌∷◌, ◌++◌, length, get_or, take, map, slice_get, refl, sym, ap, ◌∙◌, append_assoc, arith}
 use mathlib.Core.List.{IsPrefix}
 use mathlib.Core.Logic.{dite}
 use native.Mathlib.Decide.{ℕ_discrete}
@@ -12,16 +12,15 @@ use Rattle.am_model.specs.declared.record.Call.{Call}
 use Rattle.am_model.specs.declared.record.Record.{Record}
 use Rattle.am_desk.specs.Desks.{AreFresh, Stands}
 use Rattle.am_desk.specs.History.{own, made}
-use Rattle.am_desk.specs.Known.{Seen, seen}
+use Rattle.am_desk.specs.Known.{Seen}
 use Rattle.am_desk.proofs.Histories.{own-append, own_prefix}
-use Rattle.am_desk.proofs.Prefixes.{prefix_both, prefix_nil, prefix_self, prefix_trans}
+use Rattle.am_desk.proofs.Prefixes.{prefix_both, prefix_nil, prefix_trans}
 use Rattle.am_desk.specs.declared.word.Terms.{Terms}
 use Rattle.am_pool.specs.declared.courier.Tried.{Tried}
-use Rattle.am_scenario.specs.Beside.{HadNoParts, HadParts, HasNoMore, MadeBetween, RanBeside, RanFirst, TookPart}
+use Rattle.am_scenario.specs.Beside.{HadNoParts, HadParts, HasNoMore, MadeBetween, TookPart}
 use Rattle.am_scenario.specs.Lanes.{calls_at, calls_by, phase_calls}
 use Rattle.am_scenario.specs.Parts.{ArePartsOf, IsPartOf, Part, all_in}
 use Rattle.am_scenario.specs.Seats.{HaveMade, MadeCalls, MadeLanes}
-use Rattle.am_scenario.specs.Steps.{TookTurn}
 use Rattle.am_scenario.specs.Turns.{Turn, records_in}
 use Rattle.am_scenario.specs.declared.scenario.Lane.{Lane}
 use Rattle.am_scenario.specs.declared.scenario.Phase.{Phase}

@@ -1,5 +1,5 @@
 -- The notices that are sent, and the reports on them.
-use Rattle.std.proofs.Common.{◌≡◌, ℕ, All, List, [], ◌∷◌, refl, subst}
+use Rattle.std.proofs.Common.{ℕ, All, List, [], ◌∷◌, refl, subst}
 use Rattle.std.specs.List.{AllZip}
 use Rattle.std.proofs.lemmas.List.Elements.{All-head, All-rest}
 use Rattle.am_model.specs.declared.notice.Report.{Report}

@@ -1,5 +1,5 @@
 -- The main thread's turns, from its steps.
-use Rattle.std.proofs.Common.{◌≡◌, ◌==◌, ◌&&◌, ◌||◌, ⊎_elim, inl, inr, ℕ, Bool, true, false, ◌+◌, ◌<◌, cond, All, subst, List, [], ◌∷◌, ◌++◌, length, get_or, take, map, Some, None, Option, Result, Ok, Err, IsOk, OnOk, refl, sym, ap, ◌∙◌, append_assoc, arith}
+use Rattle.std.proofs.Common.{◌≡◌, ◌==◌, ◌&&◌, ◌||◌, ⊎_elim, inl, inr, ℕ, Bool, true, false, ◌<◌, cond, All, subst, List, [], ◌∷◌, ◌++◌, length, get_or, map, Some, None, Option, Result, Ok, Err, IsOk, OnOk, refl, sym, ap, ◌∙◌, append_assoc, arith}
 use Rattle.std.specs.List.{AllZip, filter, flat_map}
 use mathlib.Core.List.{IsPrefix}
 use Rattle.std.proofs.lemmas.Grind.{flat_map-append}

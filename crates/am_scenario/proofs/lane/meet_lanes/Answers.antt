@@ -1,6 +1,5 @@
-use Rattle.std.proofs.Common.{◌<◌, ◌∙◌, List, length, length-set, refl, subst, sym, arith}
+use Rattle.std.proofs.Common.{◌<◌, ◌∙◌, length, length-set, refl, subst, sym, arith}
 use Rattle.std.proofs.lemmas.List.{length-map}
-use Rattle.am_desk.specs.Known.{Seen}
 use Rattle.am_scenario.specs.Beside.{Meets}
 use Rattle.am_scenario.specs.Seats.{passes_in}
 use Rattle.am_scenario.specs.declared.lane.Seat.{Seat}

@@ -8,7 +8,6 @@ use Rattle.am_model.specs.declared.config.Config.{Config}
 use Rattle.am_model.specs.declared.notice.Report.{Report}
 use Rattle.am_model.specs.Replay.{IsLegal}
 use Rattle.am_desk.proofs.Crossing.{every}
-use Rattle.am_desk.specs.History.{own}
 use Rattle.am_desk.specs.Plans.{Plan}
 use Rattle.am_desk.specs.Terms.{terms}
 use Rattle.am_desk.specs.declared.word.Terms.{Terms}

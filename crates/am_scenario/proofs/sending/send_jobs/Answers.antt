@@ -1,6 +1,4 @@
-use Rattle.std.proofs.Common.{List}
 use Rattle.std.specs.List.{AllZip}
-use Rattle.am_model.specs.declared.notice.Report.{Report}
 use Rattle.am_pool.specs.Sent.{AreReportsOf, AreSent}
 use Rattle.am_scenario.specs.Sendings.{IsSendingOf}
 use Rattle.am_scenario.proofs.Answered.{all_answered, both_ok}

@@ -1,4 +1,4 @@
-use Rattle.std.proofs.Common.{◌≡◌, List, [], codes, false, subst, sym}
+use Rattle.std.proofs.Common.{List, [], codes, false, subst, sym}
 use Rattle.serde_json.specs.Find.{as_bool, get_member}
 use Rattle.serde_json.specs.View.{members_view, view}
 use Rattle.am_cli.specs.Told.{IsList, IsNumber, HasOr}

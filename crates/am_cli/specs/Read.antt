@@ -13,7 +13,9 @@ use Rattle.serde_json.specs.Read.{read}
 use Rattle.serde_json.specs.declared.value.Value.{Value}
 use Rattle.am_alerts.specs.Duration.{duration_of, within_limit}
 use Rattle.am_cli.specs.declared.fault.InputFault.{InputFault}
-use Rattle.am_cli.specs.declared.fault.InputFault.TheVariants.{NotJson, Refused, NoMemory}
+use Rattle.am_cli.specs.declared.fault.InputFault.TheVariants.{Refused, NoMemory}
+use Rattle.am_cli.specs.declared.fault.ParseFault.{ParseFault}
+use Rattle.am_cli.specs.declared.fault.ParseFault.TheVariants as parse
 use Rattle.am_cli.specs.declared.fault.Word.{Word}
 use Rattle.am_cli.specs.declared.reader.Manner.{Manner}
 
@@ -45,15 +47,21 @@ HasItems value count = option_map items_len (as_array value) ≡ Some count
 
 -- refused by this word, or for want of memory to tell the place
 abbrev pub IsRefusedBy : Word → InputFault → Type 0
-IsRefusedBy word (NotJson line column) = ⊥
 IsRefusedBy word (Refused place by) = by ≡ word
 IsRefusedBy word NoMemory = Unit {0}
 
+-- the bytes are the text of a JSON value
+abbrev pub IsJson : List ℕ → Type 0
+IsJson input = (value : Data) × (read input ≡ Some value)
+
+-- the bytes are no JSON text in UTF-8
+abbrev pub IsNoJson : List ℕ → Type 0
+IsNoJson input = IsUtf8 input → read input ≡ None
+
 -- why bytes are no value: they are no JSON text, or memory was refused
-abbrev pub RefusesText : List ℕ → InputFault → Type 0
-RefusesText input (NotJson line column) = IsUtf8 input → read input ≡ None
-RefusesText input (Refused place by) = ⊥
-RefusesText input NoMemory = Unit {0}
+abbrev pub RefusesText : List ℕ → ParseFault → Type 0
+RefusesText input (parse.NotJson line column) = IsNoJson input
+RefusesText input parse.NoMemory = Unit {0}
 
 -- whether a name is one of these
 abbrev pub is_one_of : List (Bor (List ℕ)) → List ℕ → Bool

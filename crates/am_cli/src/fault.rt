@@ -20,13 +20,21 @@ pub enum Word {
     Unsupported,
 }
 
-/// Why nothing is made of the bytes of an input.
-#[derive(Debug, Drop, Error)]
-pub enum InputFault {
+/// Why bytes are no JSON value.
+#[derive(Clone, Copy, Debug, PartialEq, Eq, Error)]
+pub enum ParseFault {
     /// They are no JSON text in UTF-8, for what stands at this line and column. Both count from 1, the
     /// column in bytes; 0 is the column of a line's end before it.
     #[error("not JSON: line {line}, column {column}")]
     NotJson { line: usize, column: usize },
+    /// Memory was refused.
+    #[error("no memory")]
+    NoMemory,
+}
+
+/// Why nothing is made of the JSON value of an input.
+#[derive(Debug, Drop, Error)]
+pub enum InputFault {
     /// A value is refused; the place is a JSON pointer.
     #[error("refused at {place}: {word}")]
     Refused { place: String, word: Word },

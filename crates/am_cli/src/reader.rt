@@ -11,7 +11,7 @@ ghost use Rattle.serde_json.specs.View.{items_view, members_view, view};
 ghost use Rattle.am_cli.specs.Read.{HasItems, IsRefusedBy, RefusesText, are_named, is_one_of, number_in};
 ghost use Rattle.am_cli.specs.Told.{Has, HasOr, IsList, IsText};
 
-use crate::fault::{InputFault, Word};
+use crate::fault::{InputFault, ParseFault, Word};
 use crate::place::Place;
 use am_alerts::text::Text;
 use serde_json::{Map, Value};
@@ -85,15 +85,15 @@ pub trait FromJson<'v>: Drop + Sized {
         ensures { IfOk result (tells reader.now.manner (view reader.now.value)) };
 }
 
-/// The JSON value that these bytes are. Refused as `NotJson` or for want of memory, with no place.
-pub fn parse(alloc: Global, input: &[u8]) -> Result<Value, InputFault>
+/// The JSON value that these bytes are.
+pub fn parse(alloc: Global, input: &[u8]) -> Result<Value, ParseFault>
     ensures value { IfOk result (λ value. read_text input.now ≡ Some (view value)) }
     ensures refused { IfErr result (RefusesText input.now) }
 {
     match Value::from_slice(alloc, input) {
         Ok(value) => Ok(value),
-        Err(refused) if refused.is_memory() => Err(InputFault::NoMemory),
-        Err(refused) => Err(InputFault::NotJson {
+        Err(refused) if refused.is_memory() => Err(ParseFault::NoMemory),
+        Err(refused) => Err(ParseFault::NotJson {
             line: refused.line(),
             column: refused.column(),
         }),

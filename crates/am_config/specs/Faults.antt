@@ -1,7 +1,7 @@
 -- The faults of an input.
 use Rattle.std.specs.Prelude.{◌≡◌, ◌<◌, ◌++◌, List, [], ◌∷◌, length, Option, Some, None, Result, Ok, Err, if◌then◌else◌, nat_lt}
 use Rattle.am_cli.specs.declared.fault.InputFault.{InputFault}
-use Rattle.am_cli.specs.declared.fault.InputFault.TheVariants.{NotJson, Refused, NoMemory}
+use Rattle.am_cli.specs.declared.fault.InputFault.TheVariants.{Refused, NoMemory}
 use Rattle.am_config.specs.declared.faults.Fault.{Fault}
 use Rattle.am_config.specs.declared.faults.Refusal.{Refusal}
 use Rattle.am_config.specs.declared.faults.Refusal.TheVariants.{One, All}
@@ -9,7 +9,6 @@ use Rattle.am_config.specs.declared.faults.TheConstants.{MAX_FAULTS}
 
 -- the faults with a refused value's behind them, unless there are a hundred
 abbrev pub with_fault : List Fault → InputFault → List Fault
-with_fault faults (NotJson line column) = faults
 with_fault faults (Refused place word) =
     if nat_lt (length faults) MAX_FAULTS then faults ++ (record { place = place; word = word }) ∷ [] else faults
 with_fault faults NoMemory = faults
@@ -21,7 +20,6 @@ IsKept before after (Err fault) kept = (after ≡ with_fault before fault) × (k
 
 -- which fault ends the reading where this one comes: a refused value doesn't, unless there is no memory to keep it
 abbrev pub Ends : InputFault → InputFault → Type 0
-Ends (NotJson line column) end = end ≡ NotJson line column
 Ends (Refused place word) end = end ≡ NoMemory
 Ends NoMemory end = end ≡ NoMemory
 

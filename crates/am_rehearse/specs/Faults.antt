@@ -1,7 +1,10 @@
 -- How a rehearsal ends without its timeline, or with an expectation that isn't met.
-use Rattle.std.specs.Prelude.{ℕ}
+use Rattle.std.specs.Prelude.{ℕ, List}
+use Rattle.am_cli.specs.Read.{IsJson, IsNoJson}
 use Rattle.am_cli.specs.declared.fault.InputFault.{InputFault}
 use Rattle.am_cli.specs.declared.fault.InputFault.TheVariants as input
+use Rattle.am_cli.specs.declared.fault.ParseFault.{ParseFault}
+use Rattle.am_cli.specs.declared.fault.ParseFault.TheVariants as parse
 use Rattle.am_cli.specs.declared.transfer.ReadFault.{ReadFault}
 use Rattle.am_cli.specs.declared.transfer.ReadFault.TheVariants as read
 use Rattle.am_config.specs.declared.faults.Refusal.{Refusal}
@@ -9,9 +12,13 @@ use Rattle.am_config.specs.declared.faults.Refusal.TheVariants as refusal
 use Rattle.am_rehearse.specs.declared.fault.RehearseFault.{RehearseFault}
 use Rattle.am_rehearse.specs.declared.fault.RehearseFault.TheVariants as rehearse
 
--- a fault of an input is the program's of the same name
+-- a fault of an input's text is the program's of the same name
+abbrev pub fault_of_parse : ParseFault → RehearseFault
+fault_of_parse (parse.NotJson line column) = rehearse.NotJson line column
+fault_of_parse parse.NoMemory = rehearse.NoMemory
+
+-- and so is one of what it tells
 abbrev pub fault_of_input : InputFault → RehearseFault
-fault_of_input (input.NotJson line column) = rehearse.NotJson line column
 fault_of_input (input.Refused place word) = rehearse.Refused place word
 fault_of_input input.NoMemory = rehearse.NoMemory
 
@@ -34,3 +41,13 @@ status_of (rehearse.AllRefused faults) = 2
 status_of rehearse.NoMemory = 3
 status_of rehearse.Unwritable = 4
 status_of rehearse.Unmet = 5
+
+-- an input is refused as no JSON only where it is none, and at a place only where it is the text of a JSON value
+abbrev pub Refuses : List ℕ → RehearseFault → Type 0
+Refuses input rehearse.Unreadable = ⊥
+Refuses input (rehearse.NotJson line column) = IsNoJson input
+Refuses input (rehearse.Refused place word) = IsJson input
+Refuses input (rehearse.AllRefused faults) = IsJson input
+Refuses input rehearse.NoMemory = Unit {0}
+Refuses input rehearse.Unwritable = ⊥
+Refuses input rehearse.Unmet = ⊥

@@ -1,5 +1,5 @@
 //! Why a rehearsal ends without its timeline, or with an expectation that isn't met.
-use am_cli::fault::{InputFault, Word};
+use am_cli::fault::{InputFault, ParseFault, Word};
 use am_cli::transfer::{ReadFault, Unwritable};
 use am_config::faults::{Faults, Refusal};
 use thiserror::Error;
@@ -10,7 +10,7 @@ pub enum RehearseFault {
     /// A read failed, or the input has more than 16,777,216 bytes.
     #[error("am-rehearse: input not readable")]
     Unreadable,
-    /// The input is no JSON text in UTF-8, at this line and column where they are known.
+    /// The input is no JSON text in UTF-8, at this line and column.
     #[error("am-rehearse: rehearsal refused: not JSON at line {line}, column {column}")]
     NotJson { line: usize, column: usize },
     /// The rehearsal is refused; the place is a JSON pointer.
@@ -50,6 +50,20 @@ impl RehearseFault {
     }
 }
 
+impl From<ParseFault> for RehearseFault {
+    ghost use Rattle.std.specs.Prelude.{◌≡◌};
+    ghost use Rattle.am_rehearse.specs.Faults.{fault_of_parse};
+
+    ghost from_gives = { λ of_parse fault. fault ≡ fault_of_parse of_parse };
+
+    fn from(fault: ParseFault) -> RehearseFault {
+        match fault {
+            ParseFault::NotJson { line, column } => RehearseFault::NotJson { line, column },
+            ParseFault::NoMemory => RehearseFault::NoMemory,
+        }
+    }
+}
+
 impl From<InputFault> for RehearseFault {
     ghost use Rattle.std.specs.Prelude.{◌≡◌};
     ghost use Rattle.am_rehearse.specs.Faults.{fault_of_input};
@@ -58,7 +72,6 @@ impl From<InputFault> for RehearseFault {
 
     fn from(fault: InputFault) -> RehearseFault {
         match fault {
-            InputFault::NotJson { line, column } => RehearseFault::NotJson { line, column },
             InputFault::Refused { place, word } => RehearseFault::Refused { place, word },
             InputFault::NoMemory => RehearseFault::NoMemory,
         }

@@ -1,5 +1,5 @@
 //! The run of a rehearsal, from its bytes to what it tells.
-ghost use Rattle.std.specs.Prelude.{◌≡◌, ◌≢◌, ◌≤◌, ◌<◌, ◌+◌, ◌++◌, ◌⊎◌, ◌↔◌, Some, false, true, length, string_bytes, vec_len};
+ghost use Rattle.std.specs.Prelude.{◌≡◌, ◌≢◌, ◌≤◌, ◌<◌, ◌+◌, ◌++◌, ◌⊎◌, ◌↔◌, List, ℕ, Some, false, true, length, string_bytes, vec_len};
 ghost use Rattle.std.specs.Prelude.{IfErr, IfOk, OnOk, option_and_then};
 ghost use Rattle.std.specs.List.{list_all, range_with_len};
 ghost use Rattle.am_cli.specs.declared.transfer.TheConstants.{MAX_INPUT};
@@ -7,6 +7,7 @@ ghost use Rattle.am_rehearsal.specs.Happened.{begun_in};
 ghost use Rattle.am_rehearsal.specs.Told.{told};
 ghost use Rattle.am_rehearsal.specs.declared.limits.TheConstants.{BOARD_ID};
 ghost use Rattle.am_rehearse.specs.Asked.{times_from};
+ghost use Rattle.am_rehearse.specs.Faults.{Refuses, status_of};
 ghost use Rattle.am_rehearse.specs.Tale.{IsAnswered, IsPrinted, IsTaleOf, IsToldOf, judged};
 ghost use Rattle.am_timeline.specs.Expectation.{is_met};
 ghost use Rattle.am_timeline.specs.Table.{table_text};
@@ -20,7 +21,6 @@ use am_cli::place::Place;
 use am_cli::reader::parse;
 use am_cli::transfer::{MAX_INPUT, read_all, write_all};
 use am_config::dropped::Dropped;
-use am_config::faults::Refusal;
 use am_rehearsal::play::{PlayFault, Played, play};
 use am_timeline::clock::{Clock, Counted};
 use am_timeline::expectation::Expectation;
@@ -46,6 +46,9 @@ struct Told {
 /// those that the JSON tells, but for the labels in an expectation's sets; of the configuration, the
 /// alerts, silences and outages and of maintenance it isn't said that they are the JSON's.
 ///
+/// An input is refused as `NotJson` only where it is none, and at a place only where it is the text of
+/// a JSON value; it was read whole before.
+///
 /// `dropped` is what of Alertmanager's configuration is dropped, once the rehearsal was read.
 /// It is made whole before its first byte is written: on every fault but `Unwritable` and `Unmet` the
 /// sink wasn't asked.
@@ -70,6 +73,9 @@ pub fn run_rehearsal<S: Source, K: Sink>(
         (IsAnswered true (S.given source.old) (S.given source.new) (K.taken sink.old) (K.taken sink.new)) }
     ensures unmet { IfErr result (λ fault. fault ≡ RehearseFault.Unmet →
         IsAnswered false (S.given source.old) (S.given source.new) (K.taken sink.old) (K.taken sink.new)) }
+    ensures refused { IfErr result (λ fault. status_of fault ≡ 2 → (input : List ℕ) × Refuses input fault
+        × (S.given source.new ≡ S.given source.old ++ input)
+        × (S.ended source.new ≡ S.ended source.old + 1)) }
 {
     let input = read_all(alloc, source)?;
     let told = told_of(alloc, input.as_slice(), dropped)?;
@@ -96,8 +102,9 @@ fn refused(alloc: Global, fault: PlayFault, origins: &[Origin]) -> InputFault {
 }
 
 /// What is printed of the rehearsal that these bytes are.
-fn told_of(alloc: Global, input: &[u8], dropped: &mut Dropped) -> Result<Told, Refusal>
-    ensures { IfOk result (λ told. IsToldOf input.now told.is_met (string_bytes told.text)) }
+fn told_of(alloc: Global, input: &[u8], dropped: &mut Dropped) -> Result<Told, RehearseFault>
+    ensures told { IfOk result (λ told. IsToldOf input.now told.is_met (string_bytes told.text)) }
+    ensures refused { IfErr result (Refuses input.now) }
 {
     let value = parse(alloc, input)?;
     let input = read_input(alloc, &value)?;

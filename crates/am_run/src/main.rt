@@ -5,7 +5,7 @@
 #![tactic(auto)]
 
 use am_cli::device::{StandardInput, StandardOutput};
-use am_scenario::run::run_scenario;
+use am_play::run::run_scenario;
 use std::process::ExitCode;
 
 fn main(rt: HostRuntime) -> ExitCode {

@@ -1,16 +1,2 @@
-pub mod Faults
-pub mod Report
-pub mod Lanes
 pub mod Scripts
-pub mod Sendings
-pub mod Turns
-pub mod Parts
-pub mod Plays
-pub mod Seats
-pub mod Steps
-pub mod Beside
-pub mod Troubles
-pub mod Runs
-pub mod FirstRun
 pub mod Told
-pub mod Laws

@@ -5,7 +5,7 @@ ghost use Rattle.am_alerts.specs.declared.limits.TheConstants.{MAX_MOMENT};
 ghost use Rattle.am_pool.specs.declared.limits.TheConstants.{MAX_WORKERS};
 
 use am_alerts::limits::MAX_MOMENT;
-use am_board::config::Config;
+use am_model::config::Config;
 use am_pool::MAX_WORKERS;
 
 mod call;

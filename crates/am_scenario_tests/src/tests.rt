@@ -2,8 +2,8 @@
 use am_cli::device::{DeviceFault, Sink, Source};
 use am_cli::fault::Word;
 use am_cli::usage::Usage;
-use am_scenario::fault::RunFault;
-use am_scenario::run::run_scenario;
+use am_play::fault::RunFault;
+use am_play::run::run_scenario;
 use std::alloc::{AllocError, Global};
 use std::process::Abort;
 use std::sync::Wait;

@@ -7,11 +7,11 @@ use am_board::notice::Notice;
 use am_board::record::{Call, Reply};
 use am_cli::fault::InputFault;
 use am_desk::{Blank, Brand, Closed, Name};
+use am_play::courier::{Answering, Scripts, couriers_for};
+use am_play::phase::Run;
+use am_play::run::{blank_for, open};
 use am_pool::{Courier, Journal, Sent, Tried};
 use am_retry::Answer;
-use am_scenario::courier::{Answering, Scripts, couriers_for};
-use am_scenario::phase::Run;
-use am_scenario::run::{blank_for, open};
 use am_scenario::scenario::{Phase, Scenario, read_scenario};
 use serde_json::Value;
 

@@ -1,0 +1,14 @@
+use Rattle.std.proofs.Common.{vec_len}
+use Rattle.am_play.specs.Runs.{Keeps}
+use Rattle.am_play.specs.Troubles.{AreNone}
+use Rattle.am_play.proofs.Turns.{FinishesSoFar}
+use Rattle.am_play.proofs.phase.Run.finish_all.Given as goal
+
+abbrev pub invariant-loop-left : goal.invariant-loop-left
+invariant-loop-left g l = record {
+  keeps : Keeps l.fn.self l.self;
+  finished : AreNone l.self.troubles → FinishesSoFar l.at l.reports l.fn.tickets.items l.left.items l.fn.self.main l.self.main;
+}
+
+abbrev pub decreases-loop-left : goal.decreases-loop-left
+decreases-loop-left g l = vec_len l.left

@@ -1,0 +1,62 @@
+use Rattle.std.proofs.Common.{◌≡◌, ◌∙◌, IfOk, List, ap, length, subst, sym, arith}
+use Rattle.std.specs.List.{AllZip}
+use Rattle.std.proofs.lemmas.List.{take_at}
+use Rattle.am_desk.specs.Known.{Seen}
+use Rattle.am_model.specs.Notice.{NoticeData}
+use Rattle.am_pool.specs.declared.worker.Job.{Job}
+use Rattle.am_play.specs.Beside.{RanBeside}
+use Rattle.am_play.specs.Runs.{lanes_of}
+use Rattle.am_play.specs.Seats.{MadeLanes, passes_in}
+use Rattle.am_play.specs.Sendings.{IsSendingOf, IsSentFrom}
+use Rattle.am_play.proofs.Meetings.{between_meetings, ran_beside}
+use Rattle.am_play.proofs.Sendings.{sent_each}
+use Rattle.am_play.proofs.phase.Run.run_beside.Goals as goal
+
+pub returns-clause-lanes : goal.returns-clause-lanes
+returns-clause-lanes g c none =
+    let at = c.args.at in
+    let xs = c.args.lanes.items in
+    let was = c.args.self.now in
+    let is = c.hear_couriers.new.self in
+    let kept = c.hear_couriers.ensures.keeps in
+    let heard = c.hear_joined.ensures.heard (kept.2 none) in
+    let first = rw c.as_mut_slice-seats.ensures.value at c.meet_lanes.ensures in
+    let made = c.run_beside-sent.ensures.lanes heard.1 in
+    let long : length c.hear_joined.new.seats ≡ was.seats.len =
+    omega (arith, c.hear_joined.auto.seats, c.run_beside-sent.auto.seats, c.meet_lanes.auto.seats, ap length c.as_mut_slice-seats.ensures.value, was.seats.ok.0)
+    in
+    let items : is.seats.items ≡ c.hear_joined.new.seats = ap (λ v. v.items) kept.0 ∙ take_at c.hear_joined.new.seats _ _ long in (
+      heard.0,
+      subst (λ ss. MadeLanes at xs (lanes_of was) (passes_in ss)) (sym items) (between_meetings at xs _ _ _ _ _ _ _ first made c.hear_joined.ensures.met),
+    )
+
+pub returns-clause-beside : goal.returns-clause-beside
+returns-clause-beside g c none =
+    let at = c.args.at in
+    let xs = c.args.lanes.items in
+    let was = c.args.self.now in
+    let is = c.hear_couriers.new.self in
+    let kept = c.hear_couriers.ensures.keeps in
+    let heard = c.hear_joined.ensures.heard (kept.2 none) in
+    let first = rw c.as_mut_slice-seats.ensures.value at c.meet_lanes.ensures in
+    let made = c.run_beside-sent.ensures.lanes heard.1 in
+    let long : length c.hear_joined.new.seats ≡ was.seats.len =
+    omega (arith, c.hear_joined.auto.seats, c.run_beside-sent.auto.seats, c.meet_lanes.auto.seats, ap length c.as_mut_slice-seats.ensures.value, was.seats.ok.0)
+    in
+    let items : is.seats.items ≡ c.hear_joined.new.seats = ap (λ v. v.items) kept.0 ∙ take_at c.hear_joined.new.seats _ _ long in
+    subst (λ ss. RanBeside was.main is.main (lanes_of was) (passes_in ss)) (sym items)
+    (subst (λ (r : Seen). RanBeside was.main r (lanes_of was) (passes_in c.hear_joined.new.seats)) (sym c.hear_couriers.ensures.rests.0)
+    (ran_beside at xs _ _ _ _ _ _ _ first made c.hear_joined.ensures.met))
+
+pub returns-clause-sent : goal.returns-clause-sent
+returns-clause-sent g c none =
+    let answers = g.C.Answering.answers in
+    let jobs : List Job = c.in-Ok.jobs.items in
+    let reports = c.hear_couriers.result.items in
+    let told : AllZip (IsSendingOf answers) c.as_slice.result.now reports =
+    subst (λ r. IfOk r (λ rs. AllZip (IsSendingOf answers) c.as_slice.result.now rs.items)) (c.hear_couriers.ensures.heard none) c.run_beside-sent.ensures.reports
+    in
+    let are : AllZip (IsSendingOf answers) jobs reports = subst (λ (js : List Job). AllZip (IsSendingOf answers) js reports) c.as_slice.ensures.value told in
+    let fed = c.hear_couriers.ensures.fed none in
+    subst (λ (ns : List NoticeData). AllZip (IsSentFrom answers c.args.at) ns reports) c.in-Ok.ensures.notices
+    (sent_each answers c.args.at jobs reports c.in-Ok.ensures.starts fed are)

@@ -1,0 +1,28 @@
+use Rattle.std.proofs.Common.{subst, sym}
+use Rattle.am_play.specs.Beside.{RanBeside}
+use Rattle.am_play.specs.Runs.{lanes_of}
+use Rattle.am_play.specs.Seats.{passes_in}
+use Rattle.am_play.proofs.Meetings.{quiet_first}
+use Rattle.am_play.proofs.phase.Run.send_all.Goals as goal
+
+pub returns-clause-beside : goal.returns-clause-beside
+returns-clause-beside g c none =
+    let was = c.args.self.now in
+    let settled = c.settle_all.ensures in
+    let joined = c.run_beside-reports.new.self in
+    let ran = c.run_beside-reports.ensures.beside (settled.keeps.2 none) in
+    record {
+      joined = joined.main;
+      ran = subst (λ v. RanBeside was.main joined.main (lanes_of was) (passes_in v.items)) (sym settled.keeps.0) ran;
+      begins = (settled.noted none).made.2;
+    }
+
+pub returns-clause-sent : goal.returns-clause-sent
+returns-clause-sent g c none =
+    let settled = c.settle_all.ensures in
+    let ran = c.run_beside-reports.ensures.beside (settled.keeps.2 none) in
+    record {
+      sent = rw c.as_slice.ensures.value at (c.run_beside-reports.ensures.sent (settled.keeps.2 none));
+      recorded = rw c.as_slice-2.ensures.value at (settled.recorded none);
+      noted = quiet_first g.N.Name.terms _ _ _ _ ran.quiet (rw c.as_slice-2.ensures.value at (settled.noted none));
+    }

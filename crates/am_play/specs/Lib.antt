@@ -1,0 +1,12 @@
+pub mod Faults
+pub mod Lanes
+pub mod Sendings
+pub mod Turns
+pub mod Parts
+pub mod Plays
+pub mod Seats
+pub mod Steps
+pub mod Beside
+pub mod Troubles
+pub mod Runs
+pub mod Laws

@@ -1,0 +1,460 @@
+//! The phases of a run.
+ghost use Rattle.std.specs.Prelude.{◌≡◌, ◌<◌, ◌≤◌, ◌+◌, ◌++◌, ◌∷◌, [], ℕ, false, true, All, IfErr, IfOk, IsTrue, OnOk, Ok, length, map, vec_len};
+ghost use Rattle.std.specs.List.{AllZip, range_with_len};
+ghost use Rattle.am_alerts.specs.declared.limits.TheConstants.{MAX_MOMENT};
+ghost use Rattle.am_cli.specs.Read.{IsRefusedBy};
+ghost use Rattle.am_desk.specs.Desks.{AreFresh, Stands};
+ghost use Rattle.am_desk.specs.History.{made};
+ghost use Rattle.am_desk.specs.Terms.{terms_of};
+ghost use Rattle.am_play.specs.Beside.{HadNoParts, MeetsAll, RanBeside, RanFirst, TookPart};
+ghost use Rattle.am_play.specs.Seats.{HaveMade, MadeLanes, NoneRefused, passes_in};
+ghost use Rattle.am_play.specs.Steps.{Begins, Finishes, FinishesOne, Grows, Notes, NotesAt, Sends};
+ghost use Rattle.am_play.specs.Steps.{notes_of, notes_of_all, opened_of, recorded_all};
+ghost use Rattle.am_play.specs.Troubles.{AreNone};
+ghost use Rattle.am_play.specs.Sendings.{IsFed, IsSentFrom};
+ghost use Rattle.am_play.specs.Turns.{to_send};
+
+use crate::courier::Answering;
+use crate::lane::{Seat, meet_lanes, run_beside, seats_for};
+use crate::sending::{are_fed, end_on, has_succeeded, jobs_of, last_end};
+use crate::trouble::{Refused, Troubles};
+use am_board::begin::Begun;
+use am_board::fault::{Fault, NoteFault};
+use am_board::notice::Report;
+use am_cli::fault::{InputFault, Word};
+use am_cli::place::Place;
+use am_desk::{CloseFault, Closed, Desk, Name, NotOpen, OwnTicket, Pass};
+use am_pool::PoolFault;
+use am_retry::Outcome;
+use am_scenario::scenario::{Lane, Phase};
+use std::alloc::Global;
+use std::sync::Wait;
+use std::thread::Threads;
+
+/// A run: its desk, and what has come of it.
+#[derive(Drop)]
+pub struct Run<N: Name> {
+    alloc: Global,
+    desk: Desk<N>,
+    /// The main thread's, which begins, notes and finishes.
+    main: Pass<N>,
+    /// Lane i has seat i, with the pass i + 1.
+    seats: Vec<Seat<N>>,
+    /// Has room for all passes.
+    passes: Vec<Pass<N>>,
+    troubles: Troubles,
+    /// The reports on the notices so far.
+    reports: Vec<Report>,
+    ghost seated: { vec_len seats + 1 ≡ N.plan.passes },
+}
+
+impl<N: Name + Send + Sync> Run<N> {
+    ghost use Rattle.am_play.specs.Runs.{Gathers, Keeps, Rests, RunsLanes, lanes_of};
+
+    /// A run on a desk with all its passes. Refused for want of memory.
+    pub fn new(alloc: Global, desk: Desk<N>, passes: Vec<Pass<N>>) -> Result<Run<N>, InputFault>
+        requires { AreFresh 0 passes.items × (vec_len passes ≡ N.plan.passes) × (0 < N.plan.passes) }
+        ensures lanes { IfOk result (λ run. HaveMade 0 [] (lanes_of run)) }
+        ensures main { IfOk result (λ run. HadNoParts run.main (lanes_of run) run.reports.items) }
+        ensures refused { IfErr result (IsRefusedBy Word.Full) }
+    {
+        Run::seated(alloc, desk, passes)
+    }
+
+    /// A run in which lane i has the pass i + 1.
+    fn seated(alloc: Global, desk: Desk<N>, mut passes: Vec<Pass<N>>) -> Result<Run<N>, InputFault>
+        requires { AreFresh 0 passes.items × (vec_len passes ≡ N.plan.passes) × (0 < N.plan.passes) }
+        ensures numbers { IfOk result (λ run. (run.main.number ≡ 0)
+            × (map (λ s. s.pass.number) run.seats.items ≡ range_with_len 1 (vec_len run.seats))) }
+        ensures lanes { IfOk result (λ run. HaveMade 0 [] (lanes_of run)) }
+        ensures main { IfOk result (λ run. HadNoParts run.main (lanes_of run) run.reports.items) }
+        ensures refused { IfErr result (IsRefusedBy Word.Full) }
+    {
+        let main = passes.remove(0);
+        let seats = seats_for(alloc, &mut passes)?;
+        Ok(Run {
+            alloc,
+            desk,
+            main,
+            seats,
+            passes,
+            troubles: Troubles::none(),
+            reports: Vec::new(alloc),
+        })
+    }
+
+    /// The closed desk, and the reports on the notices.
+    pub fn close(self) -> Result<(Closed, Vec<Report>), InputFault>
+        ensures terms { IfOk result (λ r. terms_of r.0 ≡ N.terms) }
+        ensures main { IfOk result (λ r. Stands self.main r.0.history) }
+        ensures reports { IfOk result (λ r. r.1 ≡ self.reports) }
+        ensures lanes { IfOk result (λ r. All (λ p. Stands p r.0.history) (lanes_of self)) }
+        ensures others { IfOk result (λ r. (k : ℕ) → length (lanes_of self) < k → made k r.0.history ≡ 0) }
+        ensures refused { IfErr result (IsRefusedBy Word.Full) }
+    {
+        let Run {
+            alloc,
+            desk,
+            main,
+            seats,
+            mut passes,
+            troubles: _,
+            reports,
+        } = self;
+        put_back(&mut passes, main, seats)?;
+        Ok((close(alloc, desk, passes)?, reports))
+    }
+
+    /// Runs the phase of this index, with couriers for its notices. All flushes that it begins are
+    /// finished, whatever happens; where a begin is refused, with nothing recorded.
+    ///
+    /// The calls of the lanes come after the begins, and before the notes and the finishes.
+    pub fn run_phase<R: Threads + Wait + Sync, C: Answering + Send>(
+        &mut self,
+        rt: &R,
+        couriers: &mut [C],
+        index: usize,
+        phase: Phase,
+    ) -> Result<(), InputFault>
+        requires { vec_len phase.lanes < N.plan.passes }
+        ensures lanes { OnOk result (MadeLanes phase.at phase.lanes.items (lanes_of self.old) (lanes_of self.new)) }
+        ensures turn { OnOk result (TookPart C.answers N.terms phase self.old.main self.new.main
+            (lanes_of self.old) (lanes_of self.new) self.old.reports.items self.new.reports.items) }
+        ensures refused { IfErr result (IsRefusedBy Word.Full) }
+    {
+        let Phase { at, flush, lanes } = phase;
+        let mut tickets = Vec::new(self.alloc);
+        if flush {
+            self.begin_all(rt, at, &mut tickets);
+        }
+        let reports = self.send_all(rt, couriers, at, &mut tickets, lanes);
+        self.finish_all(rt, at, tickets, reports.as_slice());
+        self.keep(reports.as_slice());
+        self.troubles.verdict(self.alloc, index)
+    }
+
+    /// Begins flushes until no group is due, or as many are open as may be.
+    fn begin_all<R: Wait>(&mut self, rt: &R, at: u64, tickets: &mut Vec<OwnTicket<N>>)
+        ensures keeps { Keeps self.old self.new }
+        ensures begins { AreNone self.new.troubles
+            → Begins N.terms true false at self.old.main self.new.main tickets.old.items tickets.new.items }
+    {
+        // This ends, since each begin leaves a record.
+        while self.begin(rt, at, tickets) {}
+    }
+
+    /// Begins a flush. Answers whether there may be more to begin.
+    fn begin<R: Wait>(&mut self, rt: &R, at: u64, tickets: &mut Vec<OwnTicket<N>>) -> bool
+        ensures keeps { Keeps self.old self.new }
+        ensures begins { AreNone self.new.troubles
+            → Begins N.terms true result at self.old.main self.new.main tickets.old.items tickets.new.items }
+        ensures grows { IsTrue result → Grows N.terms self.old.main self.new.main }
+    {
+        if tickets.reserve(1).is_err() {
+            self.troubles.add_no_memory();
+            return false;
+        }
+        match self.desk.begin(rt, self.alloc, &mut self.main, at) {
+            Ok(Begun::NothingDue) => false,
+            Ok(
+                Begun::Quiet {
+                    group: _,
+                    removed: _,
+                },
+            ) => true,
+            Ok(Begun::Flush(ticket)) => {
+                tickets.push_reserved(OwnTicket::new(ticket));
+                true
+            }
+            // The groups that are left stay due.
+            Err(Fault::TooManyOpen) => false,
+            Err(fault) => {
+                self.troubles.refuse(fault, Refused::Begin);
+                false
+            }
+        }
+    }
+
+    /// Runs the lanes, sends the notices and settles what was sent; does nothing where something has
+    /// gone wrong. Answers the reports, by ticket and integration.
+    fn send_all<R: Threads + Wait + Sync, C: Answering + Send>(
+        &mut self,
+        rt: &R,
+        couriers: &mut [C],
+        at: u64,
+        tickets: &mut Vec<OwnTicket<N>>,
+        lanes: Vec<Lane>,
+    ) -> Vec<Report>
+        requires start { at ≤ MAX_MOMENT }
+        requires lanes { vec_len lanes < N.plan.passes }
+        ensures lanes { RunsLanes at lanes.items self.old self.new }
+        ensures reports { self.new.reports ≡ self.old.reports }
+        ensures beside { AreNone self.new.troubles
+            → RanFirst self.old.main self.new.main (lanes_of self.old) (lanes_of self.new) }
+        ensures sent { AreNone self.new.troubles
+            → Sends C.answers N.terms at result.items tickets.old.items tickets.new.items self.old.main self.new.main }
+    {
+        if !self.troubles.are_none() {
+            return Vec::new(self.alloc);
+        }
+        let reports = self.run_beside(rt, couriers, at, tickets.as_slice(), lanes);
+        self.settle_all(rt, at, tickets, reports.as_slice());
+        reports
+    }
+
+    /// Runs the lanes, and sends beside them the notices that have something to send. Answers the
+    /// reports, by ticket and integration.
+    ///
+    /// The main thread's pass meets those of the lanes before they start and when they are joined: so it
+    /// is known that their calls come after all that it has made, and before what it makes next.
+    fn run_beside<R: Threads + Wait + Sync, C: Answering + Send>(
+        &mut self,
+        rt: &R,
+        couriers: &mut [C],
+        at: u64,
+        tickets: &[OwnTicket<N>],
+        lanes: Vec<Lane>,
+    ) -> Vec<Report>
+        requires start { at ≤ MAX_MOMENT }
+        requires lanes { vec_len lanes < N.plan.passes }
+        ensures lanes { RunsLanes at lanes.items self.old self.new }
+        ensures reports { self.new.reports ≡ self.old.reports }
+        ensures beside { AreNone self.new.troubles
+            → RanBeside self.old.main self.new.main (lanes_of self.old) (lanes_of self.new) }
+        ensures sent { AreNone self.new.troubles
+            → AllZip (IsSentFrom C.answers at) (to_send (map opened_of tickets.now)) result.items }
+    {
+        let Ok(jobs) = jobs_of(self.alloc, tickets, at) else {
+            self.troubles.add_no_memory();
+            return Vec::new(self.alloc);
+        };
+        let seats = self.seats.as_mut_slice();
+        meet_lanes(&self.desk, &mut self.main, seats);
+        let sent = run_beside(
+            rt,
+            self.alloc,
+            &self.desk,
+            at,
+            seats,
+            lanes,
+            couriers,
+            jobs.as_slice(),
+        );
+        hear_joined(&self.desk, &mut self.main, seats, &mut self.troubles);
+        self.hear_couriers(sent)
+    }
+
+    /// The reports of the couriers.
+    fn hear_couriers(&mut self, sent: Result<Vec<Report>, PoolFault>) -> Vec<Report>
+        ensures keeps { Keeps self.old self.new }
+        ensures rests { Rests self.old self.new }
+        ensures heard { AreNone self.new.troubles → sent ≡ Ok result }
+        ensures fed { AreNone self.new.troubles → All IsFed result.items }
+    {
+        match sent {
+            Ok(reports) => {
+                if !are_fed(reports.as_slice()) {
+                    self.troubles.add_no_memory();
+                }
+                reports
+            }
+            Err(PoolFault::NoMemory) => {
+                self.troubles.add_no_memory();
+                Vec::new(self.alloc)
+            }
+            Err(_) => {
+                self.troubles.add(Refused::Ending);
+                Vec::new(self.alloc)
+            }
+        }
+    }
+
+    /// Keeps the reports of a phase.
+    fn keep(&mut self, reports: &[Report])
+        ensures { Gathers reports.now self.old self.new }
+    {
+        if self.reports.extend_from_slice(reports).is_err() {
+            self.troubles.add_no_memory();
+        }
+    }
+
+    /// Records the reports, and notes each success.
+    fn settle_all<R: Wait>(
+        &mut self,
+        rt: &R,
+        at: u64,
+        tickets: &mut Vec<OwnTicket<N>>,
+        reports: &[Report],
+    )
+        ensures keeps { Keeps self.old self.new }
+        ensures recorded { AreNone self.new.troubles
+            → tickets.new.items ≡ map (recorded_all reports.now) tickets.old.items }
+        ensures noted { AreNone self.new.troubles
+            → Notes N.terms (notes_of_all at reports.now tickets.new.items) self.old.main self.new.main }
+    {
+        if !record_all(tickets, reports) {
+            self.troubles.add(Refused::Ending);
+            return;
+        }
+        self.note_all(rt, at, tickets.as_slice(), reports);
+    }
+
+    /// Notes each success of these flushes.
+    fn note_all<R: Wait>(&mut self, rt: &R, at: u64, tickets: &[OwnTicket<N>], reports: &[Report])
+        ensures keeps { Keeps self.old self.new }
+        ensures noted { AreNone self.new.troubles
+            → Notes N.terms (notes_of_all at reports.now tickets.now) self.old.main self.new.main }
+    {
+        for own in tickets {
+            self.settle(rt, at, own, reports);
+        }
+    }
+
+    /// Notes each success of a flush, when the sending of its notice was over.
+    fn settle<R: Wait>(&mut self, rt: &R, at: u64, own: &OwnTicket<N>, reports: &[Report])
+        ensures keeps { Keeps self.old self.new }
+        ensures noted { AreNone self.new.troubles
+            → Notes N.terms (notes_of at reports.now own.now own.now.notices) self.old.main self.new.main }
+    {
+        let ticket = own.ticket();
+        for (place, notice) in ticket.notices().iter().enumerate() {
+            let succeeded = has_succeeded(notice, ticket.outcome(place));
+            if succeeded {
+                let end = end_on(reports, ticket.number(), notice.integration, at);
+                self.note(rt, end, own, place);
+            }
+        }
+    }
+
+    /// Logs the success of a notice. Where the history has no room the finish logs it.
+    fn note<R: Wait>(&mut self, rt: &R, now: u64, own: &OwnTicket<N>, place: usize)
+        ensures keeps { Keeps self.old self.new }
+        ensures noted { AreNone self.new.troubles → NotesAt N.terms now own.now place self.old.main self.new.main }
+    {
+        match self
+            .desk
+            .note(rt, self.alloc, &mut self.main, own.ticket(), place, now)
+        {
+            Ok(_) => {}
+            Err(NoteFault::HistoryFull) => {}
+            Err(NoteFault::NoMemory) => self.troubles.add_no_memory(),
+            Err(_) => self.troubles.add(Refused::Ending),
+        }
+    }
+
+    /// Finishes the flushes, by number, each when the sending of its notices was over.
+    fn finish_all<R: Wait>(
+        &mut self,
+        rt: &R,
+        at: u64,
+        tickets: Vec<OwnTicket<N>>,
+        reports: &[Report],
+    )
+        ensures keeps { Keeps self.old self.new }
+        ensures finished { AreNone self.new.troubles
+            → Finishes at reports.now tickets.items self.old.main self.new.main }
+    {
+        let mut left = tickets;
+        while !left.is_empty() {
+            let own = left.remove(0);
+            let now = last_end(reports, own.ticket().number(), at);
+            self.finish(rt, own, now);
+        }
+        left.destroy_empty();
+    }
+
+    fn finish<R: Wait>(&mut self, rt: &R, own: OwnTicket<N>, now: u64)
+        ensures keeps { Keeps self.old self.new }
+        ensures finished { AreNone self.new.troubles → FinishesOne now own self.old.main self.new.main }
+    {
+        match self.desk.finish_own(rt, &mut self.main, own, now) {
+            Ok(_) => {}
+            Err(NotOpen) => self.troubles.add(Refused::Ending),
+        }
+    }
+}
+
+/// The lanes are joined: their refused calls are added, and the main thread's pass meets theirs.
+fn hear_joined<N: Name>(
+    desk: &Desk<N>,
+    main: &mut Pass<N>,
+    seats: &mut [Seat<N>],
+    troubles: &mut Troubles,
+)
+    ensures heard { AreNone troubles.new → AreNone troubles.old × NoneRefused seats.old }
+    ensures met { MeetsAll main.old main.new (passes_in seats.old) (passes_in seats.new) }
+{
+    hear_lanes(seats, troubles);
+    meet_lanes(desk, main, seats);
+}
+
+/// Adds the refused calls of the lanes, by lane.
+fn hear_lanes<N: Name>(seats: &[Seat<N>], troubles: &mut Troubles)
+    ensures { AreNone troubles.new → AreNone troubles.old × NoneRefused seats.now }
+{
+    for (lane, seat) in seats.iter().enumerate() {
+        if let Some((call, fault)) = seat.refused() {
+            troubles.refuse(fault, Refused::Call { lane, call });
+        }
+    }
+}
+
+/// Records in each ticket those of the reports that are on it. Answers whether none was refused.
+fn record_all<N: Name>(tickets: &mut Vec<OwnTicket<N>>, reports: &[Report]) -> bool
+    ensures { IsTrue result → tickets.new.items ≡ map (recorded_all reports.now) tickets.old.items }
+{
+    for own in tickets.iter_mut() {
+        if !record_on(own, reports) {
+            return false;
+        }
+    }
+    true
+}
+
+/// Records those of the reports that are on this ticket. Answers whether none was refused.
+fn record_on<N: Name>(own: &mut OwnTicket<N>, reports: &[Report]) -> bool
+    ensures { IsTrue result → own.new ≡ recorded_all reports.now own.old }
+{
+    let number = own.ticket().number();
+    for report in reports {
+        if report.ticket == number && own.record(*report).is_err() {
+            return false;
+        }
+    }
+    true
+}
+
+/// Puts the passes of a run together again.
+fn put_back<N: Name>(
+    passes: &mut Vec<Pass<N>>,
+    main: Pass<N>,
+    seats: Vec<Seat<N>>,
+) -> Result<(), InputFault>
+    ensures passes { OnOk result (passes.new.items ≡ passes.old.items ++ main ∷ passes_in seats.items) }
+    ensures refused { IfErr result (IsRefusedBy Word.Full) }
+{
+    passes.push(main)?;
+    for seat in seats {
+        passes.push(seat.into_pass())?;
+    }
+    Ok(())
+}
+
+/// Closes the desk of a run. No flush is open, and no pass is missing.
+fn close<N: Name>(alloc: Global, desk: Desk<N>, passes: Vec<Pass<N>>) -> Result<Closed, InputFault>
+    ensures terms { IfOk result (λ closed. terms_of closed ≡ N.terms) }
+    ensures stand { IfOk result (λ closed. All (λ p. Stands p closed.history) passes.items) }
+    ensures others { IfOk result (λ closed. (k : ℕ) → N.plan.passes ≤ k → made k closed.history ≡ 0) }
+    ensures refused { IfErr result (IsRefusedBy Word.Full) }
+{
+    match desk.close(passes) {
+        Ok(closed) => Ok(closed),
+        Err(
+            CloseFault {
+                cause: _,
+                desk: _desk,
+                passes: _passes,
+            },
+        ) => Err(Place::Top.refuse(alloc, Word::Full)),
+    }
+}

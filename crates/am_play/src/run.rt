@@ -1,0 +1,191 @@
+//! The run of a scenario, from its bytes to its report.
+ghost use Rattle.std.specs.Prelude.{◌≡◌, ◌≢◌, ◌≤◌, ◌<◌, ◌+◌, ◌++◌, ◌⊎◌, ◌↔◌, All, List, ℕ, length, vec_len};
+ghost use Rattle.std.specs.Prelude.{IfErr, IfOk, None, OnOk, string_bytes};
+ghost use Rattle.am_cli.specs.Read.{IsRefusedBy};
+ghost use Rattle.am_desk.specs.Desks.{AreFresh};
+ghost use Rattle.am_desk.specs.Terms.{terms};
+ghost use Rattle.am_model.specs.Config.{config_fault};
+ghost use Rattle.am_play.specs.Faults.{Refuses, status_of};
+ghost use Rattle.am_play.specs.Plays.{IsPlay, IsPlayOf};
+ghost use Rattle.am_scenario.specs.Told.{IsScenarioIn};
+ghost use Rattle.am_play.specs.declared.run.TheConstants.{BOARD_ID};
+ghost use Rattle.am_scenario.specs.declared.scenario.TheConstants.{MAX_LANES};
+
+use crate::courier::{Scripts, couriers_for};
+use crate::fault::RunFault;
+use crate::phase::Run;
+use am_board::config::Config;
+use am_cli::device::{Sink, Source};
+use am_cli::fault::{InputFault, Word};
+use am_cli::place::Place;
+use am_cli::reader::parse;
+use am_cli::transfer::{MAX_INPUT, read_all, write_all};
+use am_desk::{Blank, BlankFault, Brand, Desk, Name, OpenFault, Pass};
+use am_report::report::report_text;
+use am_scenario::scenario::{Phase, Scenario, read_scenario};
+use std::alloc::Global;
+use std::sync::Wait;
+use std::thread::Threads;
+
+/// The id of the desk of a run.
+pub const BOARD_ID: u64 = 1;
+
+/// Reads a scenario from the source, runs it and writes its report to the sink.
+///
+/// The report is that of the scenario which the whole input tells, member by member, played as
+/// `play_scenario` says it. It is made whole before its first byte is written: on every fault but
+/// `Unwritable` the sink wasn't asked. An input is refused as `NotJson` only where it is none, and as
+/// `Refused` only where it is the text of a JSON value; it was read whole before.
+pub fn run_scenario<R: AllocGlobal + Threads + Wait + Sync, S: Source, K: Sink>(
+    rt: &R,
+    source: &mut S,
+    sink: &mut K,
+) -> Result<(), RunFault>
+    ensures asked { S.asked source.new ≤ S.asked source.old + (MAX_INPUT + 1) }
+    ensures unreadable { (result ≡ Err RunFault.Unreadable)
+        ↔ ((S.failed source.old < S.failed source.new)
+        ⊎ (length (S.given source.old) + MAX_INPUT < length (S.given source.new))) }
+    ensures unwritable { (result ≡ Err RunFault.Unwritable)
+        ↔ (K.failed sink.old < K.failed sink.new) }
+    ensures unwritten { IfErr result (λ fault.
+        fault ≢ RunFault.Unwritable → sink.new ≡ sink.old) }
+    ensures ended { OnOk result (S.ended source.new ≡ S.ended source.old + 1) }
+    ensures written { OnOk result ((input : List ℕ) × (report : List ℕ) × IsPlay BOARD_ID input report
+        × (S.given source.new ≡ S.given source.old ++ input)
+        × (K.taken sink.new ≡ K.taken sink.old ++ report)) }
+    ensures refused { IfErr result (λ fault. status_of fault ≡ 2 → (input : List ℕ) × Refuses input fault
+        × (S.given source.new ≡ S.given source.old ++ input)
+        × (S.ended source.new ≡ S.ended source.old + 1)) }
+{
+    let alloc = rt.alloc();
+    let input = read_all(alloc, source)?;
+    let report = report_of(rt, alloc, input.as_slice())?;
+    Ok(write_all(sink, report.as_bytes())?)
+}
+
+/// The report on the scenario that these bytes are.
+fn report_of<R: Threads + Wait + Sync>(
+    rt: &R,
+    alloc: Global,
+    input: &[u8],
+) -> Result<String, RunFault>
+    ensures report { IfOk result (λ text. IsPlay BOARD_ID input.now (string_bytes text)) }
+    ensures refused { IfErr result (Refuses input.now) }
+{
+    let scenario = read(alloc, input)?;
+    Ok(play_scenario(rt, alloc, scenario)?)
+}
+
+/// The scenario that these bytes are. Of the JSON value nothing is kept.
+fn read(alloc: Global, input: &[u8]) -> Result<Scenario, RunFault>
+    ensures scenario { IfOk result (IsScenarioIn input.now) }
+    ensures refused { IfErr result (Refuses input.now) }
+{
+    let value = parse(alloc, input)?;
+    Ok(read_scenario(alloc, &value)?)
+}
+
+/// Plays a scenario on a desk of its own, of the id `BOARD_ID`, and makes its report.
+///
+/// The report is the text of a legal history of the scenario's own configuration. The calls of the
+/// pass i + 1 in the history are just those of lane i, phase after phase, in their order, each at
+/// the moment of its phase. The pass 0 is the main thread's. In each phase that asks for it it begins
+/// flushes at the phase's moment, until no group is due or as many are open as may be. It notes each
+/// success at the end of its sending, but where the history has no room when the note's turn comes,
+/// and finishes each flush when the sending of all its notices was over; it makes no other calls.
+/// Attempt k of a notice is answered by the k-th item of the first script for it, or by the last; so
+/// the scripts determine the reports. The history is made of a part for each phase, one after the
+/// other: its begins, then the calls of its lanes, then its notes and finishes. How the calls of two
+/// lanes of a phase stand to each other isn't said.
+///
+/// Refused with the place and the cause, as `run_scenario` tells them, where the configuration or a
+/// call is refused or memory is: where the configuration has no fault, by `Full` or for want of memory.
+pub fn play_scenario<R: Threads + Wait + Sync>(
+    rt: &R,
+    alloc: Global,
+    scenario: Scenario,
+) -> Result<String, InputFault>
+    ensures report { IfOk result (λ text. IsPlayOf BOARD_ID scenario (string_bytes text)) }
+    ensures refused { IfErr result (λ fault. config_fault scenario.config ≡ None → IsRefusedBy Word.Full fault) }
+{
+    let blank = blank_for(alloc, scenario.phases.as_slice())?;
+    play_on::<Brand, Brand, R>(rt, alloc, scenario, blank)
+}
+
+/// Plays a scenario on the desk of this name, with couriers of the scripts of this name, and makes its
+/// report.
+fn play_on<N: Name + Send + Sync, S: Scripts + Send, R: Threads + Wait + Sync>(
+    rt: &R,
+    alloc: Global,
+    scenario: Scenario,
+    blank: Blank,
+) -> Result<String, InputFault>
+    requires name { (blank ≡ N.plan) × (terms scenario.config blank.id ≡ N.terms) }
+    requires id { blank.id ≡ BOARD_ID }
+    requires scripts { scenario.scripts.items ≡ S.scripts }
+    requires lanes { All (λ p. vec_len p.lanes < blank.passes) scenario.phases.items }
+    ensures report { IfOk result (λ text. IsPlayOf BOARD_ID scenario (string_bytes text)) }
+    ensures refused { IfErr result (λ fault. config_fault scenario.config ≡ None → IsRefusedBy Word.Full fault) }
+{
+    let Scenario {
+        config,
+        workers,
+        scripts,
+        phases,
+    } = scenario;
+    let (desk, passes) = open::<N>(alloc, config, blank)?;
+    let mut couriers = couriers_for::<S>(alloc, workers, scripts.as_slice())?;
+    let mut run = Run::new(alloc, desk, passes)?;
+    for (index, phase) in phases.into_iter().enumerate() {
+        run.run_phase(rt, couriers.as_mut_slice(), index, phase)?;
+    }
+    let (closed, reports) = run.close()?;
+    Ok(report_text(alloc, &closed, reports.as_slice())?)
+}
+
+/// The blank of a desk with a pass for the main thread and one for each lane of the phase that has
+/// most of them.
+pub fn blank_for(alloc: Global, phases: &[Phase]) -> Result<Blank, InputFault>
+    ensures id { IfOk result (λ blank. blank.id ≡ BOARD_ID) }
+    ensures lanes { IfOk result (λ blank. All (λ p. vec_len p.lanes < blank.passes) phases.now) }
+    ensures refused { IfErr result (IsRefusedBy Word.Full) }
+{
+    let lanes = most_lanes(phases);
+    match Blank::new(alloc, BOARD_ID, 1 + lanes as u32) {
+        Ok(blank) => Ok(blank),
+        Err(BlankFault::NoMemory) => Err(InputFault::NoMemory),
+        Err(BlankFault::BadCount) => unreachable!(),
+    }
+}
+
+/// How many lanes the phase has that has most of them.
+fn most_lanes(phases: &[Phase]) -> usize
+    ensures most { All (λ p. vec_len p.lanes ≤ result) phases.now }
+    ensures few { result ≤ MAX_LANES }
+{
+    let mut most = 0;
+    for phase in phases {
+        most = phase.lanes.len().max(most);
+    }
+    most
+}
+
+/// The desk of a run, with its passes.
+pub fn open<N: Name>(
+    alloc: Global,
+    config: Config,
+    blank: Blank,
+) -> Result<(Desk<N>, Vec<Pass<N>>), InputFault>
+    requires { (blank ≡ N.plan) × (terms config blank.id ≡ N.terms) }
+    ensures passes { IfOk result (λ r. AreFresh 0 r.1.items × (vec_len r.1 ≡ N.plan.passes) × (0 < N.plan.passes)) }
+    ensures refused { IfErr result (λ fault. config_fault config ≡ None → IsRefusedBy Word.Full fault) }
+{
+    match Desk::<N>::open(alloc, config, blank) {
+        Ok(opened) => Ok(opened),
+        Err(OpenFault::NoMemory) => Err(InputFault::NoMemory),
+        Err(OpenFault::BadConfig(_)) => {
+            let top = Place::Top;
+            Err(top.member("config").refuse(alloc, Word::Value))
+        }
+    }
+}

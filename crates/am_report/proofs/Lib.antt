@@ -1,0 +1,2 @@
+pub mod FirstRun
+pub mod Attempts

@@ -3,7 +3,7 @@ pub mod DuePlaces
 pub mod DueWalk
 pub mod Ends
 pub mod FirstDue
-pub mod Outlooks
+pub mod Previews
 pub mod PlannedFlushes
 pub mod ReservedRows
 pub mod Updates

@@ -2,7 +2,7 @@ pub mod Agreeing
 pub mod Calls
 pub mod Causes
 pub mod Closing
-pub mod Destinations
+pub mod GroupNameCache
 pub mod DueKeys
 pub mod GroupNames
 pub mod Keyed

@@ -13,7 +13,7 @@ use Rattle.am_model.specs.declared.config.Integration.{Integration}
 use Rattle.am_board.specs.declared.flush.Asked.{Asked}
 use Rattle.am_board.specs.declared.flush.LeavingAlert.{LeavingAlert}
 use Rattle.am_board.specs.declared.flush.OpenFlush.{OpenFlush}
-use Rattle.am_board.specs.declared.flush.ToldSets.{ToldSets}
+use Rattle.am_board.specs.declared.flush.AlertSets.{AlertSets}
 use Rattle.am_board.specs.declared.unmuted.Unmuted.{Unmuted}
 use Rattle.am_board.specs.declared.group.Group.{Group}
 use Rattle.am_model.specs.declared.group.GroupName.{GroupName}
@@ -22,7 +22,7 @@ use Rattle.am_model.specs.declared.views.RowView.{RowView}
 use Rattle.am_model.specs.Begin.{copied, entry_of, firing_of, resolved_of, label_sets, asked_of, deadline_of, flush_asking, notice_for}
 use Rattle.am_model.specs.Begin.{due_cmp, taken}
 use Rattle.am_model.specs.Notice.{NoticeData}
-use Rattle.am_board.specs.Kept.{member_state, flush_state, state_of, group_state}
+use Rattle.am_board.specs.Refinement.{member_state, flush_state, state_of, group_state}
 use Rattle.am_model.specs.Lists.{without, least}
 use Rattle.am_model.specs.State.{GroupState, State, FlushState, moment, is_flushing}
 use Rattle.am_model.specs.declared.fault.Fault.{Fault}
@@ -35,7 +35,7 @@ use Rattle.am_model.specs.declared.record.Call.TheVariants.{Begin}
 use Rattle.am_board.specs.declared.state.State as kept
 use Rattle.am_model.specs.Records.{entry}
 use Rattle.am_board.specs.History.{reply_of, IsFresh}
-use Rattle.am_board.specs.Step.{Accepts, Stays}
+use Rattle.am_board.specs.Step.{AppliesCall, LeavesUnchanged}
 
 -- ---- what is unmuted in a group
 
@@ -64,8 +64,8 @@ pub record AreUnmuted (rules : List RuleData) (s : State) (t : ℕ) (members : L
   pub resolved : are_resolved ≡ resolved_among rules s t members
 
 -- the label sets of what is unmuted
-abbrev pub told_of : Unmuted → ToldSets
-told_of unmuted = record { firing = label_sets unmuted.firing; resolved = label_sets unmuted.resolved }
+abbrev pub alert_sets_of : Unmuted → AlertSets
+alert_sets_of unmuted = record { firing = label_sets unmuted.firing; resolved = label_sets unmuted.resolved }
 
 -- the label sets of what is unmuted rise strictly
 pub record AreRising (unmuted : Unmuted) : Type 0 where
@@ -77,9 +77,9 @@ abbrev pub update_of : ℕ × Integration → Update
 update_of i = record { integration = i.0; send_resolved = i.1.send_resolved }
 
 -- whether an integration needs an update about these label sets of a group, where these are the rows of the log
-abbrev pub needs_told : List RowView → GroupName → ToldSets → ℕ → ℕ → ℕ × Integration → Bool
-needs_told rows name told repeat t i =
-    needed same_label_set (entry_of rows name i.0) told.firing told.resolved i.1.send_resolved repeat t
+abbrev pub needs_update_for : List RowView → GroupName → AlertSets → ℕ → ℕ → ℕ × Integration → Bool
+needs_update_for rows name sets repeat t i =
+    needed same_label_set (entry_of rows name i.0) sets.firing sets.resolved i.1.send_resolved repeat t
 
 -- the resolved alerts that are sent, if any are
 abbrev pub sent_where : Bool → Unmuted → List AlertData
@@ -104,7 +104,7 @@ asked_for_update group unmuted update =
     record {
       key = record { group = group; integration = update.integration };
       nothing = is_empty unmuted.firing && is_empty (sent_where update.send_resolved unmuted);
-      told = Some (told_of unmuted);
+      sets = Some (alert_sets_of unmuted);
     }
 
 -- a member as it leaves
@@ -117,7 +117,7 @@ pub record IsFlushAsking (n kept : ℕ) (g : Group) (unmuted : Unmuted) (updates
   pub kept_for : f.kept_for ≡ kept
   pub group : f.group ≡ g.name
   pub asked : f.asked.items ≡ map (asked_for_update g.name unmuted) updates
-  pub told : f.told ≡ told_of unmuted
+  pub sets : f.sets ≡ alert_sets_of unmuted
   pub leaving : f.leaving.items ≡ map leaving_member (filter (λ m. is_resolved m.alert t) g.members.items)
 
 -- ---- the flush that is opened, before it is put into the state
@@ -125,7 +125,7 @@ pub record IsFlushAsking (n kept : ℕ) (g : Group) (unmuted : Unmuted) (updates
 -- what an integration's log row is to hold is there, and its key is of the flush's group
 pub record IsSpare (f : OpenFlush) (a : Asked) : Type 0 where
   pub group : a.key.group ≡ f.group
-  pub told : IfSome a.told (λ told. told ≡ f.told)
+  pub sets : IfSome a.sets (λ sets. sets ≡ f.sets)
 
 -- what the begin at t of the flush of a group puts into the board and the ticket, where the board has this id
 pub record IsPlannedFlush (config : Config) (id : ℕ) (s : State) (t : ℕ) (g : GroupState) (o : PlannedFlush) : Type 0 where
@@ -175,5 +175,5 @@ pub record IsChosen (config : Config) (s : kept.State) (chosen : ChosenGroup) (g
 
 -- how a begin ends for which nothing but memory can be wanting
 abbrev pub IsEnd : Config → ℕ → ℕ → ℕ → kept.State → kept.State → Result Begun Fault → Type 0
-IsEnd config id pass now old new (Ok begun) = Accepts config id (entry pass (Begin now) (reply_of begun)) old new × IsFresh id begun
-IsEnd config id pass now old new (Err fault) = (fault ≡ NoMemory) × Stays config old new
+IsEnd config id pass now old new (Ok begun) = AppliesCall config id (entry pass (Begin now) (reply_of begun)) old new × IsFresh id begun
+IsEnd config id pass now old new (Err fault) = (fault ≡ NoMemory) × LeavesUnchanged config old new

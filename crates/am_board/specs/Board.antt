@@ -4,9 +4,9 @@ use Rattle.am_alerts.specs.declared.limits.TheConstants.{MAX_CHILDREN}
 use Rattle.am_board.specs.declared.board.Board.TheInside.{Inside}
 use Rattle.am_mute.specs.Sources.{AreLearnt}
 use Rattle.am_model.specs.Config.{AreAllowed, config_fault}
-use Rattle.am_board.specs.Destinations.{AreKept}
+use Rattle.am_board.specs.GroupNameCache.{AreKept}
 use Rattle.am_board.specs.Group.{names_of, AreRouted}
-use Rattle.am_board.specs.Kept.{state_of, Agrees, IsPrepared}
+use Rattle.am_board.specs.Refinement.{state_of, EqualUpToRowOrder, IsPrepared}
 use Rattle.am_model.specs.Replay.{replay, IsLegal}
 
 -- the history is legal, and the state is its replay; the limits hold; each group's route is there;
@@ -17,7 +17,7 @@ pub record IsSound (b : Inside) : Type 0 where
   pub configured : config_fault b.config ≡ None
   pub children : length b.config.routes.children ≤ MAX_CHILDREN
   pub legal : IsLegal b.config b.id b.state.history.items
-  pub agrees : Agrees (state_of b.state) (replay b.config b.state.history.items)
+  pub agrees : EqualUpToRowOrder (state_of b.state) (replay b.config b.state.history.items)
   pub names : length (state_of b.state).known ≤ b.config.limits.names
   pub groups : length (state_of b.state).groups ≤ b.config.limits.groups
   pub silences : length (state_of b.state).silences ≤ b.config.limits.silences

@@ -9,31 +9,31 @@ use Rattle.am_retry.specs.declared.outcome.Outcome.{Outcome}
 use Rattle.am_board.specs.declared.flush.Asked.{Asked}
 use Rattle.am_board.specs.declared.flush.LeavingAlert.{LeavingAlert}
 use Rattle.am_board.specs.declared.flush.OpenFlush.{OpenFlush}
-use Rattle.am_board.specs.declared.flush.ToldSets.{ToldSets}
+use Rattle.am_board.specs.declared.flush.AlertSets.{AlertSets}
 use Rattle.am_board.specs.declared.group.Member.{Member}
 use Rattle.am_model.specs.declared.group.GroupName.{GroupName}
 use Rattle.am_model.specs.declared.views.RowView.{RowView}
 use Rattle.am_model.specs.Finish.{has_succeeded, is_leaving, log_with}
 use Rattle.am_model.specs.Lists.{without}
-use Rattle.am_board.specs.Kept.{asked_state_of, stamped}
+use Rattle.am_board.specs.Refinement.{asked_state_of, stamped}
 use Rattle.am_model.specs.Note.{is_ready}
 use Rattle.am_model.specs.State.{AskedState, GroupState, MemberState, same_name}
 
 -- the row of a key that was told this at t and is kept for so long
-abbrev pub told_row : LogKey GroupName → ToldSets → ℕ → ℕ → RowView
-told_row key told t kept_for =
+abbrev pub row_of_sets : LogKey GroupName → AlertSets → ℕ → ℕ → RowView
+row_of_sets key sets t kept_for =
     record {
       group = key.group;
       integration = key.integration;
       moment = t;
       expiry = t + kept_for;
-      firing = told.firing;
-      resolved = told.resolved;
+      firing = sets.firing;
+      resolved = sets.resolved;
     }
 
 -- the row of an integration of a kept flush at t
 abbrev pub row_for : OpenFlush → ℕ → ℕ → RowView
-row_for f t integration = told_row (record { group = f.group; integration = integration }) f.told t f.kept_for
+row_for f t integration = row_of_sets (record { group = f.group; integration = integration }) f.sets t f.kept_for
 
 -- those of the asked integrations whose success a finish logs
 abbrev pub logged_of : List (ℕ × Outcome) → List Asked → List AskedState
@@ -68,17 +68,17 @@ KnowTheSame log other = (key : LogKey GroupName) → is_known same_name log key 
 pub record IsReadyAt (f : OpenFlush) (integration : ℕ) (outcome : Option Outcome) (a : ℕ) : Type 0 where
   pub place : position (λ x. x.key.integration == integration) f.asked.items ≡ Some a
   pub ready : (d : Asked) → is_ready outcome (asked_state_of (slice_index_or f.asked.items a d)) ≡ true
-  pub told : (d : Asked) → IsSome (slice_index_or f.asked.items a d).told
+  pub sets : (d : Asked) → IsSome (slice_index_or f.asked.items a d).sets
 
 -- an integration that was asked, without what its log row was to hold
-abbrev pub without_told : Asked → Asked
-without_told a = record { key = a.key; nothing = a.nothing; told = None }
+abbrev pub without_sets : Asked → Asked
+without_sets a = record { key = a.key; nothing = a.nothing; sets = None }
 
 -- the integration at a place of a kept flush was noted
 pub record IsNotedAt (a : ℕ) (old new : OpenFlush) : Type 0 where
   pub number : new.number ≡ old.number
   pub group : new.group ≡ old.group
   pub kept_for : new.kept_for ≡ old.kept_for
-  pub told : new.told ≡ old.told
+  pub sets : new.sets ≡ old.sets
   pub leaving : new.leaving ≡ old.leaving
-  pub asked : (d : Asked) → new.asked.items ≡ slice_set old.asked.items a (without_told (slice_index_or old.asked.items a d))
+  pub asked : (d : Asked) → new.asked.items ≡ slice_set old.asked.items a (without_sets (slice_index_or old.asked.items a d))

@@ -5,7 +5,7 @@ use Rattle.am_alerts.specs.RoutingTree.{RoutingTree}
 use Rattle.am_model.specs.declared.group.GroupName.{GroupName}
 use Rattle.am_board.specs.declared.group.Group.{Group}
 use Rattle.am_board.specs.GroupList.{GroupList}
-use Rattle.am_board.specs.Kept.{group_state}
+use Rattle.am_board.specs.Refinement.{group_state}
 use Rattle.am_model.specs.declared.config.Config.{Config}
 use Rattle.am_model.specs.Insert.{wait_of, group_with}
 use Rattle.am_model.specs.State.{MemberState}

@@ -43,8 +43,8 @@ pub record KeepsLimits (board : BoardData) : Type 0 where
   pub flushes : length (state_at board).flushes ≤ board.config.limits.flushes
 
 -- a call was told what the definitions give at the state of a board
-abbrev pub IsToldAt : BoardData → Call → Reply → Type 0
-IsToldAt board call told = reply board.config board.id (state_at board) call ≡ Some told
+abbrev pub IsReplyAt : BoardData → Call → Reply → Type 0
+IsReplyAt board call told = reply board.config board.id (state_at board) call ≡ Some told
 
 -- the reply that a begin was told
 abbrev pub reply_of : Begun → Reply

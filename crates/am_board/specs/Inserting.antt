@@ -16,7 +16,7 @@ use Rattle.am_board.specs.declared.insert.Target.{Target}
 use Rattle.am_board.specs.declared.group.Group.{Group}
 use Rattle.am_board.specs.declared.state.State.{State}
 use Rattle.am_board.specs.Group.{names_of, HasRoom}
-use Rattle.am_board.specs.Kept.{member_state, state_of}
+use Rattle.am_board.specs.Refinement.{member_state, state_of}
 use Rattle.am_model.specs.State.{MemberState, same_name}
 
 -- the place of the group of a name

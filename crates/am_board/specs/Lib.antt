@@ -1,6 +1,6 @@
 pub mod Beginning
 pub mod Board
-pub mod Destinations
+pub mod GroupNameCache
 pub mod Due
 pub mod Faults
 pub mod Finishing
@@ -8,7 +8,7 @@ pub mod Group
 pub mod GroupList
 pub mod History
 pub mod Inserting
-pub mod Kept
+pub mod Refinement
 pub mod Keyed
 pub mod Known
 pub mod LogRows
@@ -16,5 +16,5 @@ pub mod MemberTable
 pub mod Members
 pub mod Noting
 pub mod Order
-pub mod Outlook
+pub mod Preview
 pub mod Step

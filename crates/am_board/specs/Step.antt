@@ -11,12 +11,12 @@ use Rattle.am_board.specs.declared.state.State as kept
 use Rattle.am_model.specs.declared.record.Record.{Record}
 use Rattle.am_model.specs.Configured.{HaveFewIntegrations}
 use Rattle.am_board.specs.Group.{names_of, AreRouted}
-use Rattle.am_board.specs.Kept.{state_of, Agrees, IsPrepared}
+use Rattle.am_board.specs.Refinement.{state_of, EqualUpToRowOrder, IsPrepared}
 use Rattle.am_model.specs.Laws.{IsConsistent}
 use Rattle.am_model.specs.Replay.{reply, after}
 
 -- what each call relies on: the state is one that a legal history leaves, and each open flush is prepared for its end
-pub record IsGood (config : Config) (s : kept.State) : Type 0 where
+pub record StateInvariant (config : Config) (s : kept.State) : Type 0 where
   pub consistent : IsConsistent (state_of s)
   pub inserts : s.inserts ≤ vec_len s.history
   pub numbers : s.next_number ≤ vec_len s.history + 1
@@ -27,9 +27,9 @@ pub record IsGood (config : Config) (s : kept.State) : Type 0 where
   pub retention : config.retention ≤ MAX_DURATION
 
 -- a call was accepted: it was told what the definitions give, the state is theirs, and its record is kept
-pub record Accepts (config : Config) (id : ℕ) (r : Record) (old new : kept.State) : Type 0 where
+pub record AppliesCall (config : Config) (id : ℕ) (r : Record) (old new : kept.State) : Type 0 where
   pub told : reply config id (state_of old) r.call ≡ Some r.reply
-  pub state : Agrees (state_of new) (after config (state_of old) r)
+  pub state : EqualUpToRowOrder (state_of new) (after config (state_of old) r)
   pub routed : AreRouted config.routes (names_of new.groups.items)
   pub prepared : All (IsPrepared config new.log) new.flushes.items
   pub history : new.history.items ≡ old.history.items ++ r ∷ []
@@ -37,7 +37,7 @@ pub record Accepts (config : Config) (id : ℕ) (r : Record) (old new : kept.Sta
   pub room : vec_len new.history + vec_len new.flushes ≤ vec_capacity new.history
 
 -- a call was refused: the state and the history are what they were
-pub record Stays (config : Config) (old new : kept.State) : Type 0 where
+pub record LeavesUnchanged (config : Config) (old new : kept.State) : Type 0 where
   pub state : state_of new ≡ state_of old
   pub routed : AreRouted config.routes (names_of new.groups.items)
   pub prepared : All (IsPrepared config new.log) new.flushes.items

@@ -11,11 +11,11 @@ ghost use Rattle.am_model.specs.Causes.{begin_cause};
 ghost use Rattle.am_model.specs.Insert.{same_member};
 ghost use Rattle.am_model.specs.Records.{entry};
 ghost use Rattle.am_board.specs.History.{reply_of, IsFresh};
-ghost use Rattle.am_board.specs.Kept.{state_of, group_state};
+ghost use Rattle.am_board.specs.Refinement.{state_of, group_state};
 ghost use Rattle.am_board.specs.LogRows.{log_rows};
 ghost use Rattle.am_board.specs.Beginning.{IsPlannedFlush, IsChosen, IsEnd};
 ghost use Rattle.am_model.specs.State.{moment, same_name};
-ghost use Rattle.am_board.specs.Step.{IsGood, Accepts, Stays, IsAnswer};
+ghost use Rattle.am_board.specs.Step.{StateInvariant, AppliesCall, LeavesUnchanged, IsAnswer};
 ghost use Rattle.am_model.specs.declared.config.TheConstants.{MAX_INTEGRATIONS};
 ghost use Rattle.am_model.specs.declared.config.Config.{Config as ConfigData};
 ghost use Rattle.am_board.specs.declared.group.Group.{Group};
@@ -31,7 +31,7 @@ use crate::state::State;
 use crate::ticket::Ticket;
 use am_alerts::labels::Labels;
 use am_alerts::limits::MAX_MOMENT;
-pub use am_model::notice::LEAST_TIME;
+pub use am_model::notice::MIN_FLUSH_TIMEOUT;
 use am_mute::sources::Sources;
 use am_nflog::{LogKey, NfLog};
 use std::alloc::{AllocError, Global};
@@ -70,13 +70,13 @@ pub(crate) fn take_group(
     pass: u32,
     now: u64,
 ) -> Result<Begun, Fault>
-    requires good { IsGood config.now state.old }
+    requires good { StateInvariant config.now state.old }
     requires sources { AreLearnt config.now.rules state.old.known.items sources.now }
     ensures { MatchResult result
         (λ begun. (begin_cause config.now (vec_len state.old.history) (state_of state.old) (moment (state_of state.old) now) ≡ None)
-        × Accepts config.now id (entry pass (Call.Begin now) (reply_of begun)) state.old state.new × IsFresh id begun)
+        × AppliesCall config.now id (entry pass (Call.Begin now) (reply_of begun)) state.old state.new × IsFresh id begun)
         (λ fault. IsAnswer (begin_cause config.now (vec_len state.old.history) (state_of state.old) (moment (state_of state.old) now)) fault
-        × Stays config.now state.old state.new) }
+        × LeavesUnchanged config.now state.old state.new) }
 {
     if !state.has_room(2, config.limits.history) {
         return Err(Fault::HistoryFull);
@@ -120,7 +120,7 @@ fn due_again(config: &Config, route: u32, t: u64) -> u64
 
 /// A begin for which no group is due.
 fn begin_nothing(state: &mut State, pass: u32, now: u64, t: u64) -> Result<Begun, Fault>
-    ensures { (config : ConfigData) (id : ℕ) → IsGood config state.old
+    ensures { (config : ConfigData) (id : ℕ) → StateInvariant config state.old
         → t ≡ moment (state_of state.old) now → taken (state_of state.old) t ≡ None
         → IsEnd config id pass now state.old state.new result }
 {
@@ -137,7 +137,7 @@ fn begin_nothing(state: &mut State, pass: u32, now: u64, t: u64) -> Result<Begun
 /// A begin that asks nobody.
 fn begin_quiet(alloc: Global, state: &mut State, chosen: ChosenGroup) -> Result<Begun, Fault>
     requires { chosen.place < length state.old.groups.items }
-    ensures { (config : ConfigData) (id : ℕ) (g : Group) → IsGood config state.old → IsChosen config state.old chosen g
+    ensures { (config : ConfigData) (id : ℕ) (g : Group) → StateInvariant config state.old → IsChosen config state.old chosen g
         → asked_of config (state_of state.old) chosen.t (group_state g) ≡ []
         → IsEnd config id chosen.pass chosen.now state.old state.new result }
 {
@@ -173,7 +173,7 @@ fn begin_flush(
     requires none { vec_len planned.outcomes ≡ 0 }
     requires room { vec_len planned.notices ≤ vec_capacity planned.outcomes }
     requires few { vec_len planned.notices ≤ MAX_INTEGRATIONS }
-    ensures { (config : ConfigData) (g : Group) → IsGood config state.old → IsChosen config state.old chosen g
+    ensures { (config : ConfigData) (g : Group) → StateInvariant config state.old → IsChosen config state.old chosen g
         → asked_of config (state_of state.old) chosen.t (group_state g) ≢ []
         → IsPlannedFlush config id (state_of state.old) chosen.t (group_state g) planned
         → IsEnd config id chosen.pass chosen.now state.old state.new result }

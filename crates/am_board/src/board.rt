@@ -4,7 +4,7 @@ ghost use Rattle.std.specs.Option.{option_map};
 ghost use Rattle.am_alerts.specs.Fault.{ok_unless};
 ghost use Rattle.am_model.specs.Causes.{insert_cause, silence_cause, begin_cause, maintain_cause, note_cause};
 ghost use Rattle.am_model.specs.Config.{AreAllowed, config_fault};
-ghost use Rattle.am_board.specs.History.{opening, state_at, calls_at, KeepsLimits, IsToldAt, with_record, reply_of, IsFresh};
+ghost use Rattle.am_board.specs.History.{opening, state_at, calls_at, KeepsLimits, IsReplyAt, with_record, reply_of, IsFresh};
 ghost use Rattle.am_board.specs.History.{HandsBack, IsForeign, IsNotOpen};
 ghost use Rattle.am_model.specs.Records.{entry, call_of_silence, IsNoteOf};
 ghost use Rattle.am_model.specs.look_back.Laws.{LooksBack};
@@ -14,7 +14,7 @@ ghost use Rattle.am_board.specs.Step.{IsCaused, IsNoteCaused};
 
 use crate::begin::{Begun, take_group};
 use crate::config::Config;
-use crate::destinations::Destinations;
+use crate::destinations::GroupNameCache;
 use crate::fault::{BoardFault, Fault, FinishFault, NoteFault};
 use crate::finish::finish_flush;
 use crate::flush::find_flush;
@@ -41,7 +41,7 @@ pub struct Board {
     /// What was learnt of the configuration's rules and of the known alerts.
     pub(crate) sources: Sources,
     /// Where the known alerts go.
-    pub(crate) destinations: Destinations,
+    pub(crate) destinations: GroupNameCache,
 }
 
 impl Model for Board {
@@ -71,7 +71,7 @@ impl Board {
                 id,
                 state: State::new(alloc)?,
                 sources: Sources::new(alloc),
-                destinations: Destinations::new(alloc),
+                destinations: GroupNameCache::new(alloc),
             }),
         }
     }
@@ -91,7 +91,7 @@ impl Board {
     ) -> Result<Inserted, Fault>
         ensures recorded { IfOk result
             (λ inserted. self.new ≡ with_record self.old (entry pass (Call.Insert now alert) (Reply.Inserted inserted))) }
-        ensures told { IfOk result (λ inserted. IsToldAt self.old (Call.Insert now alert) (Reply.Inserted inserted)) }
+        ensures reply { IfOk result (λ inserted. IsReplyAt self.old (Call.Insert now alert) (Reply.Inserted inserted)) }
         ensures cause { IsCaused (insert_cause self.old.config (calls_at self.old) (state_at self.old) alert) result }
         ensures refused { OnErr result (self.new ≡ self.old) }
     {
@@ -124,7 +124,7 @@ impl Board {
     ) -> Result<Silenced, Fault>
         ensures recorded { IfOk result
             (λ silenced. self.new ≡ with_record self.old (entry pass (call_of_silence now silence) (Reply.Silenced silenced))) }
-        ensures told { IfOk result (λ silenced. IsToldAt self.old (call_of_silence now silence) (Reply.Silenced silenced)) }
+        ensures reply { IfOk result (λ silenced. IsReplyAt self.old (call_of_silence now silence) (Reply.Silenced silenced)) }
         ensures cause { IsCaused (silence_cause self.old.config (calls_at self.old) (state_at self.old) silence) result }
         ensures refused { OnErr result (self.new ≡ self.old) }
     {
@@ -139,7 +139,7 @@ impl Board {
     /// worked out comes before `TooManyOpen`. A refusal changes nothing.
     pub fn begin(&mut self, alloc: Global, pass: u32, now: u64) -> Result<Begun, Fault>
         ensures recorded { IfOk result (λ begun. self.new ≡ with_record self.old (entry pass (Call.Begin now) (reply_of begun))) }
-        ensures told { IfOk result (λ begun. IsToldAt self.old (Call.Begin now) (reply_of begun)) }
+        ensures reply { IfOk result (λ begun. IsReplyAt self.old (Call.Begin now) (reply_of begun)) }
         ensures fresh { IfOk result (IsFresh self.old.id) }
         ensures cause { let s = state_at self.old in IsCaused (begin_cause self.old.config (calls_at self.old) s (moment s now)) result }
         ensures refused { OnErr result (self.new ≡ self.old) }
@@ -170,7 +170,7 @@ impl Board {
         now: u64,
     ) -> Result<Noted, NoteFault>
         ensures noted { OnOk result
-            ((r : Record) × IsNoteOf pass now ticket.now place r × (self.new ≡ with_record self.old r) × IsToldAt self.old r.call r.reply) }
+            ((r : Record) × IsNoteOf pass now ticket.now place r × (self.new ≡ with_record self.old r) × IsReplyAt self.old r.call r.reply) }
         ensures cause { IsNoteCaused
             (note_cause self.old.config self.old.id (calls_at self.old) (state_at self.old) ticket.now place) result }
         ensures refused { OnErr result (self.new ≡ self.old) }
@@ -190,8 +190,8 @@ impl Board {
     pub fn finish(&mut self, pass: u32, ticket: Ticket, now: u64) -> Result<Finished, FinishFault>
         ensures recorded { IfOk result (λ finished.
             self.new ≡ with_record self.old (entry pass (Call.Finish now ticket.number ticket.outcomes) (Reply.Finished finished))) }
-        ensures told { IfOk result
-            (λ finished. IsToldAt self.old (Call.Finish now ticket.number ticket.outcomes) (Reply.Finished finished)) }
+        ensures reply { IfOk result
+            (λ finished. IsReplyAt self.old (Call.Finish now ticket.number ticket.outcomes) (Reply.Finished finished)) }
         ensures foreign { IsForeign result ↔ (ticket.desk ≢ self.old.id) }
         ensures not_open { IsNotOpen result
             ↔ ((ticket.desk ≡ self.old.id) × (flush_numbered (state_at self.old).flushes ticket.number ≡ None)) }
@@ -221,7 +221,7 @@ impl Board {
     pub fn maintain(&mut self, _alloc: Global, pass: u32, now: u64) -> Result<Maintained, Fault>
         ensures recorded { IfOk result
             (λ maintained. self.new ≡ with_record self.old (entry pass (Call.Maintain now) (Reply.Maintained maintained))) }
-        ensures told { IfOk result (λ maintained. IsToldAt self.old (Call.Maintain now) (Reply.Maintained maintained)) }
+        ensures reply { IfOk result (λ maintained. IsReplyAt self.old (Call.Maintain now) (Reply.Maintained maintained)) }
         ensures cause { IsCaused (maintain_cause self.old.config (calls_at self.old) (state_at self.old)) result }
         ensures refused { OnErr result (self.new ≡ self.old) }
     {

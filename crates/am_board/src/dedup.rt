@@ -3,13 +3,13 @@ ghost use Rattle.std.specs.Prelude.{◌≡◌, ◌≤◌, IfOk, length, map, fil
 ghost use Rattle.std.specs.List.{enumerate_from};
 ghost use Rattle.am_model.specs.Begin.{needs};
 ghost use Rattle.am_model.specs.Configured.{HaveFewIntegrations, integrations_of};
-ghost use Rattle.am_board.specs.Beginning.{update_of, needs_told};
-ghost use Rattle.am_board.specs.Kept.{state_of};
+ghost use Rattle.am_board.specs.Beginning.{update_of, needs_update_for};
+ghost use Rattle.am_board.specs.Refinement.{state_of};
 ghost use Rattle.am_board.specs.LogRows.{log_rows};
 ghost use Rattle.am_model.specs.declared.config.TheConstants.{MAX_INTEGRATIONS};
 
 use crate::config::{Config, Integration};
-use crate::flush::ToldSets;
+use crate::flush::AlertSets;
 use crate::group::GroupName;
 use crate::state::State;
 use am_alerts::labels::Labels;
@@ -29,13 +29,13 @@ pub(crate) fn asked(
     config: &Config,
     state: &State,
     group: &GroupName,
-    told: &ToldSets,
+    sets: &AlertSets,
     t: u64,
 ) -> Result<Vec<Update>, AllocError>
     requires route { group.now.route ≤ length config.now.routes.children }
     requires few { HaveFewIntegrations config.now }
     ensures { IfOk result (λ asked. asked.items ≡ map update_of
-        (filter (needs config.now (state_of state.now) t group.now told.now.firing told.now.resolved)
+        (filter (needs config.now (state_of state.now) t group.now sets.now.firing sets.now.resolved)
         (integrations_of config.now group.now))) }
 {
     let route = config.routes.route(group.route);
@@ -48,7 +48,7 @@ pub(crate) fn asked(
         integrations,
         &state.log,
         group,
-        told,
+        sets,
         route.repeat_interval,
         t,
     )
@@ -60,13 +60,13 @@ fn asked_of(
     integrations: &[Integration],
     log: &NfLog<GroupName, Labels>,
     group: &GroupName,
-    told: &ToldSets,
+    sets: &AlertSets,
     repeat_interval: u64,
     t: u64,
 ) -> Result<Vec<Update>, AllocError>
     requires { length integrations.now ≤ MAX_INTEGRATIONS }
     ensures { IfOk result (λ asked. asked.items ≡ map update_of
-        (filter (needs_told (log_rows log.now) group.now told.now repeat_interval t) (enumerate_from 0 integrations.now))) }
+        (filter (needs_update_for (log_rows log.now) group.now sets.now repeat_interval t) (enumerate_from 0 integrations.now))) }
 {
     let mut asked = Vec::new(alloc);
     let mut key = LogKey {
@@ -76,8 +76,8 @@ fn asked_of(
     for integration in integrations {
         if needs_update(
             log.get(&key),
-            told.firing.as_slice(),
-            told.resolved.as_slice(),
+            sets.firing.as_slice(),
+            sets.resolved.as_slice(),
             integration.send_resolved,
             repeat_interval,
             t,

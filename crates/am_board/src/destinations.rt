@@ -3,7 +3,7 @@ ghost use Rattle.std.specs.Prelude.{◌≡◌, ◌<◌, [], IfSome, List, length
 ghost use Rattle.am_alerts.specs.AlertData.{AlertData};
 ghost use Rattle.am_alerts.specs.Labels.{same_label_set};
 ghost use Rattle.am_alerts.specs.declared.labels.Label.{Label};
-ghost use Rattle.am_board.specs.Destinations.{AreKept};
+ghost use Rattle.am_board.specs.GroupNameCache.{AreKept};
 ghost use Rattle.am_mute.specs.Sources.{IsAt};
 ghost use Rattle.am_model.specs.Insert.{names_for};
 ghost use Rattle.am_model.specs.declared.config.Config.{Config};
@@ -18,12 +18,12 @@ use std::marker::Model;
 ///
 /// This only saves time: names that aren't kept are worked out anew.
 #[derive(Debug, Drop)]
-pub(crate) struct Destinations {
+pub(crate) struct GroupNameCache {
     /// By the place of the alert among the known ones.
     names: Vec<Option<Sequence<GroupName>>>,
 }
 
-impl Model for Destinations {
+impl Model for GroupNameCache {
     ghost use Rattle.std.specs.Prelude.{List, Option};
     ghost use Rattle.am_model.specs.declared.group.GroupName.{GroupName};
 
@@ -32,12 +32,12 @@ impl Model for Destinations {
     ghost view = { λ d. d.names.items };
 }
 
-impl Destinations {
+impl GroupNameCache {
     /// No names.
-    pub(crate) fn new(alloc: Global) -> Destinations
+    pub(crate) fn new(alloc: Global) -> GroupNameCache
         ensures { result ≡ [] }
     {
-        Destinations {
+        GroupNameCache {
             names: Vec::new(alloc),
         }
     }

@@ -7,16 +7,16 @@ ghost use Rattle.am_model.specs.Finish.{has_succeeded as succeeds, is_delivered 
 ghost use Rattle.am_board.specs.Group.{names_of};
 ghost use Rattle.am_model.specs.Records.{entry};
 ghost use Rattle.am_model.specs.Insert.{same_group};
-ghost use Rattle.am_board.specs.Kept.{IsAsked, asked_state_of, member_state, stamped, group_state, flush_state};
+ghost use Rattle.am_board.specs.Refinement.{IsAsked, asked_state_of, member_state, stamped, group_state, flush_state};
 ghost use Rattle.am_board.specs.LogRows.{log_rows};
 ghost use Rattle.am_model.specs.Lists.{without, changed_where};
-ghost use Rattle.am_board.specs.Finishing.{told_row, logged_of, rows_with, leaves_where, without_leaving, KnowTheSame};
+ghost use Rattle.am_board.specs.Finishing.{row_of_sets, logged_of, rows_with, leaves_where, without_leaving, KnowTheSame};
 ghost use Rattle.am_model.specs.State.{same_name, is_named, members_in};
-ghost use Rattle.am_board.specs.Step.{IsGood, Accepts};
+ghost use Rattle.am_board.specs.Step.{StateInvariant, AppliesCall};
 ghost use Rattle.am_model.specs.declared.config.Config.{Config as ConfigData};
 ghost use Rattle.am_model.specs.declared.views.RowView.{RowView};
 
-use crate::flush::{Asked, LeavingAlert, OpenFlush, ToldSets};
+use crate::flush::{AlertSets, Asked, LeavingAlert, OpenFlush};
 use crate::group::{Group, GroupName};
 use crate::groups::Groups;
 use crate::record::{Call, Finished, Record, Reply};
@@ -36,10 +36,10 @@ pub(crate) fn finish_flush(
     now: u64,
 ) -> Finished
     requires place { f < vec_len state.old.flushes }
-    requires good { (config : ConfigData) × IsGood config state.old }
+    requires good { (config : ConfigData) × StateInvariant config state.old }
     ensures closed { vec_len state.new.flushes + 1 ≡ vec_len state.old.flushes }
-    ensures accepted { (config : ConfigData) → IsGood config state.old → (id : ℕ) → (o : OpenFlush)
-        → Accepts config id
+    ensures accepted { (config : ConfigData) → StateInvariant config state.old → (id : ℕ) → (o : OpenFlush)
+        → AppliesCall config id
         (entry pass (Call.Finish now (slice_index_or state.old.flushes.items f o).number outcomes.items) (Reply.Finished result))
         state.old state.new }
 {
@@ -50,7 +50,7 @@ pub(crate) fn finish_flush(
         group,
         kept_for,
         asked,
-        told: _,
+        sets: _,
         leaving,
     } = state.flushes.remove(f);
     let successes = log_rest(&mut state.log, asked, outcomes.as_slice(), kept_for, t);
@@ -121,11 +121,11 @@ fn log_one(log: &mut NfLog<GroupName, Labels>, asked: Asked, kept_for: u64, t: u
     let Asked {
         key,
         nothing: _,
-        told,
+        sets,
     } = asked;
-    match told {
-        Some(told) => {
-            put_told(log, &key, told, kept_for, t);
+    match sets {
+        Some(sets) => {
+            log_sets(log, &key, sets, kept_for, t);
             1
         }
         None => 0,
@@ -133,10 +133,10 @@ fn log_one(log: &mut NfLog<GroupName, Labels>, asked: Asked, kept_for: u64, t: u
 }
 
 /// Logs what an integration was told, under its key.
-pub(crate) fn put_told(
+pub(crate) fn log_sets(
     log: &mut NfLog<GroupName, Labels>,
     key: &LogKey<GroupName>,
-    told: ToldSets,
+    sets: AlertSets,
     kept_for: u64,
     t: u64,
 )
@@ -144,9 +144,9 @@ pub(crate) fn put_told(
     requires fits { t + kept_for < 2 ^ 64 }
     ensures known { KnowTheSame log.new log.old }
     ensures rows { (rows : List RowView) → IsPermutation (log_rows log.old) rows
-        → IsPermutation (log_rows log.new) (log_with (told_row key.now told t kept_for) rows) }
+        → IsPermutation (log_rows log.new) (log_with (row_of_sets key.now sets t kept_for) rows) }
 {
-    log.put(key, told.into_row(t, kept_for));
+    log.put(key, sets.into_row(t, kept_for));
 }
 
 /// Takes the alerts that were resolved at the begin out of their group if every integration that was
@@ -187,7 +187,7 @@ pub(crate) fn take_leaving(group: &mut Group, leaving: &[LeavingAlert]) -> usize
 fn has_succeeded(asked: &Asked, outcomes: &[(u32, Outcome)]) -> bool
     ensures { result ≡ succeeds outcomes.now (asked_state_of asked.now) }
 {
-    asked.told.is_none()
+    asked.sets.is_none()
         || asked.nothing
         || is_delivered(outcome_of(outcomes, asked.key.integration))
 }

@@ -11,7 +11,7 @@ use std::alloc::AllocError;
 /// The label sets of a flush: those that fire and those that are resolved. A begin makes them once;
 /// the flush, its asked integrations and their log rows share them.
 #[derive(Debug, Drop)]
-pub(crate) struct ToldSets {
+pub(crate) struct AlertSets {
     pub(crate) firing: Members<Labels>,
     pub(crate) resolved: Members<Labels>,
 }
@@ -21,7 +21,7 @@ pub(crate) struct ToldSets {
 pub(crate) struct Asked {
     pub(crate) key: LogKey<GroupName>,
     pub(crate) nothing: bool,
-    pub(crate) told: Option<ToldSets>,
+    pub(crate) sets: Option<AlertSets>,
 }
 
 /// An alert that was resolved when the flush began, as it stood in the group.
@@ -39,16 +39,16 @@ pub(crate) struct OpenFlush {
     /// How long the rows of this flush are kept, in milliseconds.
     pub(crate) kept_for: u64,
     pub(crate) asked: Vec<Asked>,
-    pub(crate) told: ToldSets,
+    pub(crate) sets: AlertSets,
     pub(crate) leaving: Vec<LeavingAlert>,
 }
 
-impl ToldSets {
+impl AlertSets {
     /// One more owner of the same label sets. It takes no memory.
-    pub(crate) fn share(&self) -> Result<ToldSets, AllocError>
-        ensures { IfOk result (λ told. told ≡ self.now) }
+    pub(crate) fn share(&self) -> Result<AlertSets, AllocError>
+        ensures { IfOk result (λ sets. sets ≡ self.now) }
     {
-        Ok(ToldSets {
+        Ok(AlertSets {
             firing: self.firing.share()?,
             resolved: self.resolved.share()?,
         })
@@ -59,7 +59,7 @@ impl ToldSets {
         ensures { t + kept_for < 2 ^ 64
             → result ≡ record { moment = t; firing = self.firing; resolved = self.resolved; expiry = t + kept_for } }
     {
-        let ToldSets { firing, resolved } = self;
+        let AlertSets { firing, resolved } = self;
         LogRow {
             moment: t,
             firing,

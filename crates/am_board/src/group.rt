@@ -4,7 +4,7 @@ ghost use Rattle.std.specs.List.{IsDistinct};
 ghost use Rattle.am_model.specs.Begin.{count_resolved, without_resolved};
 ghost use Rattle.am_board.specs.Group.{Fits, IsReserved};
 ghost use Rattle.am_model.specs.Insert.{same_member, wait_of, group_with};
-ghost use Rattle.am_board.specs.Kept.{member_state, group_state};
+ghost use Rattle.am_board.specs.Refinement.{member_state, group_state};
 ghost use Rattle.am_model.specs.declared.config.Config.{Config};
 
 use crate::members::Members;

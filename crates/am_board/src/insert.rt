@@ -2,13 +2,13 @@
 ghost use Rattle.std.specs.Prelude.{◌≡◌, ℕ, suc, ◌+◌, ◌<◌, ◌≤◌, [], count_by, false, fold, is_none, length, map, position, None, All};
 ghost use Rattle.std.specs.Prelude.{IfSome, IfOk, IfErr, OnOk, MatchResult, vec_len};
 ghost use Rattle.am_alerts.specs.RoutingTree.{RoutingTree, routes_of};
-ghost use Rattle.am_board.specs.Destinations.{AreKept};
+ghost use Rattle.am_board.specs.GroupNameCache.{AreKept};
 ghost use Rattle.am_board.specs.Group.{names_of, AreRouted, AddsAtMost, HasRoom};
 ghost use Rattle.am_model.specs.Causes.{insert_cause, is_full, is_name_too_many};
 ghost use Rattle.am_model.specs.Records.{entry};
 ghost use Rattle.am_model.specs.Insert.{same_alert, put_into_group, names_for, after_insert};
-ghost use Rattle.am_board.specs.Kept.{state_of, member_state, group_state};
-ghost use Rattle.am_board.specs.Step.{IsGood, Accepts, Stays, IsAnswer};
+ghost use Rattle.am_board.specs.Refinement.{state_of, member_state, group_state};
+ghost use Rattle.am_board.specs.Step.{StateInvariant, AppliesCall, LeavesUnchanged, IsAnswer};
 ghost use Rattle.std.specs.List.{IsDistinct};
 ghost use Rattle.am_board.specs.Inserting.{IsFound, AreFound, AreApart, place_in, target_of};
 ghost use Rattle.am_board.specs.Inserting.{IsReservedState, IsReadyFor, IsEmptyWithRoom, HaveRoom};
@@ -19,7 +19,7 @@ ghost use Rattle.am_model.specs.declared.config.Config.{Config};
 ghost use Rattle.am_model.specs.declared.group.GroupName.{GroupName};
 
 use crate::config::Config;
-use crate::destinations::Destinations;
+use crate::destinations::GroupNameCache;
 use crate::fault::Fault;
 use crate::group::{Group, GroupName, Member};
 use crate::groups::Groups;
@@ -72,18 +72,18 @@ pub(crate) fn put_alert(
     alloc: Global,
     config: &Config,
     state: &mut State,
-    destinations: &mut Destinations,
+    destinations: &mut GroupNameCache,
     pass: u32,
     now: u64,
     alert: Alert,
 ) -> Result<Inserted, Fault>
-    requires good { IsGood config.now state.old }
+    requires good { StateInvariant config.now state.old }
     requires kept { AreKept config.now state.old.known.items destinations.old }
     ensures put { MatchResult result
         (λ inserted. (insert_cause config.now (vec_len state.old.history) (state_of state.old) alert ≡ None)
-        × ((id : ℕ) → Accepts config.now id (entry pass (Call.Insert now alert) (Reply.Inserted inserted)) state.old state.new))
+        × ((id : ℕ) → AppliesCall config.now id (entry pass (Call.Insert now alert) (Reply.Inserted inserted)) state.old state.new))
         (λ fault. IsAnswer (insert_cause config.now (vec_len state.old.history) (state_of state.old) alert) fault
-        × Stays config.now state.old state.new) }
+        × LeavesUnchanged config.now state.old state.new) }
     ensures kept { AreKept config.now state.new.known.items destinations.new }
 {
     let place = find_place(config, state, &alert)?;
@@ -110,13 +110,13 @@ fn put_found(
     now: u64,
     alert: Alert,
 ) -> Result<Inserted, Fault>
-    requires good { IsGood config.now state.old }
+    requires good { StateInvariant config.now state.old }
     requires found { IsWhereToPut config.now state.old alert found }
     ensures { MatchResult result
         (λ inserted. (insert_cause config.now (vec_len state.old.history) (state_of state.old) alert ≡ None)
-        × ((id : ℕ) → Accepts config.now id (entry pass (Call.Insert now alert) (Reply.Inserted inserted)) state.old state.new))
+        × ((id : ℕ) → AppliesCall config.now id (entry pass (Call.Insert now alert) (Reply.Inserted inserted)) state.old state.new))
         (λ fault. IsAnswer (insert_cause config.now (vec_len state.old.history) (state_of state.old) alert) fault
-        × Stays config.now state.old state.new) }
+        × LeavesUnchanged config.now state.old state.new) }
 {
     let Found { place, targets } = found;
     let t = state.moment(now);

@@ -2,7 +2,7 @@
 ghost use Rattle.std.specs.Prelude.{◌≡◌, ◌<◌, ◌≤◌, [], length, position, IfSome, OnOk};
 ghost use Rattle.am_alerts.specs.Labels.{same_label_set};
 ghost use Rattle.am_model.specs.Insert.{same_alert};
-ghost use Rattle.am_model.specs.Lists.{put_in};
+ghost use Rattle.am_model.specs.Lists.{upsert};
 
 use am_alerts::alert::Alert;
 use am_alerts::labels::Labels;
@@ -75,7 +75,7 @@ impl Known {
         requires place { place ≡ position (same_alert alert) self.old.items }
         requires within { IfSome place (λ i. i < length self.old.items) }
         requires room { 0 < self.old.room }
-        ensures { self.new.items ≡ put_in same_alert alert self.old.items }
+        ensures { self.new.items ≡ upsert same_alert alert self.old.items }
     {
         match place {
             Some(i) => self.alerts[i] = alert,

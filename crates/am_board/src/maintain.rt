@@ -2,8 +2,8 @@
 ghost use Rattle.std.specs.Prelude.{◌≡◌, ℕ, None, MatchResult, vec_len};
 ghost use Rattle.am_model.specs.Causes.{maintain_cause};
 ghost use Rattle.am_model.specs.Records.{entry};
-ghost use Rattle.am_board.specs.Kept.{state_of};
-ghost use Rattle.am_board.specs.Step.{IsGood, Accepts, Stays, IsAnswer};
+ghost use Rattle.am_board.specs.Refinement.{state_of};
+ghost use Rattle.am_board.specs.Step.{StateInvariant, AppliesCall, LeavesUnchanged, IsAnswer};
 
 use crate::config::Config;
 use crate::fault::Fault;
@@ -17,12 +17,12 @@ pub(crate) fn sweep(
     pass: u32,
     now: u64,
 ) -> Result<Maintained, Fault>
-    requires good { IsGood config.now state.old }
+    requires good { StateInvariant config.now state.old }
     ensures { MatchResult result
         (λ maintained. (maintain_cause config.now (vec_len state.old.history) (state_of state.old) ≡ None)
-        × ((id : ℕ) → Accepts config.now id (entry pass (Call.Maintain now) (Reply.Maintained maintained)) state.old state.new))
+        × ((id : ℕ) → AppliesCall config.now id (entry pass (Call.Maintain now) (Reply.Maintained maintained)) state.old state.new))
         (λ fault. IsAnswer (maintain_cause config.now (vec_len state.old.history) (state_of state.old)) fault
-        × Stays config.now state.old state.new) }
+        × LeavesUnchanged config.now state.old state.new) }
 {
     if !state.has_room(1, config.limits.history) {
         return Err(Fault::HistoryFull);

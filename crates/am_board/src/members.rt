@@ -5,10 +5,10 @@ ghost use Rattle.std.specs.Map.{values_of};
 ghost use Rattle.am_alerts.specs.AlertData.{is_resolved};
 ghost use Rattle.am_model.specs.Finish.{is_leaving};
 ghost use Rattle.am_model.specs.Insert.{same_member};
-ghost use Rattle.am_model.specs.Lists.{changed_where, in_order, put_in, without};
+ghost use Rattle.am_model.specs.Lists.{changed_where, in_order, upsert, without};
 ghost use Rattle.am_board.specs.Finishing.{marked, stands_as};
 ghost use Rattle.am_board.specs.Keyed.{AreKeyed};
-ghost use Rattle.am_board.specs.Kept.{member_state, stamped};
+ghost use Rattle.am_board.specs.Refinement.{member_state, stamped};
 ghost use Rattle.am_board.specs.Members.{AreMembers, labels_of};
 ghost use Rattle.am_board.specs.Order.{member_cmp};
 
@@ -115,7 +115,7 @@ impl Members {
         requires labels { labels ≡ member.alert.labels }
         requires room { 0 < self.old.room }
         ensures members { map member_state self.new.items
-            ≡ put_in same_member (member_state member) (map member_state self.old.items) }
+            ≡ upsert same_member (member_state member) (map member_state self.old.items) }
         ensures room { self.old.room ≤ self.new.room + 1 }
     {
         let before = self.members.len();

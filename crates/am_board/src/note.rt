@@ -5,19 +5,19 @@ ghost use Rattle.std.specs.Option.{option_map};
 ghost use Rattle.am_model.specs.Causes.{flush_cause, asked_cause};
 ghost use Rattle.am_model.specs.Finish.{log_with};
 ghost use Rattle.am_model.specs.Records.{IsNoteOf};
-ghost use Rattle.am_board.specs.Kept.{IsAsked, asked_state_of, flush_state, state_of};
+ghost use Rattle.am_board.specs.Refinement.{IsAsked, asked_state_of, flush_state, state_of};
 ghost use Rattle.am_board.specs.LogRows.{log_rows};
 ghost use Rattle.am_board.specs.Finishing.{row_for, KnowTheSame, IsReadyAt, IsNotedAt};
 ghost use Rattle.am_model.specs.Note.{is_ready, asked_by};
 ghost use Rattle.am_board.specs.Noting.{IsNoteTarget};
 ghost use Rattle.am_model.specs.State.{State as Data, flush_numbered};
-ghost use Rattle.am_board.specs.Step.{IsGood, Accepts, Stays, IsNoteAnswer};
+ghost use Rattle.am_board.specs.Step.{StateInvariant, AppliesCall, LeavesUnchanged, IsNoteAnswer};
 ghost use Rattle.am_model.specs.declared.config.Config.{Config as ConfigData};
 ghost use Rattle.am_model.specs.declared.views.RowView.{RowView};
 
 use crate::config::Config;
 use crate::fault::NoteFault;
-use crate::finish::{is_delivered, put_told};
+use crate::finish::{is_delivered, log_sets};
 use crate::flush::{Asked, OpenFlush, find_asked, find_flush};
 use crate::group::GroupName;
 use crate::record::{Call, Noted, Record, Reply};
@@ -36,13 +36,13 @@ pub(crate) fn note_success(
     place: usize,
     now: u64,
 ) -> Result<Noted, NoteFault>
-    requires good { IsGood config.now state.old }
+    requires good { StateInvariant config.now state.old }
     ensures { MatchResult result
         (λ _. (flush_cause config.now (vec_len state.old.history) (state_of state.old) ticket.now place
         (flush_numbered (state_of state.old).flushes ticket.now.number) ≡ None)
-        × ((r : Record) × IsNoteOf pass now ticket.now place r × ((id : ℕ) → Accepts config.now id r state.old state.new)))
+        × ((r : Record) × IsNoteOf pass now ticket.now place r × ((id : ℕ) → AppliesCall config.now id r state.old state.new)))
         (λ fault. IsNoteAnswer (flush_cause config.now (vec_len state.old.history) (state_of state.old) ticket.now place
-        (flush_numbered (state_of state.old).flushes ticket.now.number)) fault × Stays config.now state.old state.new) }
+        (flush_numbered (state_of state.old).flushes ticket.now.number)) fault × LeavesUnchanged config.now state.old state.new) }
 {
     let found = find_noting(state.flushes.as_slice(), ticket, place)?;
     if !state.has_room(1, config.limits.history) {
@@ -135,14 +135,14 @@ fn find_ready(
 
 /// Whether an integration that was asked may be noted with this outcome.
 fn check_ready(asked: &Asked, outcome: Option<Outcome>) -> Result<(), NoteFault>
-    ensures ready { OnOk result ((is_ready outcome (asked_state_of asked.now) ≡ true) × IsSome asked.now.told) }
+    ensures ready { OnOk result ((is_ready outcome (asked_state_of asked.now) ≡ true) × IsSome asked.now.sets) }
     ensures cause { (config : ConfigData) (records : ℕ) (s : Data)
         → IfErr result (λ fault. asked_cause config records s outcome (Some (asked_state_of asked.now)) ≡ Some fault) }
 {
     if !(asked.nothing || is_delivered(outcome)) {
         return Err(NoteFault::NotReady);
     }
-    if asked.told.is_none() {
+    if asked.sets.is_none() {
         return Err(NoteFault::Already);
     }
     Ok(())
@@ -155,13 +155,13 @@ fn log_at_once(log: &mut NfLog<GroupName, Labels>, flush: &mut OpenFlush, a: usi
     requires fits { t + flush.old.kept_for < 2 ^ 64 }
     ensures known { KnowTheSame log.new log.old }
     ensures flush { IsNotedAt a flush.old flush.new }
-    ensures rows { (d : Asked) → let asked = slice_index_or flush.old.asked.items a d in IsSome asked.told
+    ensures rows { (d : Asked) → let asked = slice_index_or flush.old.asked.items a d in IsSome asked.sets
         → (rows : List RowView) → IsPermutation (log_rows log.old) rows
         → IsPermutation (log_rows log.new) (log_with (row_for flush.old t asked.key.integration) rows) }
 {
     let kept_for = flush.kept_for;
     let asked = &mut flush.asked[a];
-    if let Some(told) = asked.told.take() {
-        put_told(log, &asked.key, told, kept_for, t);
+    if let Some(sets) = asked.sets.take() {
+        log_sets(log, &asked.key, sets, kept_for, t);
     }
 }

@@ -4,7 +4,7 @@ ghost use Rattle.std.specs.List.{IsDistinct, filter_map, range_with_len};
 ghost use Rattle.std.specs.Option.{option_copied};
 ghost use Rattle.am_model.specs.Insert.{same_member};
 ghost use Rattle.am_model.specs.Lists.{in_order};
-ghost use Rattle.am_board.specs.Kept.{member_state};
+ghost use Rattle.am_board.specs.Refinement.{member_state};
 ghost use Rattle.am_board.specs.Members.{labels_of};
 ghost use Rattle.am_board.specs.Order.{IsOrder, member_cmp, place_cmp, places_in_order};
 

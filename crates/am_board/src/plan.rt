@@ -4,17 +4,17 @@ ghost use Rattle.std.specs.List.{IsDistinct};
 ghost use Rattle.am_mute.specs.Sources.{AreLearnt};
 ghost use Rattle.am_model.specs.Begin.{asked_of};
 ghost use Rattle.am_model.specs.Configured.{HaveFewIntegrations};
-ghost use Rattle.am_board.specs.Beginning.{IsFlushAsking, IsUnmuted, asked_for_update, told_of};
+ghost use Rattle.am_board.specs.Beginning.{IsFlushAsking, IsUnmuted, asked_for_update, alert_sets_of};
 ghost use Rattle.am_board.specs.Beginning.{update_of, notice_of_update, IsPlannedFlush, IsPlan};
 ghost use Rattle.am_model.specs.Insert.{same_member};
-ghost use Rattle.am_board.specs.Kept.{state_of, group_state};
-ghost use Rattle.am_board.specs.Step.{IsGood};
+ghost use Rattle.am_board.specs.Refinement.{state_of, group_state};
+ghost use Rattle.am_board.specs.Step.{StateInvariant};
 
-use crate::begin::{ChosenGroup, LEAST_TIME};
+use crate::begin::{ChosenGroup, MIN_FLUSH_TIMEOUT};
 use crate::config::Config;
 use crate::dedup::{Update, asked};
 use crate::fault::Fault;
-use crate::flush::{Asked, OpenFlush, ToldSets};
+use crate::flush::{AlertSets, Asked, OpenFlush};
 use crate::group::{Group, GroupName};
 use crate::notice::{MAX_DEADLINE, Notice};
 use crate::state::State;
@@ -50,7 +50,7 @@ pub(crate) fn plan(
     sources: &Sources,
     chosen: ChosenGroup,
 ) -> Result<Option<PlannedFlush>, Fault>
-    requires good { IsGood config.now state.now }
+    requires good { StateInvariant config.now state.now }
     requires sources { AreLearnt config.now.rules state.now.known.items sources.now }
     requires place { chosen.place < length state.now.groups.items }
     requires moment { chosen.t ≤ MAX_MOMENT }
@@ -82,8 +82,8 @@ fn plan_of(
     if unmuted.is_empty() {
         return Ok(None);
     }
-    let told = unmuted.told(alloc)?;
-    let asked = asked(alloc, config, state, &group.name, &told, t)?;
+    let sets = unmuted.sets(alloc)?;
+    let asked = asked(alloc, config, state, &group.name, &sets, t)?;
     if asked.is_empty() {
         return Ok(None);
     }
@@ -97,7 +97,7 @@ fn plan_of(
         state,
         group,
         &unmuted,
-        told,
+        sets,
         asked.as_slice(),
         t,
     )?;
@@ -113,26 +113,26 @@ fn open(
     state: &State,
     group: &Group,
     unmuted: &Unmuted,
-    told: ToldSets,
+    sets: AlertSets,
     asked: &[Update],
     t: u64,
 ) -> Result<PlannedFlush, AllocError>
     requires route { group.now.name.route ≤ length config.now.routes.children }
     requires moment { t ≤ MAX_MOMENT }
-    requires told { told ≡ told_of unmuted.now }
+    requires sets { sets ≡ alert_sets_of unmuted.now }
     requires unmuted { IsUnmuted config.now (state_of state.now) t (group_state group.now) unmuted.now }
     requires asked { asked.now ≡ map update_of (asked_of config.now (state_of state.now) t (group_state group.now)) }
     ensures { IfOk result (IsPlannedFlush config.now id (state_of state.now) t (group_state group.now)) }
 {
     let number = state.next_number;
     let route = config.routes.route(group.name.route);
-    let deadline = t.saturating_add(route.group_interval.max(LEAST_TIME));
+    let deadline = t.saturating_add(route.group_interval.max(MIN_FLUSH_TIMEOUT));
     let kept_for = config
         .retention
         .min(route.repeat_interval.saturating_mul(2));
     let notices = notices(alloc, id, number, deadline, &group.name, unmuted, asked)?;
     Ok(PlannedFlush {
-        flush: flush_of(alloc, number, kept_for, group, unmuted, told, asked, t)?,
+        flush: flush_of(alloc, number, kept_for, group, unmuted, sets, asked, t)?,
         number,
         deadline,
         group: group.name.copy(alloc)?,
@@ -151,19 +151,19 @@ fn flush_of(
     kept_for: u64,
     group: &Group,
     unmuted: &Unmuted,
-    told: ToldSets,
+    sets: AlertSets,
     asked: &[Update],
     t: u64,
 ) -> Result<OpenFlush, AllocError>
-    requires told { told ≡ told_of unmuted.now }
+    requires sets { sets ≡ alert_sets_of unmuted.now }
     ensures { IfOk result (IsFlushAsking number kept_for group.now unmuted.now asked.now t) }
 {
     Ok(OpenFlush {
         number,
         group: group.name.copy(alloc)?,
         kept_for,
-        asked: asked_by(alloc, &group.name, unmuted, &told, asked)?,
-        told,
+        asked: asked_by(alloc, &group.name, unmuted, &sets, asked)?,
+        sets,
         leaving: leaving_at(alloc, group.members.as_slice(), t)?,
     })
 }
@@ -201,10 +201,10 @@ fn asked_by(
     alloc: Global,
     group: &GroupName,
     unmuted: &Unmuted,
-    told: &ToldSets,
+    sets: &AlertSets,
     asked: &[Update],
 ) -> Result<Vec<Asked>, AllocError>
-    requires told { told.now ≡ told_of unmuted.now }
+    requires sets { sets.now ≡ alert_sets_of unmuted.now }
     ensures { IfOk result (λ all. all.items ≡ map (asked_for_update group.now unmuted.now) asked.now) }
 {
     let mut all = Vec::with_capacity(alloc, asked.len())?;
@@ -215,7 +215,7 @@ fn asked_by(
                 integration: update.integration,
             },
             nothing: unmuted.is_nothing(update.send_resolved),
-            told: Some(told.share()?),
+            sets: Some(sets.share()?),
         })?;
     }
     Ok(all)

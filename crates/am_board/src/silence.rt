@@ -5,9 +5,9 @@ ghost use Rattle.am_alerts.specs.Fault.{ok_unless};
 ghost use Rattle.am_mute.specs.Silence.{SilenceData};
 ghost use Rattle.am_model.specs.Causes.{silence_cause};
 ghost use Rattle.am_model.specs.Records.{entry, call_of_silence};
-ghost use Rattle.am_board.specs.Kept.{state_of};
-ghost use Rattle.am_model.specs.Lists.{put_in};
-ghost use Rattle.am_board.specs.Step.{IsGood, Accepts, Stays, IsAnswer};
+ghost use Rattle.am_board.specs.Refinement.{state_of};
+ghost use Rattle.am_model.specs.Lists.{upsert};
+ghost use Rattle.am_board.specs.Step.{StateInvariant, AppliesCall, LeavesUnchanged, IsAnswer};
 ghost use Rattle.am_model.specs.Upkeep.{same_silence};
 
 use crate::config::Config;
@@ -29,12 +29,12 @@ pub(crate) fn put_silence(
     now: u64,
     silence: Silence,
 ) -> Result<Silenced, Fault>
-    requires good { IsGood config.now state.old }
+    requires good { StateInvariant config.now state.old }
     ensures { MatchResult result
         (λ silenced. (silence_cause config.now (vec_len state.old.history) (state_of state.old) silence ≡ None)
-        × ((id : ℕ) → Accepts config.now id (entry pass (call_of_silence now silence) (Reply.Silenced silenced)) state.old state.new))
+        × ((id : ℕ) → AppliesCall config.now id (entry pass (call_of_silence now silence) (Reply.Silenced silenced)) state.old state.new))
         (λ fault. IsAnswer (silence_cause config.now (vec_len state.old.history) (state_of state.old) silence) fault
-        × Stays config.now state.old state.new) }
+        × LeavesUnchanged config.now state.old state.new) }
 {
     let place = place_for(config, state, silence.id())?;
     let call = Call::Silence {
@@ -78,7 +78,7 @@ fn place_for(config: &Config, state: &State, id: u64) -> Result<Option<usize>, F
 fn keep_silence(alloc: Global, silences: &mut Silences, place: Option<usize>, silence: Silence)
     requires place { place ≡ position (same_silence silence) silences.old.items }
     requires room { 0 < silences.old.room }
-    ensures { silences.new.items ≡ put_in same_silence silence silences.old.items }
+    ensures { silences.new.items ≡ upsert same_silence silence silences.old.items }
 {
     match place {
         Some(i) => silences.replace(alloc, i, silence),

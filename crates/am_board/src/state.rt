@@ -1,6 +1,6 @@
 //! What a dispatcher holds.
 ghost use Rattle.std.specs.Prelude.{◌≡◌, ◌+◌, ◌≤◌, ◌↔◌, IsTrue, IsOkAnd, max, min, vec_len};
-ghost use Rattle.am_board.specs.Kept.{IsNew};
+ghost use Rattle.am_board.specs.Refinement.{IsNew};
 
 use crate::flush::OpenFlush;
 use crate::group::GroupName;

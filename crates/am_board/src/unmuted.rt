@@ -5,13 +5,13 @@ ghost use Rattle.am_alerts.specs.AlertData.{is_resolved};
 ghost use Rattle.am_mute.specs.Sources.{AreLearnt};
 ghost use Rattle.am_nflog.specs.Members.{is_empty};
 ghost use Rattle.am_model.specs.Begin.{alert_cmp, label_sets};
-ghost use Rattle.am_board.specs.Beginning.{AreUnmuted, AreRising, IsUnmuted, leaving_member, sent_where, told_of};
+ghost use Rattle.am_board.specs.Beginning.{AreUnmuted, AreRising, IsUnmuted, leaving_member, sent_where, alert_sets_of};
 ghost use Rattle.am_model.specs.Insert.{same_alert, same_member};
-ghost use Rattle.am_board.specs.Kept.{group_state, state_of};
+ghost use Rattle.am_board.specs.Refinement.{group_state, state_of};
 ghost use Rattle.am_model.specs.Lists.{in_order};
 
 use crate::config::Config;
-use crate::flush::{LeavingAlert, ToldSets};
+use crate::flush::{AlertSets, LeavingAlert};
 use crate::group::{Group, Member};
 use crate::state::State;
 use am_alerts::alert::Alert;
@@ -89,11 +89,11 @@ impl Unmuted {
     }
 
     /// The label sets of this.
-    pub(crate) fn told(&self, alloc: Global) -> Result<ToldSets, AllocError>
+    pub(crate) fn sets(&self, alloc: Global) -> Result<AlertSets, AllocError>
         requires { AreRising self.now }
-        ensures { IfOk result (λ told. told ≡ told_of self.now) }
+        ensures { IfOk result (λ sets. sets ≡ alert_sets_of self.now) }
     {
-        Ok(ToldSets {
+        Ok(AlertSets {
             firing: Members::new(alloc, labels_of(alloc, self.firing.as_slice())?)?,
             resolved: Members::new(alloc, labels_of(alloc, self.resolved.as_slice())?)?,
         })

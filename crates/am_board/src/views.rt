@@ -5,7 +5,7 @@ ghost use Rattle.std.specs.Option.{option_copied};
 ghost use Rattle.am_model.specs.declared.config.TheConstants.{MAX_GROUPS, MAX_FLUSHES, MAX_HISTORY};
 ghost use Rattle.am_board.specs.History.{state_at};
 ghost use Rattle.am_model.specs.Insert.{same_member};
-ghost use Rattle.am_board.specs.Kept.{state_of, group_state};
+ghost use Rattle.am_board.specs.Refinement.{state_of, group_state};
 ghost use Rattle.am_board.specs.LogRows.{row_under, log_rows};
 ghost use Rattle.am_model.specs.Laws.{IsConsistent};
 ghost use Rattle.am_model.specs.Views.{row_views, group_view, group_views, summary, summary_at, summary_data, glance, glance_at};

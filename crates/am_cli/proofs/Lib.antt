@@ -1,4 +1,4 @@
 pub mod Made
 pub mod Members
 pub mod Names
-pub mod Told
+pub mod Decoding

@@ -6,7 +6,7 @@ use Rattle.serde_json.specs.Events.{items_len}
 use Rattle.serde_json.specs.View.{items_view, view}
 use Rattle.serde_json.specs.declared.value.Value.{Value}
 use Rattle.serde_json.proofs.Views.{items_len-items_view}
-use Rattle.am_cli.specs.Told.{TellEach}
+use Rattle.am_cli.specs.Decoding.{DecodeEach}
 
 -- an array has as many items as there are values
 pub has_all : (array : Option Items) (values : List Value) (n : ℕ) → Some (items_view values) ≡ array → n ≡ length values → option_map items_len array ≡ Some n
@@ -23,9 +23,9 @@ none_fails test f (x ∷ xs) = step (test (f x)) (none_fails test f xs)
     step false later = refl
 
 -- one more value, and what it tells
-pub tell_more : {X : Type 0} (tells : Data → X → Type 0) (values : List Value) (xs : List X) (value : Value) (x : X)
-    → TellEach tells (items_view values) xs → tells (view value) x → TellEach tells (items_view (values ++ value ∷ [])) (xs ++ x ∷ [])
-tell_more tells [] [] value x so_far more = (more, tt)
-tell_more tells [] (y ∷ ys) value x so_far more = absurd so_far
-tell_more tells (v ∷ vs) [] value x so_far more = absurd so_far
-tell_more tells (v ∷ vs) (y ∷ ys) value x so_far more = (so_far.0, tell_more tells vs ys value x so_far.1 more)
+pub tell_more : {X : Type 0} (decodes_to : Data → X → Type 0) (values : List Value) (xs : List X) (value : Value) (x : X)
+    → DecodeEach decodes_to (items_view values) xs → decodes_to (view value) x → DecodeEach decodes_to (items_view (values ++ value ∷ [])) (xs ++ x ∷ [])
+tell_more decodes_to [] [] value x so_far more = (more, tt)
+tell_more decodes_to [] (y ∷ ys) value x so_far more = absurd so_far
+tell_more decodes_to (v ∷ vs) [] value x so_far more = absurd so_far
+tell_more decodes_to (v ∷ vs) (y ∷ ys) value x so_far more = (so_far.0, tell_more decodes_to vs ys value x so_far.1 more)

@@ -5,7 +5,7 @@ use Rattle.std.specs.List.{list_any}
 use Rattle.std.specs.Str.{bytes_eq}
 use Rattle.serde_json.specs.Data.{Data, Items, no_items, item, null, boolean, number, string, array, object}
 use Rattle.am_cli.specs.Configured.{all_labels}
-use Rattle.am_cli.specs.Told.{IsText, TellEach}
+use Rattle.am_cli.specs.Decoding.{IsText, DecodeEach}
 
 -- a value that is a text is just that text
 pub is_string : (value : Data) (text : List ℕ) → IsText value text → value ≡ string text
@@ -21,7 +21,7 @@ or_false true is = refl
 or_false false is = is
 
 -- one item alone, which stands for all labels
-only_all : (items : Items) (names : List (List ℕ)) → TellEach IsText items names
+only_all : (items : Items) (names : List (List ℕ)) → DecodeEach IsText items names
     → list_any (λ name. bytes_eq name all_labels) names ≡ true → length names ≤ 1 → items ≡ item (string all_labels) no_items
 only_all no_items [] told all few = absurd (cc)
 only_all no_items (n ∷ ns) told all few = absurd told
@@ -32,7 +32,7 @@ only_all (item d (item e es)) (n ∷ []) told all few = absurd told.1
 only_all (item d ds) (n ∷ m ∷ ns) told all few = absurd (omega (arith, few))
 
 -- an array of that item alone
-pub all_alone : (found : Option Items) (names : List (List ℕ)) → MatchOption found ⊥ (λ items. TellEach IsText items names)
+pub all_alone : (found : Option Items) (names : List (List ℕ)) → MatchOption found ⊥ (λ items. DecodeEach IsText items names)
     → list_any (λ name. bytes_eq name all_labels) names ≡ true → length names ≤ 1 → found ≡ Some (item (string all_labels) no_items)
 all_alone None names told all few = absurd told
 all_alone (Some items) names told all few = ap Some (only_all items names told all few)

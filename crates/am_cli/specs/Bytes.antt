@@ -12,7 +12,7 @@ is_end (Ok count) buffer = (count == 0) && not (length buffer == 0)
 is_end (Err fault) buffer = false
 
 -- what a device did: how often it was asked, failed and told its end, and the bytes that it moved
-pub record UsageData : Type 0 where
+pub record IoTraceData : Type 0 where
   pub asked : ℕ
   pub failed : ℕ
   pub ended : ℕ

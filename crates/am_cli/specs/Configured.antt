@@ -20,23 +20,23 @@ use Rattle.am_model.specs.declared.config.Integration.{Integration}
 use Rattle.am_model.specs.declared.config.Limits.{Limits}
 use Rattle.am_model.specs.declared.config.Receiver.{Receiver}
 use Rattle.am_mute.specs.Inhibit.{RuleData}
-use Rattle.am_cli.specs.Told.{IsText, IsFlag, IsNumber, IsDuration, IsInterval, IsList, Has, HasOr}
-use Rattle.am_cli.specs.declared.reader.Manner.{Manner}
-use Rattle.am_cli.specs.declared.reader.Manner.TheVariants.{Lenient, Strict}
+use Rattle.am_cli.specs.Decoding.{IsText, IsFlag, IsNumber, IsDuration, IsInterval, IsList, Has, HasOr}
+use Rattle.am_cli.specs.declared.reader.Dialect.{Dialect}
+use Rattle.am_cli.specs.declared.reader.Dialect.TheVariants.{Lenient, Strict}
 
 -- a name and a value: an array of two texts
 abbrev pub IsPair : Data → Bor (List ℕ) × Bor (List ℕ) → Type 0
 IsPair value pair = as_array value ≡ Some (item (string pair.0.now) (item (string pair.1.now) no_items))
 
--- an array of pairs; in the strict manner an object can stand for it too
-abbrev pub TellsPairs : Manner → Data → List (Bor (List ℕ) × Bor (List ℕ)) → Type 0
-TellsPairs Lenient value pairs = IsList IsPair value pairs
-TellsPairs Strict value pairs = as_object value ≡ None → IsList IsPair value pairs
+-- an array of pairs; in the strict dialect an object can stand for it too
+abbrev pub DecodesToPairs : Dialect → Data → List (Bor (List ℕ) × Bor (List ℕ)) → Type 0
+DecodesToPairs Lenient value pairs = IsList IsPair value pairs
+DecodesToPairs Strict value pairs = as_object value ≡ None → IsList IsPair value pairs
 
 -- the labels of these pairs, of which those without a value are dropped
-pub record TellsLabels (manner : Manner) (value : Data) (labels : List Label) : Type 0 where
+pub record DecodesToLabels (dialect : Dialect) (value : Data) (labels : List Label) : Type 0 where
   pub pairs : List (Bor (List ℕ) × Bor (List ℕ))
-  pub written : TellsPairs manner value pairs
+  pub written : DecodesToPairs dialect value pairs
   pub read : IsReadOf (labels_in pairs) labels
 
 abbrev pub operator_text : Operator → List ℕ
@@ -49,16 +49,16 @@ operator_text NotLike = codes "!~"
 abbrev pub IsMatcher : Data → MatcherParts → Type 0
 IsMatcher value m = as_array value ≡ Some (item (string m.name) (item (string (operator_text m.op)) (item (string m.value) no_items)))
 
--- in the strict manner one text can stand for a matcher too
-abbrev pub TellsMatcher : Manner → Data → MatcherParts → Type 0
-TellsMatcher Lenient value m = IsMatcher value m
-TellsMatcher Strict value m = as_str value ≡ None → IsMatcher value m
+-- in the strict dialect one text can stand for a matcher too
+abbrev pub DecodesToMatcher : Dialect → Data → MatcherParts → Type 0
+DecodesToMatcher Lenient value m = IsMatcher value m
+DecodesToMatcher Strict value m = as_str value ≡ None → IsMatcher value m
 
-pub record TellsRule (manner : Manner) (value : Data) (rule : RuleData) : Type 0 where
+pub record DecodesToRule (dialect : Dialect) (value : Data) (rule : RuleData) : Type 0 where
   pub members : Members
   pub object : as_object value ≡ Some members
-  pub source : HasOr (IsList (TellsMatcher manner)) [] (codes "source") members rule.source
-  pub target : HasOr (IsList (TellsMatcher manner)) [] (codes "target") members rule.target
+  pub source : HasOr (IsList (DecodesToMatcher dialect)) [] (codes "source") members rule.source
+  pub target : HasOr (IsList (DecodesToMatcher dialect)) [] (codes "target") members rule.target
   pub equal : HasOr (IsList IsText) [] (codes "equal") members rule.equal
 
 -- what stands in `group_by` for all labels, and alone
@@ -70,40 +70,40 @@ IsGroupBy value All = as_array value ≡ Some (item (string all_labels) no_items
 IsGroupBy value (Names names) = IsList IsText value names × (list_any (λ name. bytes_eq name all_labels) names ≡ false)
 
 -- what the root and its children have alike: all of a route but its name
-pub record TellsOptions (members : Members) (route : Route) : Type 0 where
+pub record DecodesToOptions (members : Members) (route : Route) : Type 0 where
   pub receiver : Has IsText (codes "receiver") members route.receiver
   pub group_by : HasOr IsGroupBy (Names []) (codes "group_by") members route.group_by
   pub group_wait : HasOr IsDuration 30000 (codes "group_wait") members route.group_wait
   pub group_interval : HasOr IsInterval 300000 (codes "group_interval") members route.group_interval
   pub repeat_interval : HasOr IsInterval 14400000 (codes "repeat_interval") members route.repeat_interval
 
-pub record TellsRoot (value : Data) (route : Route) : Type 0 where
+pub record DecodesToRoot (value : Data) (route : Route) : Type 0 where
   pub members : Members
   pub object : as_object value ≡ Some members
-  pub options : TellsOptions members route
+  pub options : DecodesToOptions members route
   pub name : route.name ≡ codes "root"
 
-pub record TellsChild (manner : Manner) (value : Data) (child : Child) : Type 0 where
+pub record DecodesToChild (dialect : Dialect) (value : Data) (child : Child) : Type 0 where
   pub members : Members
   pub object : as_object value ≡ Some members
-  pub options : TellsOptions members child.route
+  pub options : DecodesToOptions members child.route
   pub name : Has IsText (codes "name") members child.route.name
-  pub matchers : HasOr (IsList (TellsMatcher manner)) [] (codes "matchers") members child.matchers
+  pub matchers : HasOr (IsList (DecodesToMatcher dialect)) [] (codes "matchers") members child.matchers
   pub goes_on : HasOr IsFlag false (codes "continue") members child.goes_on
 
-pub record TellsIntegration (value : Data) (integration : Integration) : Type 0 where
+pub record DecodesToIntegration (value : Data) (integration : Integration) : Type 0 where
   pub members : Members
   pub object : as_object value ≡ Some members
   pub kind : Has IsText (codes "kind") members integration.kind
   pub send_resolved : HasOr IsFlag true (codes "send_resolved") members integration.send_resolved
 
-pub record TellsReceiver (value : Data) (receiver : Receiver) : Type 0 where
+pub record DecodesToReceiver (value : Data) (receiver : Receiver) : Type 0 where
   pub members : Members
   pub object : as_object value ≡ Some members
   pub name : Has IsText (codes "name") members receiver.name
-  pub integrations : Has (IsList TellsIntegration) (codes "integrations") members receiver.integrations
+  pub integrations : Has (IsList DecodesToIntegration) (codes "integrations") members receiver.integrations
 
-pub record TellsLimits (value : Data) (limits : Limits) : Type 0 where
+pub record DecodesToLimits (value : Data) (limits : Limits) : Type 0 where
   pub members : Members
   pub object : as_object value ≡ Some members
   pub names : HasOr IsNumber greatest_limits.names (codes "names") members limits.names
@@ -112,12 +112,12 @@ pub record TellsLimits (value : Data) (limits : Limits) : Type 0 where
   pub flushes : HasOr IsNumber greatest_limits.flushes (codes "flushes") members limits.flushes
   pub history : HasOr IsNumber greatest_limits.history (codes "history") members limits.history
 
-pub record TellsConfig (manner : Manner) (value : Data) (config : Config) : Type 0 where
+pub record DecodesToConfig (dialect : Dialect) (value : Data) (config : Config) : Type 0 where
   pub members : Members
   pub object : as_object value ≡ Some members
   pub retention : HasOr IsDuration 432000000 (codes "retention") members config.retention
-  pub limits : HasOr TellsLimits greatest_limits (codes "limits") members config.limits
-  pub receivers : Has (IsList TellsReceiver) (codes "receivers") members config.receivers
-  pub root : Has TellsRoot (codes "route") members config.routes.root
-  pub children : HasOr (IsList (TellsChild manner)) [] (codes "children") members config.routes.children
-  pub rules : HasOr (IsList (TellsRule manner)) [] (codes "inhibit") members config.rules
+  pub limits : HasOr DecodesToLimits greatest_limits (codes "limits") members config.limits
+  pub receivers : Has (IsList DecodesToReceiver) (codes "receivers") members config.receivers
+  pub root : Has DecodesToRoot (codes "route") members config.routes.root
+  pub children : HasOr (IsList (DecodesToChild dialect)) [] (codes "children") members config.routes.children
+  pub rules : HasOr (IsList (DecodesToRule dialect)) [] (codes "inhibit") members config.rules

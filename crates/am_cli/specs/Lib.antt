@@ -2,4 +2,4 @@ pub mod Bytes
 pub mod Configured
 pub mod Read
 pub mod Routed
-pub mod Told
+pub mod Decoding

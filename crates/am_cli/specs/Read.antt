@@ -16,18 +16,18 @@ use Rattle.am_cli.specs.declared.fault.InputFault.{InputFault}
 use Rattle.am_cli.specs.declared.fault.InputFault.TheVariants.{Refused, NoMemory}
 use Rattle.am_cli.specs.declared.fault.ParseFault.{ParseFault}
 use Rattle.am_cli.specs.declared.fault.ParseFault.TheVariants as parse
-use Rattle.am_cli.specs.declared.fault.Word.{Word}
-use Rattle.am_cli.specs.declared.reader.Manner.{Manner}
+use Rattle.am_cli.specs.declared.fault.FaultKind.{FaultKind}
+use Rattle.am_cli.specs.declared.reader.Dialect.{Dialect}
 
--- a JSON value, and the manner in which it is read
+-- a JSON value, and the dialect in which it is read
 pub record ReaderData : Type 0 where
   pub value : Value
-  pub manner : Manner
+  pub dialect : Dialect
 
--- the members of a JSON object, and the manner in which they are read
+-- the members of a JSON object, and the dialect in which they are read
 pub record ObjectData : Type 0 where
   pub members : List (String Global × Value)
-  pub manner : Manner
+  pub dialect : Dialect
 
 -- the number that a value is, from 0 to 2^64 - 1 and written without point or exponent
 abbrev pub number_in : Data → Option ℕ
@@ -45,10 +45,10 @@ interval_in value = option_and_then (λ duration. if duration == 0 then None els
 abbrev pub HasItems : Data → ℕ → Type 0
 HasItems value count = option_map items_len (as_array value) ≡ Some count
 
--- refused by this word, or for want of memory to tell the place
-abbrev pub IsRefusedBy : Word → InputFault → Type 0
-IsRefusedBy word (Refused place by) = by ≡ word
-IsRefusedBy word NoMemory = Unit {0}
+-- refused by this kind of fault, or for want of memory to tell the place
+abbrev pub IsRefusedBy : FaultKind → InputFault → Type 0
+IsRefusedBy fault_kind (Refused place by) = by ≡ fault_kind
+IsRefusedBy fault_kind NoMemory = Unit {0}
 
 -- the bytes are the text of a JSON value
 abbrev pub IsJson : List ℕ → Type 0

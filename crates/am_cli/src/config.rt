@@ -2,8 +2,8 @@
 ghost use Rattle.std.specs.Prelude.{◌≡◌, IfOk, None, codes};
 ghost use Rattle.am_alerts.specs.RoutingTree.{tree_of};
 ghost use Rattle.am_model.specs.Config.{config_fault, greatest_limits};
-ghost use Rattle.am_cli.specs.Configured.{TellsConfig, TellsLimits};
-ghost use Rattle.am_cli.specs.Told.{IsNumber, HasOr};
+ghost use Rattle.am_cli.specs.Configured.{DecodesToConfig, DecodesToLimits};
+ghost use Rattle.am_cli.specs.Decoding.{IsNumber, HasOr};
 ghost use Rattle.serde_json.specs.View.{members_view, view};
 
 use crate::duration::duration_or;
@@ -22,7 +22,7 @@ const RETENTION: u64 = 432_000_000;
 /// Reads a configuration. One that no dispatcher may have is refused.
 pub fn read_config(reader: &Reader<'_, '_>) -> Result<Config, InputFault>
     ensures fault { IfOk result (λ config. config_fault config ≡ None) }
-    ensures told { IfOk result (TellsConfig reader.now.manner (view reader.now.value)) }
+    ensures told { IfOk result (DecodesToConfig reader.now.dialect (view reader.now.value)) }
 {
     let config = read_parts(reader)?;
     match config.check() {
@@ -33,7 +33,7 @@ pub fn read_config(reader: &Reader<'_, '_>) -> Result<Config, InputFault>
 
 /// Reads the parts of a configuration.
 fn read_parts(reader: &Reader<'_, '_>) -> Result<Config, InputFault>
-    ensures { IfOk result (TellsConfig reader.now.manner (view reader.now.value)) }
+    ensures { IfOk result (DecodesToConfig reader.now.dialect (view reader.now.value)) }
 {
     let config = reader.object()?;
     config.only(&[
@@ -76,7 +76,7 @@ fn make_routes(
 
 /// The limits of a configuration, or the greatest where it tells none.
 fn read_limits(config: &Object<'_, '_>) -> Result<Limits, InputFault>
-    ensures { IfOk result (HasOr TellsLimits greatest_limits (codes "limits") (members_view config.now.members)) }
+    ensures { IfOk result (HasOr DecodesToLimits greatest_limits (codes "limits") (members_view config.now.members)) }
 {
     match config.optional("limits") {
         None => Ok(Limits::default()),
@@ -85,7 +85,7 @@ fn read_limits(config: &Object<'_, '_>) -> Result<Limits, InputFault>
 }
 
 impl<'v> FromJson<'v> for Limits {
-    ghost tells = { λ manner value limits. TellsLimits value limits };
+    ghost decodes_to = { λ dialect value limits. DecodesToLimits value limits };
 
     fn read(reader: &Reader<'v, '_>) -> Result<Limits, InputFault> {
         let limits = reader.object()?;
@@ -108,9 +108,9 @@ fn read_limit(limits: &Object<'_, '_>, name: &str, absent: usize) -> Result<usiz
 }
 
 impl<'v> FromJson<'v> for Receiver {
-    ghost use Rattle.am_cli.specs.Configured.{TellsReceiver};
+    ghost use Rattle.am_cli.specs.Configured.{DecodesToReceiver};
 
-    ghost tells = { λ manner value receiver. TellsReceiver value receiver };
+    ghost decodes_to = { λ dialect value receiver. DecodesToReceiver value receiver };
 
     fn read(reader: &Reader<'v, '_>) -> Result<Receiver, InputFault> {
         let receiver = reader.object()?;
@@ -125,9 +125,9 @@ impl<'v> FromJson<'v> for Receiver {
 }
 
 impl<'v> FromJson<'v> for Integration {
-    ghost use Rattle.am_cli.specs.Configured.{TellsIntegration};
+    ghost use Rattle.am_cli.specs.Configured.{DecodesToIntegration};
 
-    ghost tells = { λ manner value integration. TellsIntegration value integration };
+    ghost decodes_to = { λ dialect value integration. DecodesToIntegration value integration };
 
     fn read(reader: &Reader<'v, '_>) -> Result<Integration, InputFault> {
         let integration = reader.object()?;

@@ -3,7 +3,7 @@ ghost use Rattle.std.specs.Prelude.{◌≡◌, ◌≤◌, ◌+◌, ◌++◌, ◌
 ghost use Rattle.std.specs.Result.{result_unwrap_or};
 ghost use Rattle.am_cli.specs.Bytes.{moved, is_end};
 
-use crate::usage::Usage;
+use crate::io_trace::IoTrace;
 use std::io::{Read, Stdin, Stdout, Write};
 
 /// A read or a write failed.
@@ -56,21 +56,21 @@ pub trait Sink {
 #[derive(Drop)]
 pub struct StandardInput {
     stdin: Stdin,
-    usage: Usage,
+    io_trace: IoTrace,
 }
 
 /// The standard output.
 #[derive(Drop)]
 pub struct StandardOutput {
     stdout: Stdout,
-    usage: Usage,
+    io_trace: IoTrace,
 }
 
 impl StandardInput {
     pub fn new(stdin: Stdin) -> StandardInput {
         StandardInput {
             stdin,
-            usage: Usage::none(),
+            io_trace: IoTrace::none(),
         }
     }
 }
@@ -79,32 +79,32 @@ impl StandardOutput {
     pub fn new(stdout: Stdout) -> StandardOutput {
         StandardOutput {
             stdout,
-            usage: Usage::none(),
+            io_trace: IoTrace::none(),
         }
     }
 }
 
 impl Source for StandardInput {
-    ghost asked = { λ i. i.usage.asked };
+    ghost asked = { λ i. i.io_trace.asked };
 
-    ghost failed = { λ i. i.usage.failed };
+    ghost failed = { λ i. i.io_trace.failed };
 
-    ghost ended = { λ i. i.usage.ended };
+    ghost ended = { λ i. i.io_trace.ended };
 
-    ghost given = { λ i. i.usage.moved };
+    ghost given = { λ i. i.io_trace.moved };
 
     fn read(&mut self, buffer: &mut [u8]) -> Result<usize, DeviceFault> {
         match self.stdin.read(buffer) {
             Ok(0) if !buffer.is_empty() => {
-                self.usage.add_end();
+                self.io_trace.add_end();
                 Ok(0)
             }
             Ok(count) => {
-                self.usage.add_success(&buffer[..count]);
+                self.io_trace.add_success(&buffer[..count]);
                 Ok(count)
             }
             Err(_) => {
-                self.usage.add_failure();
+                self.io_trace.add_failure();
                 Err(DeviceFault)
             }
         }
@@ -112,20 +112,20 @@ impl Source for StandardInput {
 }
 
 impl Sink for StandardOutput {
-    ghost asked = { λ o. o.usage.asked };
+    ghost asked = { λ o. o.io_trace.asked };
 
-    ghost failed = { λ o. o.usage.failed };
+    ghost failed = { λ o. o.io_trace.failed };
 
-    ghost taken = { λ o. o.usage.moved };
+    ghost taken = { λ o. o.io_trace.moved };
 
     fn write(&mut self, bytes: &[u8]) -> Result<usize, DeviceFault> {
         match self.stdout.write(bytes) {
             Ok(count) if count > 0 => {
-                self.usage.add_success(&bytes[..count]);
+                self.io_trace.add_success(&bytes[..count]);
                 Ok(count)
             }
             _ => {
-                self.usage.add_failure();
+                self.io_trace.add_failure();
                 Err(DeviceFault)
             }
         }

@@ -5,7 +5,7 @@ ghost use Rattle.serde_json.specs.Find.{get_member};
 ghost use Rattle.serde_json.specs.View.{members_view, view};
 ghost use Rattle.am_cli.specs.Read.{duration_in, interval_in};
 
-use crate::fault::{InputFault, Word};
+use crate::fault::{FaultKind, InputFault};
 use crate::reader::{Object, Reader};
 use am_alerts::duration::read_duration;
 
@@ -41,7 +41,7 @@ pub fn duration(reader: &Reader<'_, '_>) -> Result<u64, InputFault>
 {
     match read_duration(reader.text()?) {
         Ok(duration) => Ok(duration),
-        Err(_) => Err(reader.refuse(Word::Value)),
+        Err(_) => Err(reader.refuse(FaultKind::BadValue)),
     }
 }
 
@@ -51,7 +51,7 @@ pub fn interval(reader: &Reader<'_, '_>) -> Result<u64, InputFault>
     ensures some { IfOk result (λ interval. 0 < interval) }
 {
     match duration(reader)? {
-        0 => Err(reader.refuse(Word::Value)),
+        0 => Err(reader.refuse(FaultKind::BadValue)),
         interval => Ok(interval),
     }
 }

@@ -5,14 +5,14 @@ use thiserror::Error;
 
 /// Why a value of an input is refused at its place.
 #[derive(Clone, Copy, Debug, PartialEq, Eq)]
-pub enum Word {
+pub enum FaultKind {
     /// A member that must be there isn't.
     Missing,
     /// Another kind of JSON value is wanted there.
-    Kind,
+    WrongType,
     /// The kind is right, and the value is refused.
-    Value,
-    /// Nobody knows a member of this name, which the strict manner refuses.
+    BadValue,
+    /// Nobody knows a member of this name, which the strict dialect refuses.
     Unknown,
     /// A call of the board was refused for want of room.
     Full,
@@ -36,8 +36,11 @@ pub enum ParseFault {
 #[derive(Debug, Drop, Error)]
 pub enum InputFault {
     /// A value is refused; the place is a JSON pointer.
-    #[error("refused at {place}: {word}")]
-    Refused { place: String, word: Word },
+    #[error("refused at {place}: {fault_kind}")]
+    Refused {
+        place: String,
+        fault_kind: FaultKind,
+    },
     /// Memory was refused.
     #[error("no memory")]
     NoMemory,
@@ -65,15 +68,15 @@ impl<T: Drop> From<AllocFailed<T>> for InputFault {
     }
 }
 
-impl fmt::Display for Word {
+impl fmt::Display for FaultKind {
     fn fmt<W: fmt::Write>(&self, f: &mut fmt::Formatter<W>) -> fmt::Result {
         f.write_str(match self {
-            Word::Missing => "missing",
-            Word::Kind => "kind",
-            Word::Value => "value",
-            Word::Unknown => "unknown",
-            Word::Full => "full",
-            Word::Unsupported => "unsupported",
+            FaultKind::Missing => "missing",
+            FaultKind::WrongType => "kind",
+            FaultKind::BadValue => "value",
+            FaultKind::Unknown => "unknown",
+            FaultKind::Full => "full",
+            FaultKind::Unsupported => "unsupported",
         })
     }
 }

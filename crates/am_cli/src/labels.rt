@@ -2,10 +2,10 @@
 ghost use Rattle.std.specs.Prelude.{IfOk};
 ghost use Rattle.am_alerts.specs.Labels.{labels_in};
 ghost use Rattle.serde_json.specs.View.{view};
-ghost use Rattle.am_cli.specs.Configured.{TellsLabels, TellsPairs};
+ghost use Rattle.am_cli.specs.Configured.{DecodesToLabels, DecodesToPairs};
 
-use crate::fault::{InputFault, Word};
-use crate::reader::{FromJson, Manner, Reader};
+use crate::fault::{FaultKind, InputFault};
+use crate::reader::{Dialect, FromJson, Reader};
 use am_alerts::labels::{LabelFault, Labels, is_label_name};
 use am_alerts::limits::MAX_LABEL_BYTES;
 
@@ -13,7 +13,7 @@ use am_alerts::limits::MAX_LABEL_BYTES;
 impl<'v> FromJson<'v> for (&'v str, &'v str) {
     ghost use Rattle.am_cli.specs.Configured.{IsPair};
 
-    ghost tells = { λ manner value pair. IsPair value pair };
+    ghost decodes_to = { λ dialect value pair. IsPair value pair };
 
     fn read(reader: &Reader<'v, '_>) -> Result<(&'v str, &'v str), InputFault> {
         let (name, value) = reader.pair()?;
@@ -21,11 +21,11 @@ impl<'v> FromJson<'v> for (&'v str, &'v str) {
     }
 }
 
-/// Reads a label set: an array of pairs of a name and a value, or in the strict manner also an object
-/// whose members are the labels. Refused as a whole, or in the strict manner at the label at fault: of
+/// Reads a label set: an array of pairs of a name and a value, or in the strict dialect also an object
+/// whose members are the labels. Refused as a whole, or in the strict dialect at the label at fault: of
 /// two of one name the second.
 pub fn read_labels(reader: &Reader<'_, '_>) -> Result<Labels, InputFault>
-    ensures { IfOk result (TellsLabels reader.now.manner (view reader.now.value)) }
+    ensures { IfOk result (DecodesToLabels reader.now.dialect (view reader.now.value)) }
 {
     let pairs = read_pairs(reader)?;
     match Labels::read(reader.alloc(), pairs.as_slice()) {
@@ -36,9 +36,9 @@ pub fn read_labels(reader: &Reader<'_, '_>) -> Result<Labels, InputFault>
 }
 
 fn read_pairs<'v>(reader: &Reader<'v, '_>) -> Result<Vec<(&'v str, &'v str)>, InputFault>
-    ensures { IfOk result (λ pairs. TellsPairs reader.now.manner (view reader.now.value) pairs.items) }
+    ensures { IfOk result (λ pairs. DecodesToPairs reader.now.dialect (view reader.now.value) pairs.items) }
 {
-    if reader.manner() == Manner::Strict && reader.is_object() {
+    if reader.dialect() == Dialect::Strict && reader.is_object() {
         return reader.object()?.texts();
     }
     reader.list::<(&str, &str)>()
@@ -49,13 +49,13 @@ fn refuse_pairs(reader: &Reader<'_, '_>, pairs: &[(&str, &str)], fault: LabelFau
     for (position, (name, value)) in pairs.iter().enumerate() {
         if is_at_fault(&pairs[..position], name, value, fault) {
             return if reader.is_object() {
-                reader.refuse_at(&place.member(name), Word::Value)
+                reader.refuse_at(&place.member(name), FaultKind::BadValue)
             } else {
-                reader.refuse_at(&place.item(position), Word::Value)
+                reader.refuse_at(&place.item(position), FaultKind::BadValue)
             };
         }
     }
-    reader.refuse(Word::Value)
+    reader.refuse(FaultKind::BadValue)
 }
 
 /// Whether a fault of pairs is that of this one, which comes behind these.

@@ -3,9 +3,9 @@ ghost use Rattle.std.specs.Prelude.{◌≡◌, IfOk, IfSome};
 ghost use Rattle.serde_json.specs.View.{view};
 ghost use Rattle.am_cli.specs.Configured.{IsMatcher, operator_text};
 
-use crate::fault::{InputFault, Word};
+use crate::fault::{FaultKind, InputFault};
 use crate::matcher_text::parts_of_text;
-use crate::reader::{FromJson, Manner, Reader};
+use crate::reader::{Dialect, FromJson, Reader};
 use am_alerts::limits::{MAX_LABEL_BYTES, MAX_MATCHERS};
 use am_alerts::matcher::{Matcher, MatcherFault, MatcherParts, Operator};
 use am_alerts::text::Text;
@@ -20,14 +20,14 @@ const OPERATOR: usize = 1;
 /// Where the value stands.
 const VALUE: usize = 2;
 
-/// Three texts, or in the strict manner also one.
+/// Three texts, or in the strict dialect also one.
 impl<'v> FromJson<'v> for Matcher {
-    ghost use Rattle.am_cli.specs.Configured.{TellsMatcher};
+    ghost use Rattle.am_cli.specs.Configured.{DecodesToMatcher};
 
-    ghost tells = { λ manner value matcher. TellsMatcher manner value matcher };
+    ghost decodes_to = { λ dialect value matcher. DecodesToMatcher dialect value matcher };
 
     fn read(reader: &Reader<'v, '_>) -> Result<Matcher, InputFault> {
-        if reader.manner() == Manner::Strict && reader.is_text() {
+        if reader.dialect() == Dialect::Strict && reader.is_text() {
             return read_one_text(reader);
         }
         read_three_texts(reader)
@@ -36,12 +36,12 @@ impl<'v> FromJson<'v> for Matcher {
 
 fn read_one_text(reader: &Reader<'_, '_>) -> Result<Matcher, InputFault> {
     let Some(parts) = parts_of_text(reader.alloc(), reader.text()?)? else {
-        return Err(reader.refuse(Word::Value));
+        return Err(reader.refuse(FaultKind::BadValue));
     };
     match Matcher::new(reader.alloc(), parts) {
         Ok(matcher) => Ok(matcher),
         Err(MatcherFault::NoMemory) => Err(InputFault::NoMemory),
-        Err(_) => Err(reader.refuse(Word::Value)),
+        Err(_) => Err(reader.refuse(FaultKind::BadValue)),
     }
 }
 
@@ -51,7 +51,7 @@ fn read_three_texts(reader: &Reader<'_, '_>) -> Result<Matcher, InputFault>
     let place = reader.place();
     let (name, operator, value) = reader.three_texts()?;
     let Some(op) = operator_of(operator) else {
-        return Err(reader.refuse_at(&place.item(OPERATOR), Word::Value));
+        return Err(reader.refuse_at(&place.item(OPERATOR), FaultKind::BadValue));
     };
     let parts = MatcherParts {
         name: Text::new(reader.alloc(), name)?,
@@ -61,7 +61,10 @@ fn read_three_texts(reader: &Reader<'_, '_>) -> Result<Matcher, InputFault>
     match Matcher::new(reader.alloc(), parts) {
         Ok(matcher) => Ok(matcher),
         Err(MatcherFault::NoMemory) => Err(InputFault::NoMemory),
-        Err(fault) => Err(reader.refuse_at(&place.item(part_at_fault(fault, name)), Word::Value)),
+        Err(fault) => Err(reader.refuse_at(
+            &place.item(part_at_fault(fault, name)),
+            FaultKind::BadValue,
+        )),
     }
 }
 
@@ -88,9 +91,9 @@ fn operator_of(text: &str) -> Option<Operator>
 }
 
 impl<'v> FromJson<'v> for InhibitRule {
-    ghost use Rattle.am_cli.specs.Configured.{TellsRule};
+    ghost use Rattle.am_cli.specs.Configured.{DecodesToRule};
 
-    ghost tells = { λ manner value rule. TellsRule manner value rule };
+    ghost decodes_to = { λ dialect value rule. DecodesToRule dialect value rule };
 
     fn read(reader: &Reader<'v, '_>) -> Result<InhibitRule, InputFault> {
         let rule = reader.object()?;
@@ -103,7 +106,7 @@ impl<'v> FromJson<'v> for InhibitRule {
             Ok(rule) => Ok(rule),
             Err(fault) => {
                 let list = list_at_fault(fault, sources);
-                Err(reader.refuse_at(&reader.place().member(list), Word::Value))
+                Err(reader.refuse_at(&reader.place().member(list), FaultKind::BadValue))
             }
         }
     }

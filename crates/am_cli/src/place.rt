@@ -1,34 +1,40 @@
 //! Where something stands in an input.
 ghost use Rattle.am_cli.specs.Read.{IsRefusedBy};
 
-use crate::fault::{InputFault, Word};
+use crate::fault::{FaultKind, InputFault};
 use std::alloc::{AllocError, Global};
 
 /// A place in an input: the way down to it from the top. Its text is a JSON pointer.
 #[derive(Clone, Copy)]
-pub enum Place<'a> {
-    Top,
-    Member { above: &'a Place<'a>, name: &'a str },
-    Item { above: &'a Place<'a>, index: usize },
+pub enum JsonPointer<'a> {
+    Root,
+    Member {
+        above: &'a JsonPointer<'a>,
+        name: &'a str,
+    },
+    Item {
+        above: &'a JsonPointer<'a>,
+        index: usize,
+    },
 }
 
-impl<'a> Place<'a> {
+impl<'a> JsonPointer<'a> {
     /// The place of a member of the object here.
-    pub fn member(&'a self, name: &'a str) -> Place<'a> {
-        Place::Member { above: self, name }
+    pub fn member(&'a self, name: &'a str) -> JsonPointer<'a> {
+        JsonPointer::Member { above: self, name }
     }
 
     /// The place of an item of the array here.
-    pub fn item(&'a self, index: usize) -> Place<'a> {
-        Place::Item { above: self, index }
+    pub fn item(&'a self, index: usize) -> JsonPointer<'a> {
+        JsonPointer::Item { above: self, index }
     }
 
     /// The fault that refuses what stands here.
-    pub fn refuse(&self, alloc: Global, word: Word) -> InputFault
-        ensures { IsRefusedBy word result }
+    pub fn refuse(&self, alloc: Global, fault_kind: FaultKind) -> InputFault
+        ensures { IsRefusedBy fault_kind result }
     {
         match self.text(alloc) {
-            Ok(place) => InputFault::Refused { place, word },
+            Ok(place) => InputFault::Refused { place, fault_kind },
             Err(_) => InputFault::NoMemory,
         }
     }
@@ -42,13 +48,13 @@ impl<'a> Place<'a> {
 
     fn push_text(&self, out: &mut String) -> Result<(), AllocError> {
         match self {
-            Place::Top => Ok(()),
-            Place::Member { above, name } => {
+            JsonPointer::Root => Ok(()),
+            JsonPointer::Member { above, name } => {
                 above.push_text(out)?;
                 out.push_str("/")?;
                 push_name(name, out)
             }
-            Place::Item { above, index } => {
+            JsonPointer::Item { above, index } => {
                 above.push_text(out)?;
                 write!(out, "/{index}")
             }

@@ -9,10 +9,10 @@ ghost use Rattle.serde_json.specs.Find.{as_array, as_bool, as_null, as_object, a
 ghost use Rattle.serde_json.specs.Read.{read as read_text};
 ghost use Rattle.serde_json.specs.View.{items_view, members_view, view};
 ghost use Rattle.am_cli.specs.Read.{HasItems, IsRefusedBy, RefusesText, are_named, is_one_of, number_in};
-ghost use Rattle.am_cli.specs.Told.{Has, HasOr, IsList, IsText};
+ghost use Rattle.am_cli.specs.Decoding.{Has, HasOr, IsList, IsText};
 
-use crate::fault::{InputFault, ParseFault, Word};
-use crate::place::Place;
+use crate::fault::{FaultKind, InputFault, ParseFault};
+use crate::place::JsonPointer;
 use am_alerts::text::Text;
 use serde_json::{Map, Value};
 use std::alloc::Global;
@@ -20,7 +20,7 @@ use std::marker::Model;
 
 /// How much a reader takes, and where it refuses.
 #[derive(Clone, Copy, Debug, PartialEq, Eq)]
-pub enum Manner {
+pub enum Dialect {
     /// Members of unknown names are passed over. What is made of several values is refused at the value
     /// that holds them.
     Lenient,
@@ -34,8 +34,8 @@ pub enum Manner {
 pub struct Reader<'v, 'p> {
     alloc: Global,
     value: &'v Value,
-    place: Place<'p>,
-    manner: Manner,
+    place: JsonPointer<'p>,
+    dialect: Dialect,
 }
 
 /// A JSON object and its place.
@@ -43,8 +43,8 @@ pub struct Reader<'v, 'p> {
 pub struct Object<'v, 'p> {
     alloc: Global,
     members: &'v Map<String, Value>,
-    place: Place<'p>,
-    manner: Manner,
+    place: JsonPointer<'p>,
+    dialect: Dialect,
 }
 
 impl<'v, 'p> Model for Reader<'v, 'p> {
@@ -56,7 +56,7 @@ impl<'v, 'p> Model for Reader<'v, 'p> {
 
     ghost coded = { Prim.hlevel (codes, json.the_row.coded) };
 
-    ghost view = { λ r. record { value = r.value.now; manner = r.manner } };
+    ghost view = { λ r. record { value = r.value.now; dialect = r.dialect } };
 }
 
 impl<'v, 'p> Model for Object<'v, 'p> {
@@ -68,21 +68,21 @@ impl<'v, 'p> Model for Object<'v, 'p> {
 
     ghost coded = { Prim.hlevel (codes, json.the_row.coded) };
 
-    ghost view = { λ o. record { members = o.members.now.entries; manner = o.manner } };
+    ghost view = { λ o. record { members = o.members.now.entries; dialect = o.dialect } };
 }
 
 /// What is read from a JSON value.
 pub trait FromJson<'v>: Drop + Sized {
     ghost use Rattle.std.specs.Prelude.{⊤};
     ghost use Rattle.serde_json.specs.Data.{Data};
-    ghost use Rattle.am_cli.specs.declared.reader.Manner.{Manner};
+    ghost use Rattle.am_cli.specs.declared.reader.Dialect.{Dialect};
 
-    // What a JSON value tells in a manner; where nothing is said here, nothing is known of it.
-    ghost tells: { Manner → Data → Self → Type 0 } = { λ _ _ _. ⊤ };
+    // What a JSON value tells in a dialect; where nothing is said here, nothing is known of it.
+    ghost decodes_to: { Dialect → Data → Self → Type 0 } = { λ _ _ _. ⊤ };
 
     /// Reads it. The first fault is answered, at its place.
     fn read(reader: &Reader<'v, '_>) -> Result<Self, InputFault>
-        ensures { IfOk result (tells reader.now.manner (view reader.now.value)) };
+        ensures { IfOk result (decodes_to reader.now.dialect (view reader.now.value)) };
 }
 
 /// The JSON value that these bytes are.
@@ -101,29 +101,29 @@ pub fn parse(alloc: Global, input: &[u8]) -> Result<Value, ParseFault>
 }
 
 impl<'v, 'p> Reader<'v, 'p> {
-    /// The value as a whole, which is read in the lenient manner.
+    /// The value as a whole, which is read in the lenient dialect.
     pub fn top(alloc: Global, value: &'v Value) -> Reader<'v, 'p>
         ensures value { result.value ≡ value.now }
-        ensures manner { result.manner ≡ Manner.Lenient }
+        ensures dialect { result.dialect ≡ Dialect.Lenient }
     {
         Reader {
             alloc,
             value,
-            place: Place::Top,
-            manner: Manner::Lenient,
+            place: JsonPointer::Root,
+            dialect: Dialect::Lenient,
         }
     }
 
-    /// The value as a whole, which is read in the strict manner.
+    /// The value as a whole, which is read in the strict dialect.
     pub fn strict(alloc: Global, value: &'v Value) -> Reader<'v, 'p>
         ensures value { result.value ≡ value.now }
-        ensures manner { result.manner ≡ Manner.Strict }
+        ensures dialect { result.dialect ≡ Dialect.Strict }
     {
         Reader {
             alloc,
             value,
-            place: Place::Top,
-            manner: Manner::Strict,
+            place: JsonPointer::Root,
+            dialect: Dialect::Strict,
         }
     }
 
@@ -132,33 +132,33 @@ impl<'v, 'p> Reader<'v, 'p> {
         self.alloc
     }
 
-    /// The manner of reading.
-    pub fn manner(&self) -> Manner
-        ensures { result ≡ self.now.manner }
+    /// The dialect of reading.
+    pub fn dialect(&self) -> Dialect
+        ensures { result ≡ self.now.dialect }
     {
-        self.manner
+        self.dialect
     }
 
     /// Where this value stands.
-    pub fn place(&self) -> &Place<'p> {
+    pub fn place(&self) -> &JsonPointer<'p> {
         &self.place
     }
 
-    /// The fault that refuses a value at a place below this one; in the lenient manner, this value.
-    pub fn refuse_at(&self, below: &Place<'_>, word: Word) -> InputFault
-        ensures { IsRefusedBy word result }
+    /// The fault that refuses a value at a place below this one; in the lenient dialect, this value.
+    pub fn refuse_at(&self, below: &JsonPointer<'_>, fault_kind: FaultKind) -> InputFault
+        ensures { IsRefusedBy fault_kind result }
     {
-        match self.manner {
-            Manner::Lenient => self.refuse(word),
-            Manner::Strict => below.refuse(self.alloc, word),
+        match self.dialect {
+            Dialect::Lenient => self.refuse(fault_kind),
+            Dialect::Strict => below.refuse(self.alloc, fault_kind),
         }
     }
 
     /// The fault that refuses this value.
-    pub fn refuse(&self, word: Word) -> InputFault
-        ensures { IsRefusedBy word result }
+    pub fn refuse(&self, fault_kind: FaultKind) -> InputFault
+        ensures { IsRefusedBy fault_kind result }
     {
-        self.place.refuse(self.alloc, word)
+        self.place.refuse(self.alloc, fault_kind)
     }
 
     /// Whether the value is an object.
@@ -185,16 +185,16 @@ impl<'v, 'p> Reader<'v, 'p> {
     /// The object that this value is, or `Kind`.
     pub fn object(&self) -> Result<Object<'v, 'p>, InputFault>
         ensures members { option_map (λ o. members_view o.members) (result_ok result) ≡ as_object (view self.now.value) }
-        ensures manner { IfOk result (λ object. object.manner ≡ self.now.manner) }
-        ensures refused { IfErr result (IsRefusedBy Word.Kind) }
+        ensures dialect { IfOk result (λ object. object.dialect ≡ self.now.dialect) }
+        ensures refused { IfErr result (IsRefusedBy FaultKind.WrongType) }
     {
         match self.value.as_object() {
-            None => Err(self.refuse(Word::Kind)),
+            None => Err(self.refuse(FaultKind::WrongType)),
             Some(members) => Ok(Object {
                 alloc: self.alloc,
                 members,
                 place: self.place,
-                manner: self.manner,
+                dialect: self.dialect,
             }),
         }
     }
@@ -202,10 +202,10 @@ impl<'v, 'p> Reader<'v, 'p> {
     /// A whole number from 0 to 2^64 - 1, written without point or exponent, or `Kind`.
     pub fn number(&self) -> Result<u64, InputFault>
         ensures number { result_ok result ≡ number_in (view self.now.value) }
-        ensures refused { IfErr result (IsRefusedBy Word.Kind) }
+        ensures refused { IfErr result (IsRefusedBy FaultKind.WrongType) }
     {
         match self.value.as_u64() {
-            None => Err(self.refuse(Word::Kind)),
+            None => Err(self.refuse(FaultKind::WrongType)),
             Some(number) => Ok(number),
         }
     }
@@ -215,11 +215,11 @@ impl<'v, 'p> Reader<'v, 'p> {
         ensures number { IfOk result (λ number. number_in (view self.now.value) ≡ Some number) }
         ensures bound { IfOk result (λ number. number ≤ most) }
         ensures refused { IfErr result (λ fault. MatchOption (number_in (view self.now.value))
-            (IsRefusedBy Word.Kind fault) (λ n. (most < n) × IsRefusedBy Word.Value fault)) }
+            (IsRefusedBy FaultKind.WrongType fault) (λ n. (most < n) × IsRefusedBy FaultKind.BadValue fault)) }
     {
         let number = self.number()?;
         if number > most {
-            return Err(self.refuse(Word::Value));
+            return Err(self.refuse(FaultKind::BadValue));
         }
         Ok(number)
     }
@@ -227,10 +227,10 @@ impl<'v, 'p> Reader<'v, 'p> {
     /// `true` or `false`, or `Kind`.
     pub fn flag(&self) -> Result<bool, InputFault>
         ensures flag { result_ok result ≡ as_bool (view self.now.value) }
-        ensures refused { IfErr result (IsRefusedBy Word.Kind) }
+        ensures refused { IfErr result (IsRefusedBy FaultKind.WrongType) }
     {
         match self.value.as_bool() {
-            None => Err(self.refuse(Word::Kind)),
+            None => Err(self.refuse(FaultKind::WrongType)),
             Some(flag) => Ok(flag),
         }
     }
@@ -238,10 +238,10 @@ impl<'v, 'p> Reader<'v, 'p> {
     /// The text that this value is, or `Kind`.
     pub fn text(&self) -> Result<&'v str, InputFault>
         ensures text { option_map (λ t. t.now) (result_ok result) ≡ as_str (view self.now.value) }
-        ensures refused { IfErr result (IsRefusedBy Word.Kind) }
+        ensures refused { IfErr result (IsRefusedBy FaultKind.WrongType) }
     {
         match self.value.as_str() {
-            None => Err(self.refuse(Word::Kind)),
+            None => Err(self.refuse(FaultKind::WrongType)),
             Some(text) => Ok(text),
         }
     }
@@ -249,7 +249,7 @@ impl<'v, 'p> Reader<'v, 'p> {
     /// The items of an array, each read wholly before the next. `Kind` where there is no array.
     pub fn list<T: FromJson<'v>>(&self) -> Result<Vec<T>, InputFault>
         ensures count { IfOk result (λ items. HasItems (view self.now.value) (vec_len items)) }
-        ensures told { IfOk result (λ items. IsList (T.tells self.now.manner) (view self.now.value) items.items) }
+        ensures told { IfOk result (λ items. IsList (T.decodes_to self.now.dialect) (view self.now.value) items.items) }
     {
         let mut items = Vec::new(self.alloc);
         let values = self.array()?;
@@ -263,12 +263,12 @@ impl<'v, 'p> Reader<'v, 'p> {
     /// counted.
     pub fn list_up_to<T: FromJson<'v>>(&self, most: usize) -> Result<Vec<T>, InputFault>
         ensures count { IfOk result (λ items. HasItems (view self.now.value) (vec_len items)) }
-        ensures told { IfOk result (λ items. IsList (T.tells self.now.manner) (view self.now.value) items.items) }
+        ensures told { IfOk result (λ items. IsList (T.decodes_to self.now.dialect) (view self.now.value) items.items) }
         ensures bound { IfOk result (λ items. vec_len items ≤ most) }
     {
         let items = self.list::<T>()?;
         if items.len() > most {
-            return Err(self.refuse(Word::Value));
+            return Err(self.refuse(FaultKind::BadValue));
         }
         Ok(items)
     }
@@ -277,12 +277,12 @@ impl<'v, 'p> Reader<'v, 'p> {
     pub fn pair<'q>(&'q self) -> Result<(Reader<'v, 'q>, Reader<'v, 'q>), InputFault>
         ensures items { IfOk result (λ pair. as_array (view self.now.value)
             ≡ Some (item (view pair.0.value) (item (view pair.1.value) no_items))) }
-        ensures manner { IfOk result (λ pair. (pair.0.manner ≡ self.now.manner) × (pair.1.manner ≡ self.now.manner)) }
-        ensures refused { IfErr result (IsRefusedBy Word.Kind) }
+        ensures dialect { IfOk result (λ pair. (pair.0.dialect ≡ self.now.dialect) × (pair.1.dialect ≡ self.now.dialect)) }
+        ensures refused { IfErr result (IsRefusedBy FaultKind.WrongType) }
     {
         match self.array()? {
             [first, second] => Ok((self.item(0, first), self.item(1, second))),
-            _ => Err(self.refuse(Word::Kind)),
+            _ => Err(self.refuse(FaultKind::WrongType)),
         }
     }
 
@@ -290,7 +290,7 @@ impl<'v, 'p> Reader<'v, 'p> {
     pub fn three_texts(&self) -> Result<(&'v str, &'v str, &'v str), InputFault>
         ensures texts { IfOk result (λ texts. as_array (view self.now.value)
             ≡ Some (item (string texts.0.now) (item (string texts.1.now) (item (string texts.2.now) no_items)))) }
-        ensures refused { IfErr result (IsRefusedBy Word.Kind) }
+        ensures refused { IfErr result (IsRefusedBy FaultKind.WrongType) }
     {
         match self.array()? {
             [first, second, third] => {
@@ -298,17 +298,17 @@ impl<'v, 'p> Reader<'v, 'p> {
                 let second = self.item(1, second).text()?;
                 Ok((first, second, self.item(2, third).text()?))
             }
-            _ => Err(self.refuse(Word::Kind)),
+            _ => Err(self.refuse(FaultKind::WrongType)),
         }
     }
 
     /// The values in an array, or `Kind`.
     pub fn array(&self) -> Result<&'v [Value], InputFault>
         ensures items { option_map (λ s. items_view s.now) (result_ok result) ≡ as_array (view self.now.value) }
-        ensures refused { IfErr result (IsRefusedBy Word.Kind) }
+        ensures refused { IfErr result (IsRefusedBy FaultKind.WrongType) }
     {
         match self.value.as_array() {
-            None => Err(self.refuse(Word::Kind)),
+            None => Err(self.refuse(FaultKind::WrongType)),
             Some(items) => Ok(items.as_slice()),
         }
     }
@@ -316,13 +316,13 @@ impl<'v, 'p> Reader<'v, 'p> {
     /// The reader of this value, which is the item at an index of the array here.
     pub fn item<'q>(&'q self, index: usize, value: &'v Value) -> Reader<'v, 'q>
         ensures value { result.value ≡ value.now }
-        ensures manner { result.manner ≡ self.now.manner }
+        ensures dialect { result.dialect ≡ self.now.dialect }
     {
         Reader {
             alloc: self.alloc,
             value,
             place: self.place.item(index),
-            manner: self.manner,
+            dialect: self.dialect,
         }
     }
 }
@@ -333,21 +333,21 @@ impl<'v> Object<'v, '_> {
         self.alloc
     }
 
-    /// In the strict manner refuses, as `Unknown`, the first member, by name, that has none of these
+    /// In the strict dialect refuses, as `Unknown`, the first member, by name, that has none of these
     /// names.
     pub fn only(&self, names: &[&str]) -> Result<(), InputFault>
-        ensures lenient { self.now.manner ≡ Manner.Lenient → result ≡ Ok tt }
-        ensures strict { self.now.manner ≡ Manner.Strict → is_ok result ≡ are_named names.now self.now.members }
-        ensures refused { IfErr result (IsRefusedBy Word.Unknown) }
+        ensures lenient { self.now.dialect ≡ Dialect.Lenient → result ≡ Ok tt }
+        ensures strict { self.now.dialect ≡ Dialect.Strict → is_ok result ≡ are_named names.now self.now.members }
+        ensures refused { IfErr result (IsRefusedBy FaultKind.Unknown) }
     {
-        if self.manner == Manner::Lenient {
+        if self.dialect == Dialect::Lenient {
             return Ok(());
         }
         match unnamed(self.members, names) {
             None => Ok(()),
             Some(name) => {
                 let member = self.place.member(name.as_str());
-                Err(member.refuse(self.alloc, Word::Unknown))
+                Err(member.refuse(self.alloc, FaultKind::Unknown))
             }
         }
     }
@@ -365,7 +365,7 @@ impl<'v> Object<'v, '_> {
     /// A member, if it is there.
     pub fn optional<'q>(&'q self, name: &'q str) -> Option<Reader<'v, 'q>>
         ensures value { option_map (λ r. view r.value) result ≡ get_member name.now (members_view self.now.members) }
-        ensures manner { IfSome result (λ r. r.manner ≡ self.now.manner) }
+        ensures dialect { IfSome result (λ r. r.dialect ≡ self.now.dialect) }
     {
         match member_of(self.members, name) {
             None => None,
@@ -383,13 +383,13 @@ impl<'v> Object<'v, '_> {
     /// The reader of this value, which is the member of a name of the object here.
     pub fn member<'q>(&'q self, name: &'q str, value: &'v Value) -> Reader<'v, 'q>
         ensures value { result.value ≡ value.now }
-        ensures manner { result.manner ≡ self.now.manner }
+        ensures dialect { result.dialect ≡ self.now.dialect }
     {
         Reader {
             alloc: self.alloc,
             value,
             place: self.place.member(name),
-            manner: self.manner,
+            dialect: self.dialect,
         }
     }
 
@@ -397,11 +397,15 @@ impl<'v> Object<'v, '_> {
     pub fn required<'q>(&'q self, name: &'q str) -> Result<Reader<'v, 'q>, InputFault>
         ensures value { option_map (λ r. view r.value) (result_ok result)
             ≡ get_member name.now (members_view self.now.members) }
-        ensures manner { IfOk result (λ r. r.manner ≡ self.now.manner) }
-        ensures refused { IfErr result (IsRefusedBy Word.Missing) }
+        ensures dialect { IfOk result (λ r. r.dialect ≡ self.now.dialect) }
+        ensures refused { IfErr result (IsRefusedBy FaultKind.Missing) }
     {
         match self.optional(name) {
-            None => Err(self.place.member(name).refuse(self.alloc, Word::Missing)),
+            None => Err(
+                self.place
+                    .member(name)
+                    .refuse(self.alloc, FaultKind::Missing),
+            ),
             Some(member) => Ok(member),
         }
     }
@@ -410,7 +414,7 @@ impl<'v> Object<'v, '_> {
     pub fn number_or(&self, name: &str, absent: u64) -> Result<u64, InputFault>
         ensures value { MatchOption (get_member name.now (members_view self.now.members)) (result ≡ Ok absent)
             (λ member. result_ok result ≡ number_in member) }
-        ensures refused { IfErr result (IsRefusedBy Word.Kind) }
+        ensures refused { IfErr result (IsRefusedBy FaultKind.WrongType) }
     {
         match self.optional(name) {
             None => Ok(absent),
@@ -422,7 +426,7 @@ impl<'v> Object<'v, '_> {
     pub fn flag_or(&self, name: &str, absent: bool) -> Result<bool, InputFault>
         ensures value { MatchOption (get_member name.now (members_view self.now.members)) (result ≡ Ok absent)
             (λ member. result_ok result ≡ as_bool member) }
-        ensures refused { IfErr result (IsRefusedBy Word.Kind) }
+        ensures refused { IfErr result (IsRefusedBy FaultKind.WrongType) }
     {
         match self.optional(name) {
             None => Ok(absent),
@@ -436,7 +440,7 @@ impl<'v> Object<'v, '_> {
             MatchOption (get_member name.now (members_view self.now.members)) (items.items ≡ [])
             (λ member. HasItems member (vec_len items))) }
         ensures told { IfOk result (λ items.
-            HasOr (IsList (T.tells self.now.manner)) [] name.now (members_view self.now.members) items.items) }
+            HasOr (IsList (T.decodes_to self.now.dialect)) [] name.now (members_view self.now.members) items.items) }
     {
         match self.optional(name) {
             None => Ok(Vec::new(self.alloc)),
@@ -447,7 +451,7 @@ impl<'v> Object<'v, '_> {
     /// The items of an array that has at most so many, or none if the member isn't there.
     pub fn list_up_to<T: FromJson<'v>>(&self, name: &str, most: usize) -> Result<Vec<T>, InputFault>
         ensures told { IfOk result (λ items.
-            HasOr (IsList (T.tells self.now.manner)) [] name.now (members_view self.now.members) items.items) }
+            HasOr (IsList (T.decodes_to self.now.dialect)) [] name.now (members_view self.now.members) items.items) }
         ensures bound { IfOk result (λ items. vec_len items ≤ most) }
     {
         match self.optional(name) {
@@ -487,9 +491,9 @@ pub fn is_one_of(names: &[&str], name: &str) -> bool
 }
 
 impl<'v> FromJson<'v> for Text {
-    ghost use Rattle.am_cli.specs.Told.{IsText};
+    ghost use Rattle.am_cli.specs.Decoding.{IsText};
 
-    ghost tells = { λ manner value text. IsText value text };
+    ghost decodes_to = { λ dialect value text. IsText value text };
 
     fn read(reader: &Reader<'v, '_>) -> Result<Text, InputFault> {
         Ok(Text::new(reader.alloc(), reader.text()?)?)

@@ -1,19 +1,19 @@
 //! Where the fault stands for which a configuration is refused as a whole.
-use crate::fault::{InputFault, Word};
-use crate::reader::{FromJson, Manner, Reader};
+use crate::fault::{FaultKind, InputFault};
+use crate::reader::{Dialect, FromJson, Reader};
 use crate::route::ALL_LABELS;
 use am_alerts::labels::is_label_name;
 use am_alerts::route::RouteFault;
 use am_model::config::{Config, ConfigFault, Limits, MAX_INTEGRATIONS, Receiver};
 
-/// The fault that refuses a configuration for this cause: in the strict manner at the value at fault.
+/// The fault that refuses a configuration for this cause: in the strict dialect at the value at fault.
 pub(crate) fn refuse_config(
     reader: &Reader<'_, '_>,
     config: &Config,
     cause: ConfigFault,
 ) -> InputFault {
-    if reader.manner() == Manner::Lenient {
-        return reader.refuse(Word::Value);
+    if reader.dialect() == Dialect::Lenient {
+        return reader.refuse(FaultKind::BadValue);
     }
     let receivers = config.receivers.as_slice();
     match cause {
@@ -28,10 +28,10 @@ pub(crate) fn refuse_config(
     }
 }
 
-/// The fault that refuses routes that make no routing tree: in the strict manner at the value at fault.
+/// The fault that refuses routes that make no routing tree: in the strict dialect at the value at fault.
 pub(crate) fn refuse_routes(reader: &Reader<'_, '_>, cause: RouteFault) -> InputFault {
-    if reader.manner() == Manner::Lenient {
-        return reader.refuse(Word::Value);
+    if reader.dialect() == Dialect::Lenient {
+        return reader.refuse(FaultKind::BadValue);
     }
     let looked = match cause {
         RouteFault::BadName => check_names(reader),
@@ -40,13 +40,13 @@ pub(crate) fn refuse_routes(reader: &Reader<'_, '_>, cause: RouteFault) -> Input
         RouteFault::BadInterval => Ok(()),
     };
     match looked {
-        Ok(()) => reader.refuse(Word::Value),
+        Ok(()) => reader.refuse(FaultKind::BadValue),
         Err(fault) => fault,
     }
 }
 
 fn refuse_member(reader: &Reader<'_, '_>, name: &str) -> InputFault {
-    reader.refuse_at(&reader.place().member(name), Word::Value)
+    reader.refuse_at(&reader.place().member(name), FaultKind::BadValue)
 }
 
 /// Refuses the first route's receiver that isn't there.
@@ -57,16 +57,16 @@ fn refuse_receiver_of_route(reader: &Reader<'_, '_>, config: &Config) -> InputFa
         .is_none()
     {
         let root = top.member("route");
-        return reader.refuse_at(&root.member("receiver"), Word::Value);
+        return reader.refuse_at(&root.member("receiver"), FaultKind::BadValue);
     }
     let children = top.member("children");
     for (index, child) in config.routes.children().iter().enumerate() {
         if config.receiver(child.route.receiver.as_str()).is_none() {
             let child = children.item(index);
-            return reader.refuse_at(&child.member("receiver"), Word::Value);
+            return reader.refuse_at(&child.member("receiver"), FaultKind::BadValue);
         }
     }
-    reader.refuse(Word::Value)
+    reader.refuse(FaultKind::BadValue)
 }
 
 /// Refuses the first receiver that has the name of one before it.
@@ -79,10 +79,10 @@ fn refuse_second_receiver(reader: &Reader<'_, '_>, receivers: &[Receiver]) -> In
             .any(|earlier| earlier.name.as_str() == name)
         {
             let receiver = place.item(index);
-            return reader.refuse_at(&receiver.member("name"), Word::Value);
+            return reader.refuse_at(&receiver.member("name"), FaultKind::BadValue);
         }
     }
-    reader.refuse(Word::Value)
+    reader.refuse(FaultKind::BadValue)
 }
 
 /// Refuses the first receiver's integrations that are too many.
@@ -91,10 +91,10 @@ fn refuse_integrations(reader: &Reader<'_, '_>, receivers: &[Receiver]) -> Input
     for (index, receiver) in receivers.iter().enumerate() {
         if receiver.integrations.len() > MAX_INTEGRATIONS {
             let receiver = place.item(index);
-            return reader.refuse_at(&receiver.member("integrations"), Word::Value);
+            return reader.refuse_at(&receiver.member("integrations"), FaultKind::BadValue);
         }
     }
-    reader.refuse(Word::Value)
+    reader.refuse(FaultKind::BadValue)
 }
 
 /// Refuses the first integration's kind that has no label name's form.
@@ -105,10 +105,10 @@ fn refuse_kind(reader: &Reader<'_, '_>, receivers: &[Receiver]) -> InputFault {
             let receiver = place.item(index);
             let integrations = receiver.member("integrations");
             let integration = integrations.item(bad);
-            return reader.refuse_at(&integration.member("kind"), Word::Value);
+            return reader.refuse_at(&integration.member("kind"), FaultKind::BadValue);
         }
     }
-    reader.refuse(Word::Value)
+    reader.refuse(FaultKind::BadValue)
 }
 
 /// The position of the first integration whose kind has no label name's form.
@@ -132,10 +132,10 @@ fn refuse_limit(reader: &Reader<'_, '_>, limits: &Limits) -> InputFault {
         ("history", limits.history, most.history),
     ] {
         if limit == 0 || limit > greatest {
-            return reader.refuse_at(&place.member(name), Word::Value);
+            return reader.refuse_at(&place.member(name), FaultKind::BadValue);
         }
     }
-    reader.refuse(Word::Value)
+    reader.refuse(FaultKind::BadValue)
 }
 
 /// Refuses the first name of a child, or by which a route groups, that has no label name's form.
@@ -158,7 +158,11 @@ fn check_once(reader: &Reader<'_, '_>) -> Result<(), InputFault> {
             .any(|earlier| earlier.name == child.name);
         if is_second || child.name == "root" {
             let child = children.item(index);
-            return Err(child.member("name").refuse(reader.alloc(), Word::Value));
+            return Err(
+                child
+                    .member("name")
+                    .refuse(reader.alloc(), FaultKind::BadValue),
+            );
         }
     }
     Ok(())
@@ -182,7 +186,7 @@ impl<'v> FromJson<'v> for GroupingName {
     fn read(reader: &Reader<'v, '_>) -> Result<GroupingName, InputFault> {
         let name = reader.text()?;
         if name != ALL_LABELS && !is_label_name(name) {
-            return Err(reader.refuse(Word::Value));
+            return Err(reader.refuse(FaultKind::BadValue));
         }
         Ok(GroupingName)
     }
@@ -193,7 +197,7 @@ impl<'v> FromJson<'v> for NamesOfChild {
         let child = reader.object()?;
         let name = child.required("name")?;
         if !is_label_name(name.text()?) {
-            return Err(name.refuse(Word::Value));
+            return Err(name.refuse(FaultKind::BadValue));
         }
         child.list_or_none::<GroupingName>("group_by")?;
         Ok(NamesOfChild)

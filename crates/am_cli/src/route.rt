@@ -3,13 +3,13 @@ ghost use Rattle.std.specs.Prelude.{◌≡◌, [], IfOk, List, ℕ, codes};
 ghost use Rattle.std.specs.List.{list_any};
 ghost use Rattle.std.specs.Str.{bytes_eq};
 ghost use Rattle.am_alerts.specs.declared.route.GroupBy.TheVariants.{Names};
-ghost use Rattle.am_cli.specs.Configured.{IsGroupBy, all_labels, TellsOptions, TellsRoot};
+ghost use Rattle.am_cli.specs.Configured.{IsGroupBy, all_labels, DecodesToOptions, DecodesToRoot};
 ghost use Rattle.am_cli.specs.Routed.{routed};
-ghost use Rattle.am_cli.specs.Told.{HasOr};
+ghost use Rattle.am_cli.specs.Decoding.{HasOr};
 ghost use Rattle.serde_json.specs.View.{members_view, view};
 
 use crate::duration::{duration_or, interval_or};
-use crate::fault::{InputFault, Word};
+use crate::fault::{FaultKind, InputFault};
 use crate::reader::{FromJson, Object, Reader};
 use am_alerts::limits::{MAX_MATCHERS, MAX_NAMES};
 use am_alerts::matcher::Matcher;
@@ -41,7 +41,7 @@ struct Options {
 
 impl Options {
     fn read(route: &Object<'_, '_>) -> Result<Options, InputFault>
-        ensures { (name : List ℕ) → IfOk result (λ options. TellsOptions (members_view route.now.members) (routed name options)) }
+        ensures { (name : List ℕ) → IfOk result (λ options. DecodesToOptions (members_view route.now.members) (routed name options)) }
     {
         let receiver = route.required_text("receiver")?;
         let group_by = read_group_by(route)?;
@@ -80,7 +80,7 @@ impl Options {
 
 /// Reads the root route.
 pub fn read_root(reader: &Reader<'_, '_>) -> Result<Route, InputFault>
-    ensures { IfOk result (TellsRoot (view reader.now.value)) }
+    ensures { IfOk result (DecodesToRoot (view reader.now.value)) }
 {
     let root = reader.object()?;
     root.only(&[
@@ -95,9 +95,9 @@ pub fn read_root(reader: &Reader<'_, '_>) -> Result<Route, InputFault>
 }
 
 impl<'v> FromJson<'v> for Child {
-    ghost use Rattle.am_cli.specs.Configured.{TellsChild};
+    ghost use Rattle.am_cli.specs.Configured.{DecodesToChild};
 
-    ghost tells = { λ manner value child. TellsChild manner value child };
+    ghost decodes_to = { λ dialect value child. DecodesToChild dialect value child };
 
     fn read(reader: &Reader<'v, '_>) -> Result<Child, InputFault> {
         let child = reader.object()?;
@@ -142,7 +142,7 @@ fn read_names(member: &Reader<'_, '_>) -> Result<GroupBy, InputFault>
         return Ok(GroupBy::Names(Sequence::from(names)));
     }
     if names.len() > 1 {
-        return Err(member.refuse(Word::Value));
+        return Err(member.refuse(FaultKind::BadValue));
     }
     Ok(GroupBy::All)
 }

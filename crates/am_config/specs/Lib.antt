@@ -1,3 +1,3 @@
-pub mod Dropped
+pub mod IgnoredSettings
 pub mod Faults
-pub mod Laid
+pub mod Flattened

@@ -1,18 +1,18 @@
 //! Alertmanager's configuration.
 ghost use Rattle.std.specs.Prelude.{◌≡◌, IfErr, IfOk, None};
 ghost use Rattle.am_config.specs.Faults.{Tells};
-ghost use Rattle.am_config.specs.Laid.{FindsTheSame, SaysTheSame};
+ghost use Rattle.am_config.specs.Flattened.{MatchesSameRoutes, HasSameOptions};
 ghost use Rattle.am_model.specs.Config.{config_fault};
 
-use crate::dropped::Dropped;
+use crate::dropped::IgnoredSettings;
 use crate::faults::{Faults, Refusal};
+use crate::flattened::Flattened;
 use crate::inhibit::read_rules;
-use crate::laid::Laid;
+use crate::optional::{has_items, non_null};
 use crate::receiver::read_receivers;
-use crate::route::{Routing, lay_flat, read_tree};
-use crate::said::{has_items, said};
+use crate::route::{Routing, flatten, read_tree};
 use am_alerts::sequence::Sequence;
-use am_cli::fault::{InputFault, Word};
+use am_cli::fault::{FaultKind, InputFault};
 use am_cli::reader::{Object, Reader};
 use am_model::config::{Config, Limits, Receiver};
 use am_mute::inhibit::InhibitRule;
@@ -68,13 +68,13 @@ pub struct Alertmanager {
     /// The tree of routes below the root, of which `config` has the flat list.
     pub below: Vec<Node>,
     /// What it says beside.
-    pub dropped: Dropped,
+    pub dropped: IgnoredSettings,
 }
 
 /// The parts of a configuration. They are whole where nothing was refused.
 #[derive(Drop)]
 struct Parts {
-    routes: Option<Laid>,
+    routes: Option<Flattened>,
     receivers: Vec<Receiver>,
     rules: Vec<InhibitRule>,
 }
@@ -84,12 +84,12 @@ struct Parts {
 /// those that can't be laid flat, receivers and inhibition rules.
 pub fn read_alertmanager(reader: &Reader<'_, '_>) -> Result<Alertmanager, Refusal>
     ensures sound { IfOk result (λ read. config_fault read.config ≡ None) }
-    ensures finds { IfOk result (λ read. FindsTheSame read.config.routes read.below.items) }
-    ensures says { IfOk result (λ read. SaysTheSame read.config.routes read.below.items) }
+    ensures finds { IfOk result (λ read. MatchesSameRoutes read.config.routes read.below.items) }
+    ensures says { IfOk result (λ read. HasSameOptions read.config.routes read.below.items) }
     ensures told { IfErr result Tells }
 {
     let mut faults = Faults::none(reader.alloc());
-    let mut dropped = Dropped::nothing();
+    let mut dropped = IgnoredSettings::nothing();
     let parts = read_parts(&mut faults, &mut dropped, reader)?;
     match parts {
         Some(parts) if faults.is_empty() => finish(reader, faults, dropped, parts),
@@ -99,7 +99,7 @@ pub fn read_alertmanager(reader: &Reader<'_, '_>) -> Result<Alertmanager, Refusa
 
 fn read_parts(
     faults: &mut Faults,
-    dropped: &mut Dropped,
+    dropped: &mut IgnoredSettings,
     reader: &Reader<'_, '_>,
 ) -> Result<Option<Parts>, InputFault> {
     let Some(top) = faults.kept(reader.object())? else {
@@ -120,10 +120,10 @@ fn read_parts(
 /// Notes which members are dropped.
 fn drop_parts(
     faults: &mut Faults,
-    dropped: &mut Dropped,
+    dropped: &mut IgnoredSettings,
     top: &Object<'_, '_>,
 ) -> Result<(), InputFault> {
-    if let Some(member) = said(top, "global") {
+    if let Some(member) = non_null(top, "global") {
         if let Some(global) = faults.kept(member.object())? {
             faults.only(&global, &GLOBAL)?;
             dropped.global = !global.members().is_empty();
@@ -137,11 +137,11 @@ fn drop_parts(
 }
 
 /// Reads the routes, and lays them flat.
-fn read_routes(faults: &mut Faults, top: &Object<'_, '_>) -> Result<Option<Laid>, InputFault> {
+fn read_routes(faults: &mut Faults, top: &Object<'_, '_>) -> Result<Option<Flattened>, InputFault> {
     let mut routing = Routing::new(top)?;
     match read_tree(faults, &mut routing, top)? {
         None => Ok(None),
-        Some(tree) => lay_flat(top.alloc(), faults, &routing, tree),
+        Some(tree) => flatten(top.alloc(), faults, &routing, tree),
     }
 }
 
@@ -149,12 +149,12 @@ fn read_routes(faults: &mut Faults, top: &Object<'_, '_>) -> Result<Option<Laid>
 fn finish(
     reader: &Reader<'_, '_>,
     faults: Faults,
-    dropped: Dropped,
+    dropped: IgnoredSettings,
     parts: Parts,
 ) -> Result<Alertmanager, Refusal>
     ensures sound { IfOk result (λ read. config_fault read.config ≡ None) }
-    ensures finds { IfOk result (λ read. FindsTheSame read.config.routes read.below.items) }
-    ensures says { IfOk result (λ read. SaysTheSame read.config.routes read.below.items) }
+    ensures finds { IfOk result (λ read. MatchesSameRoutes read.config.routes read.below.items) }
+    ensures says { IfOk result (λ read. HasSameOptions read.config.routes read.below.items) }
     ensures told { IfErr result Tells }
 {
     let Parts {
@@ -162,7 +162,7 @@ fn finish(
         receivers,
         rules,
     } = parts;
-    let Some(Laid { routes, below }) = routes else {
+    let Some(Flattened { routes, below }) = routes else {
         return Err(refused(reader, faults));
     };
     let config = Config {
@@ -189,7 +189,7 @@ fn refused(reader: &Reader<'_, '_>, mut faults: Faults) -> Refusal
     if !faults.is_empty() {
         return Refusal::All(faults);
     }
-    match faults.push(reader.refuse(Word::Value)) {
+    match faults.push(reader.refuse(FaultKind::BadValue)) {
         Ok(()) => Refusal::All(faults),
         Err(fault) => Refusal::One(fault),
     }

@@ -4,7 +4,7 @@ use std::fmt;
 /// What Alertmanager's configuration says beside what is read of it. Nothing of it changes which notice
 /// is sent when, and to whom.
 #[derive(Clone, Copy, Debug, PartialEq, Eq)]
-pub struct Dropped {
+pub struct IgnoredSettings {
     /// What holds for all integrations.
     pub global: bool,
     /// Files of templates.
@@ -15,15 +15,15 @@ pub struct Dropped {
     pub settings: bool,
 }
 
-impl Dropped {
+impl IgnoredSettings {
     ghost use Rattle.std.specs.Prelude.{◌≡◌, ◌↔◌, IsFalse};
-    ghost use Rattle.am_config.specs.Dropped.{nothing};
+    ghost use Rattle.am_config.specs.IgnoredSettings.{nothing};
 
     /// Nothing is dropped.
-    pub fn nothing() -> Dropped
+    pub fn nothing() -> IgnoredSettings
         ensures { result ≡ nothing }
     {
-        Dropped {
+        IgnoredSettings {
             global: false,
             templates: false,
             time_intervals: false,
@@ -39,7 +39,7 @@ impl Dropped {
     }
 }
 
-impl fmt::Display for Dropped {
+impl fmt::Display for IgnoredSettings {
     fn fmt<W: fmt::Write>(&self, f: &mut fmt::Formatter<W>) -> fmt::Result {
         let mut separator = "";
         for (is_dropped, name) in [

@@ -1,5 +1,5 @@
 //! The faults of a configuration.
-use am_cli::fault::{InputFault, Word};
+use am_cli::fault::{FaultKind, InputFault};
 use am_cli::reader::{Object, is_one_of};
 use std::alloc::Global;
 use std::marker::Model;
@@ -12,7 +12,7 @@ pub const MAX_FAULTS: usize = 100;
 pub struct Fault {
     /// A JSON pointer.
     pub place: String,
-    pub word: Word,
+    pub fault_kind: FaultKind,
 }
 
 /// The faults of an input in the order of reading, the first hundred of them. Contracts see them as a
@@ -96,9 +96,9 @@ impl Faults {
         ensures ends { IfErr result (Ends fault) }
     {
         match fault {
-            InputFault::Refused { place, word } => {
+            InputFault::Refused { place, fault_kind } => {
                 if self.told.len() < MAX_FAULTS {
-                    self.told.push(Fault { place, word })?;
+                    self.told.push(Fault { place, fault_kind })?;
                 }
                 Ok(())
             }
@@ -124,7 +124,11 @@ impl Faults {
     pub fn only(&mut self, object: &Object<'_, '_>, names: &[&str]) -> Result<(), InputFault> {
         for (name, value) in object.members().iter() {
             if !is_one_of(names, name.as_str()) {
-                self.push(object.member(name.as_str(), value).refuse(Word::Unknown))?;
+                self.push(
+                    object
+                        .member(name.as_str(), value)
+                        .refuse(FaultKind::Unknown),
+                )?;
             }
         }
         Ok(())

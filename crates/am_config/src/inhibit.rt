@@ -1,11 +1,11 @@
 //! Inhibition rules.
 use crate::faults::Faults;
 use crate::matchers::{MatcherMembers, read_matchers};
-use crate::said::said;
+use crate::optional::non_null;
 use am_alerts::labels::is_label_name;
 use am_alerts::limits::MAX_NAMES;
 use am_alerts::text::Text;
-use am_cli::fault::{InputFault, Word};
+use am_cli::fault::{FaultKind, InputFault};
 use am_cli::reader::{Object, Reader};
 use am_model::config::MAX_RULES;
 use am_mute::inhibit::InhibitRule;
@@ -41,14 +41,14 @@ pub(crate) fn read_rules(
     top: &Object<'_, '_>,
 ) -> Result<Vec<InhibitRule>, InputFault> {
     let mut rules = Vec::new(top.alloc());
-    let Some(member) = said(top, "inhibit_rules") else {
+    let Some(member) = non_null(top, "inhibit_rules") else {
         return Ok(rules);
     };
     let Some(items) = faults.kept(member.array())? else {
         return Ok(rules);
     };
     if items.len() > MAX_RULES {
-        faults.push(member.refuse(Word::Value))?;
+        faults.push(member.refuse(FaultKind::BadValue))?;
         return Ok(rules);
     }
     for (index, value) in items.iter().enumerate() {
@@ -70,20 +70,22 @@ fn read_rule(
     let source = read_matchers(faults, &rule, &SOURCE)?;
     let target = read_matchers(faults, &rule, &TARGET)?;
     let equal = read_equal(faults, &rule)?;
-    faults.kept(InhibitRule::new(source, target, equal).map_err(|_| reader.refuse(Word::Value)))
+    faults.kept(InhibitRule::new(source, target, equal).map_err(|_| reader.refuse(
+        FaultKind::BadValue,
+    )))
 }
 
 /// Reads the names of the labels in which two alerts have to agree. More than 64 are refused unread.
 fn read_equal(faults: &mut Faults, rule: &Object<'_, '_>) -> Result<Vec<Text>, InputFault> {
     let mut names = Vec::new(rule.alloc());
-    let Some(member) = said(rule, "equal") else {
+    let Some(member) = non_null(rule, "equal") else {
         return Ok(names);
     };
     let Some(items) = faults.kept(member.array())? else {
         return Ok(names);
     };
     if items.len() > MAX_NAMES {
-        faults.push(member.refuse(Word::Value))?;
+        faults.push(member.refuse(FaultKind::BadValue))?;
         return Ok(names);
     }
     for (index, value) in items.iter().enumerate() {
@@ -98,7 +100,7 @@ fn read_equal(faults: &mut Faults, rule: &Object<'_, '_>) -> Result<Vec<Text>, I
 pub(crate) fn label_name(reader: &Reader<'_, '_>) -> Result<Text, InputFault> {
     let name = reader.text()?;
     if !is_label_name(name) {
-        return Err(reader.refuse(Word::Value));
+        return Err(reader.refuse(FaultKind::BadValue));
     }
     Ok(Text::new(reader.alloc(), name)?)
 }

@@ -5,12 +5,12 @@
 pub mod alertmanager;
 pub mod dropped;
 pub mod faults;
+mod flattened;
 mod inhibit;
-mod laid;
 pub mod law;
 mod matchers;
 mod names;
+mod optional;
 mod options;
 mod receiver;
 mod route;
-mod said;

@@ -1,10 +1,10 @@
 //! Matchers as Alertmanager's configuration has them.
 use crate::faults::Faults;
-use crate::said::said;
+use crate::optional::non_null;
 use am_alerts::limits::MAX_MATCHERS;
 use am_alerts::matcher::{Matcher, MatcherFault, MatcherParts, Operator};
 use am_alerts::text::Text;
-use am_cli::fault::{InputFault, Word};
+use am_cli::fault::{FaultKind, InputFault};
 use am_cli::matcher_text::parts_of_text;
 use am_cli::reader::{Object, Reader};
 use std::alloc::{AllocError, Global};
@@ -47,7 +47,7 @@ fn read_pairs(
     op: Operator,
     matchers: &mut Vec<Matcher>,
 ) -> Result<(), InputFault> {
-    let Some(member) = said(object, name) else {
+    let Some(member) = non_null(object, name) else {
         return Ok(());
     };
     let Some(pairs) = faults.kept(member.object())? else {
@@ -72,7 +72,7 @@ fn read_texts(
     name: &str,
     matchers: &mut Vec<Matcher>,
 ) -> Result<(), InputFault> {
-    let Some(member) = said(object, name) else {
+    let Some(member) = non_null(object, name) else {
         return Ok(());
     };
     let Some(items) = faults.kept(member.array())? else {
@@ -102,7 +102,7 @@ fn has_room(
 ) -> Result<bool, InputFault> {
     let has_room = matchers.len() < MAX_MATCHERS;
     if !has_room {
-        faults.push(reader.refuse(Word::Value))?;
+        faults.push(reader.refuse(FaultKind::BadValue))?;
     }
     Ok(has_room)
 }
@@ -122,7 +122,7 @@ fn matcher_of_pair(
 
 fn matcher_of_text(reader: &Reader<'_, '_>, written: &str) -> Result<Matcher, InputFault> {
     match parts_of_text(reader.alloc(), written)? {
-        None => Err(reader.refuse(Word::Value)),
+        None => Err(reader.refuse(FaultKind::BadValue)),
         Some(parts) => matcher_of(reader, parts),
     }
 }
@@ -131,7 +131,7 @@ fn matcher_of(reader: &Reader<'_, '_>, parts: MatcherParts) -> Result<Matcher, I
     match Matcher::new(reader.alloc(), parts) {
         Ok(matcher) => Ok(matcher),
         Err(MatcherFault::NoMemory) => Err(InputFault::NoMemory),
-        Err(_) => Err(reader.refuse(Word::Value)),
+        Err(_) => Err(reader.refuse(FaultKind::BadValue)),
     }
 }
 

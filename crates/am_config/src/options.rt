@@ -1,13 +1,13 @@
 //! What a route says that those below it take from it.
 use crate::faults::Faults;
 use crate::inhibit::label_name;
+use crate::optional::{non_null, optional_duration, optional_interval, optional_text};
 use crate::route::Routing;
-use crate::said::{duration_said, interval_said, said, text_said};
 use am_alerts::limits::MAX_NAMES;
 use am_alerts::route::GroupBy;
 use am_alerts::sequence::Sequence;
 use am_alerts::text::Text;
-use am_cli::fault::{InputFault, Word};
+use am_cli::fault::{FaultKind, InputFault};
 use am_cli::reader::{Object, Reader};
 use am_tree::tree::Options;
 use serde_json::Value;
@@ -23,9 +23,9 @@ pub(crate) fn read_options(
 ) -> Result<Options, InputFault> {
     let receiver = read_receiver(faults, routing, route)?;
     let group_by = read_group_by(faults, route)?;
-    let group_wait = duration_said(faults, route, "group_wait")?;
-    let group_interval = interval_said(faults, route, "group_interval")?;
-    let repeat_interval = interval_said(faults, route, "repeat_interval")?;
+    let group_wait = optional_duration(faults, route, "group_wait")?;
+    let group_interval = optional_interval(faults, route, "group_interval")?;
+    let repeat_interval = optional_interval(faults, route, "repeat_interval")?;
     Ok(Options {
         receiver,
         group_by,
@@ -42,7 +42,7 @@ fn read_receiver(
     routing: &Routing<'_>,
     route: &Object<'_, '_>,
 ) -> Result<Option<Text>, InputFault> {
-    let Some(name) = text_said(faults, route, "receiver")? else {
+    let Some(name) = optional_text(faults, route, "receiver")? else {
         return Ok(None);
     };
     if !routing.has_receiver(name) {
@@ -52,7 +52,7 @@ fn read_receiver(
 }
 
 fn refuse_receiver(route: &Object<'_, '_>) -> Result<(), InputFault> {
-    Err(route.required("receiver")?.refuse(Word::Value))
+    Err(route.required("receiver")?.refuse(FaultKind::BadValue))
 }
 
 /// Reads the labels by which a route groups. `...` stands for all of them, and with no other. An empty
@@ -61,7 +61,7 @@ fn read_group_by(
     faults: &mut Faults,
     route: &Object<'_, '_>,
 ) -> Result<Option<GroupBy>, InputFault> {
-    let Some(member) = said(route, "group_by") else {
+    let Some(member) = non_null(route, "group_by") else {
         return Ok(None);
     };
     let Some(items) = faults.kept(member.array())? else {
@@ -74,7 +74,7 @@ fn read_group_by(
         return Ok(Some(GroupBy::All));
     }
     if items.len() > MAX_NAMES || items.iter().any(is_all_labels) {
-        faults.push(member.refuse(Word::Value))?;
+        faults.push(member.refuse(FaultKind::BadValue))?;
         return Ok(None);
     }
     let names = read_names(faults, &member, items)?;
@@ -99,7 +99,7 @@ fn read_names<'v>(
         let item = member.item(index, value);
         if let Some(name) = faults.kept(label_name(&item))? {
             if names.contains(&name) {
-                faults.push(item.refuse(Word::Value))?;
+                faults.push(item.refuse(FaultKind::BadValue))?;
             } else {
                 names.push(name)?;
             }

@@ -1,10 +1,10 @@
 //! Receivers and their integrations.
-use crate::dropped::Dropped;
+use crate::dropped::IgnoredSettings;
 use crate::faults::Faults;
-use crate::said::{flag_or, required, said};
+use crate::optional::{flag_or, non_null, required};
 use am_alerts::sequence::Sequence;
 use am_alerts::text::Text;
-use am_cli::fault::{InputFault, Word};
+use am_cli::fault::{FaultKind, InputFault};
 use am_cli::reader::{Object, Reader};
 use am_model::config::{Integration, MAX_INTEGRATIONS, MAX_RECEIVERS, Receiver};
 
@@ -14,7 +14,7 @@ struct Kind {
     /// The member of a receiver that lists them.
     list: &'static str,
     name: &'static str,
-    /// What `send_resolved` is where it isn't said.
+    /// What `send_resolved` is where it is null or absent.
     send_resolved: bool,
 }
 
@@ -138,7 +138,7 @@ const MEMBERS: [&str; 19] = [
 /// The names of all receivers, if they can be told.
 pub(crate) fn receiver_names<'v>(top: &Object<'v, '_>) -> Result<Option<Vec<&'v str>>, InputFault> {
     let mut names = Vec::new(top.alloc());
-    let Some(member) = said(top, "receivers") else {
+    let Some(member) = non_null(top, "receivers") else {
         return Ok(Some(names));
     };
     let Ok(items) = member.array() else {
@@ -155,25 +155,25 @@ pub(crate) fn receiver_names<'v>(top: &Object<'v, '_>) -> Result<Option<Vec<&'v 
 
 fn name_in<'v>(reader: &Reader<'v, '_>) -> Option<&'v str> {
     let receiver = reader.object().ok()?;
-    let name = said(&receiver, "name")?;
+    let name = non_null(&receiver, "name")?;
     name.text().ok()
 }
 
 /// Reads the receivers. More than 64 are refused unread.
 pub(crate) fn read_receivers(
     faults: &mut Faults,
-    dropped: &mut Dropped,
+    dropped: &mut IgnoredSettings,
     top: &Object<'_, '_>,
 ) -> Result<Vec<Receiver>, InputFault> {
     let mut receivers = Vec::new(top.alloc());
-    let Some(member) = said(top, "receivers") else {
+    let Some(member) = non_null(top, "receivers") else {
         return Ok(receivers);
     };
     let Some(items) = faults.kept(member.array())? else {
         return Ok(receivers);
     };
     if items.len() > MAX_RECEIVERS {
-        faults.push(member.refuse(Word::Value))?;
+        faults.push(member.refuse(FaultKind::BadValue))?;
         return Ok(receivers);
     }
     for (index, value) in items.iter().enumerate() {
@@ -188,7 +188,7 @@ pub(crate) fn read_receivers(
 /// Reads a receiver that comes behind these.
 fn read_receiver(
     faults: &mut Faults,
-    dropped: &mut Dropped,
+    dropped: &mut IgnoredSettings,
     before: &[Receiver],
     reader: &Reader<'_, '_>,
 ) -> Result<Option<Receiver>, InputFault> {
@@ -199,7 +199,7 @@ fn read_receiver(
     let name = faults.kept(read_name(before, &receiver))?;
     let integrations = read_integrations(faults, dropped, &receiver)?;
     if integrations.len() > MAX_INTEGRATIONS {
-        faults.push(reader.refuse(Word::Value))?;
+        faults.push(reader.refuse(FaultKind::BadValue))?;
     }
     Ok(name.map(|name| Receiver {
         name,
@@ -212,14 +212,14 @@ fn read_name(before: &[Receiver], receiver: &Object<'_, '_>) -> Result<Text, Inp
     let member = required(receiver, "name")?;
     let name = member.text()?;
     if name.is_empty() || before.iter().any(|receiver| receiver.name.as_str() == name) {
-        return Err(member.refuse(Word::Value));
+        return Err(member.refuse(FaultKind::BadValue));
     }
     Ok(Text::new(receiver.alloc(), name)?)
 }
 
 fn read_integrations(
     faults: &mut Faults,
-    dropped: &mut Dropped,
+    dropped: &mut IgnoredSettings,
     receiver: &Object<'_, '_>,
 ) -> Result<Vec<Integration>, InputFault> {
     let mut integrations = Vec::new(receiver.alloc());
@@ -232,12 +232,12 @@ fn read_integrations(
 /// Adds a receiver's integrations of one kind.
 fn read_list(
     faults: &mut Faults,
-    dropped: &mut Dropped,
+    dropped: &mut IgnoredSettings,
     receiver: &Object<'_, '_>,
     kind: &Kind,
     integrations: &mut Vec<Integration>,
 ) -> Result<(), InputFault> {
-    let Some(member) = said(receiver, kind.list) else {
+    let Some(member) = non_null(receiver, kind.list) else {
         return Ok(());
     };
     let Some(items) = faults.kept(member.array())? else {
@@ -254,7 +254,7 @@ fn read_list(
 
 fn read_integration(
     faults: &mut Faults,
-    dropped: &mut Dropped,
+    dropped: &mut IgnoredSettings,
     settings: &Object<'_, '_>,
     kind: &Kind,
 ) -> Result<Integration, InputFault> {

@@ -2,20 +2,20 @@
 ghost use Rattle.std.specs.Prelude.{◌<◌, IfOk, IsTrue};
 
 use crate::faults::Faults;
-use crate::laid::Laid;
+use crate::flattened::Flattened;
 use crate::matchers::{MatcherMembers, read_matchers};
 use crate::names::RouteNames;
+use crate::optional::{flag_or, has_items, has_members, non_null, required};
 use crate::options::read_options;
 use crate::receiver::receiver_names;
-use crate::said::{flag_or, has_items, has_members, required, said};
 use am_alerts::limits::MAX_CHILDREN;
 use am_alerts::matcher::Matcher;
 use am_alerts::route::{GroupBy, Route, Routes};
 use am_alerts::sequence::Sequence;
 use am_alerts::text::Text;
-use am_cli::fault::{InputFault, Word};
+use am_cli::fault::{FaultKind, InputFault};
 use am_cli::reader::{Object, Reader};
-use am_tree::tree::{Cause, FlatFault, Node, Options, Refusal, Rule, Tree};
+use am_tree::tree::{Cause, FlatFault, Node, Options, Refusal, RouteSpec, Tree};
 use std::alloc::Global;
 
 /// The members of a route, the root among them.
@@ -103,7 +103,7 @@ impl<'v> Routing<'v> {
         if !self.is_full {
             self.is_full = true;
             self.is_whole = false;
-            faults.push(reader.refuse(Word::Value))?;
+            faults.push(reader.refuse(FaultKind::BadValue))?;
         }
         Ok(false)
     }
@@ -146,15 +146,15 @@ fn refuse_root(
         refuse_receiver(faults, root)?;
     }
     if has_items(faults, root, MATCHERS.texts)? {
-        refuse_member(faults, root, MATCHERS.texts, Word::Value)?;
+        refuse_member(faults, root, MATCHERS.texts, FaultKind::BadValue)?;
     }
     for name in [MATCHERS.equal, MATCHERS.like] {
         if has_members(faults, root, name)? {
-            refuse_member(faults, root, name, Word::Value)?;
+            refuse_member(faults, root, name, FaultKind::BadValue)?;
         }
     }
     if flag_or(faults, root, "continue", false)? {
-        refuse_member(faults, root, "continue", Word::Value)?;
+        refuse_member(faults, root, "continue", FaultKind::BadValue)?;
     }
     Ok(())
 }
@@ -164,7 +164,7 @@ fn refuse_receiver(faults: &mut Faults, root: &Object<'_, '_>) -> Result<(), Inp
     match required(root, "receiver") {
         Err(missing) => faults.push(missing),
         Ok(member) if member.text().is_ok_and(|text| text.is_empty()) => {
-            faults.push(member.refuse(Word::Value))
+            faults.push(member.refuse(FaultKind::BadValue))
         }
         Ok(_) => Ok(()),
     }
@@ -174,11 +174,11 @@ fn refuse_member(
     faults: &mut Faults,
     object: &Object<'_, '_>,
     name: &str,
-    word: Word,
+    fault_kind: FaultKind,
 ) -> Result<(), InputFault> {
     match object.optional(name) {
         None => Ok(()),
-        Some(member) => faults.push(member.refuse(word)),
+        Some(member) => faults.push(member.refuse(fault_kind)),
     }
 }
 
@@ -186,7 +186,7 @@ fn refuse_member(
 fn refuse_times(faults: &mut Faults, route: &Object<'_, '_>) -> Result<(), InputFault> {
     for name in ["mute_time_intervals", "active_time_intervals"] {
         if has_items(faults, route, name)? {
-            refuse_member(faults, route, name, Word::Unsupported)?;
+            refuse_member(faults, route, name, FaultKind::Unsupported)?;
         }
     }
     Ok(())
@@ -224,7 +224,7 @@ fn read_routes(
     levels: usize,
 ) -> Result<Vec<Node>, InputFault> {
     let mut routes = Vec::new(route.alloc());
-    let Some(member) = said(route, "routes") else {
+    let Some(member) = non_null(route, "routes") else {
         return Ok(routes);
     };
     let Some(items) = faults.kept(member.array())? else {
@@ -267,7 +267,7 @@ fn read_node(
     let routes = read_routes(faults, routing, &route, receiver.as_str(), levels)?;
     routing.places.push(reader.place().text(route.alloc())?)?;
     Ok(Some(Node {
-        rule: Rule {
+        rule: RouteSpec {
             name,
             options,
             matchers: Sequence::from(matchers),
@@ -293,23 +293,23 @@ fn read_search(
 }
 
 /// Lays a tree flat. Where that can't be done each route at which it can't is refused.
-pub(crate) fn lay_flat(
+pub(crate) fn flatten(
     alloc: Global,
     faults: &mut Faults,
     routing: &Routing<'_>,
     tree: Tree,
-) -> Result<Option<Laid>, InputFault> {
+) -> Result<Option<Flattened>, InputFault> {
     if !routing.is_whole {
         return Ok(None);
     }
-    match tree.lay_flat(alloc) {
+    match tree.flatten(alloc) {
         Ok(children) => {
             let Tree {
                 root,
                 routes: below,
             } = tree;
             match Routes::new(root, children) {
-                Ok(routes) => Ok(Some(Laid { routes, below })),
+                Ok(routes) => Ok(Some(Flattened { routes, below })),
                 Err(_) => Ok(None),
             }
         }
@@ -340,13 +340,13 @@ fn refuse_route(
     routing: &Routing<'_>,
     refusal: Refusal,
 ) -> Result<(), InputFault> {
-    let word = match refusal.cause {
-        Cause::Continue => Word::Unsupported,
-        Cause::TooManyRoutes | Cause::TooManyMatchers => Word::Value,
+    let fault_kind = match refusal.cause {
+        Cause::Continue => FaultKind::Unsupported,
+        Cause::TooManyRoutes | Cause::TooManyMatchers => FaultKind::BadValue,
     };
     let place = match routing.places.get(refusal.route.saturating_sub(1)) {
         None => String::new(alloc),
         Some(place) => place.clone()?,
     };
-    faults.push(InputFault::Refused { place, word })
+    faults.push(InputFault::Refused { place, fault_kind })
 }

@@ -21,7 +21,7 @@ use Rattle.am_model.proofs.config.Receiver.TheSendSync as receiver
 use Rattle.am_model.proofs.config.Limits.TheSendSync as limits
 use Rattle.am_mute.proofs.silence_index.SilenceIndex.TheSendSync as silence_index
 use Rattle.am_mute.proofs.sources.Sources.TheSendSync as sources
-use Rattle.am_board.proofs.destinations.Destinations.TheSendSync as destinations
+use Rattle.am_board.proofs.destinations.GroupNameCache.TheSendSync as destinations
 use Rattle.am_board.proofs.known.Known.TheSendSync as known
 use Rattle.am_board.proofs.groups.Groups.TheSendSync as groups
 use Rattle.am_board.proofs.flush.OpenFlush.TheSendSync as flush

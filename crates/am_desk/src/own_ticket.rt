@@ -5,7 +5,7 @@ ghost use Rattle.am_model.specs.Ticket.{report_fault, recorded};
 ghost use Rattle.am_model.specs.declared.record.Call.TheVariants as call;
 ghost use Rattle.am_model.specs.declared.record.Reply.TheVariants as reply;
 ghost use Rattle.am_desk.specs.Calls.{Called, NoOpenFlush};
-ghost use Rattle.am_desk.specs.Known.{Looks};
+ghost use Rattle.am_desk.specs.Known.{Observes};
 
 use crate::desk::Desk;
 use crate::name::Name;
@@ -95,7 +95,7 @@ impl<N: Name> Desk<N> {
     ) -> Result<Finished, NotOpen>
         ensures done { IfOk result (λ finished. Called N.terms pass.old (λ h. NoOpenFlush N.terms own.number h → ⊥)
             (entry pass.old.number (call.Finish now own.number own.outcomes) (reply.Finished finished)) pass.new) }
-        ensures not_open { OnErr result (Looks N.terms pass.old pass.new × NoOpenFlush N.terms own.number pass.new.log) }
+        ensures not_open { OnErr result (Observes N.terms pass.old pass.new × NoOpenFlush N.terms own.number pass.new.log) }
     {
         match self.finish(rt, pass, own.into_ticket(), now) {
             Ok(finished) => Ok(finished),

@@ -1,27 +1,27 @@
 //! Who sends.
 use am_board::notice::Notice;
-use am_pool::{Courier, Journal, Sent, Tried};
+use am_pool::{AttemptTrace, Courier, Sent, Tried};
 use am_retry::Answer;
 use std::alloc::AllocError;
 
-/// A courier whose first attempt fails. The journal is what contracts see of it; it takes no memory.
+/// A courier whose first attempt fails. The trace is what contracts see of it; it takes no memory.
 #[derive(Drop)]
 pub struct Pager {
-    journal: Journal,
+    trace: AttemptTrace,
 }
 
 impl Pager {
     pub fn new() -> Pager {
         Pager {
-            journal: Journal::new(),
+            trace: AttemptTrace::new(),
         }
     }
 }
 
 impl Courier for Pager {
-    ghost tries = { λ p. p.journal.tries };
+    ghost tries = { λ p. p.trace.tries };
 
-    ghost refusals = { λ p. p.journal.refusals };
+    ghost refusals = { λ p. p.trace.refusals };
 
     fn send(&mut self, notice: &Notice, attempt: u64, at: u64) -> Result<Sent, AllocError> {
         let answer = if attempt == 1 {
@@ -30,8 +30,7 @@ impl Courier for Pager {
             Answer::Done
         };
         let sent = Sent { answer, ended: at };
-        self.journal
-            .add_try(&Tried::new(notice, attempt, at, &sent));
+        self.trace.add_try(&Tried::new(notice, attempt, at, &sent));
         Ok(sent)
     }
 }

@@ -4,28 +4,28 @@ use crate::values::{alert, labels, listed};
 use am_alerts::sequence::Sequence;
 use am_board::group::GroupName;
 use am_board::notice::Notice;
-use am_pool::{Courier, Journal, Sent, Tried};
+use am_pool::{AttemptTrace, Courier, Sent, Tried};
 use am_retry::Answer;
 use std::alloc::{AllocError, Global};
 
 /// A courier whose first attempt fails. It takes no memory.
 #[derive(Drop)]
 pub struct Pager {
-    journal: Journal,
+    trace: AttemptTrace,
 }
 
 impl Pager {
     pub fn new() -> Pager {
         Pager {
-            journal: Journal::new(),
+            trace: AttemptTrace::new(),
         }
     }
 }
 
 impl Courier for Pager {
-    ghost tries = { λ p. p.journal.tries };
+    ghost tries = { λ p. p.trace.tries };
 
-    ghost refusals = { λ p. p.journal.refusals };
+    ghost refusals = { λ p. p.trace.refusals };
 
     fn send(&mut self, notice: &Notice, attempt: u64, at: u64) -> Result<Sent, AllocError> {
         let answer = if attempt == 1 {
@@ -34,8 +34,7 @@ impl Courier for Pager {
             Answer::Done
         };
         let sent = Sent { answer, ended: at };
-        self.journal
-            .add_try(&Tried::new(notice, attempt, at, &sent));
+        self.trace.add_try(&Tried::new(notice, attempt, at, &sent));
         Ok(sent)
     }
 }
@@ -69,13 +68,13 @@ fn keep_journal(probe: &Probe, notice: &Notice) {
     probe.ask("Tried::new");
     let tried = Tried::new(notice, 1, 30_000, &sent);
     probe.tell(&tried);
-    probe.ask("Journal::new");
-    let mut journal = Journal::new();
+    probe.ask("AttemptTrace::new");
+    let mut trace = AttemptTrace::new();
     probe.tell(&"made");
-    probe.ask("Journal::add_try");
-    journal.add_try(&tried);
+    probe.ask("AttemptTrace::add_try");
+    trace.add_try(&tried);
     probe.tell(&"made");
-    probe.ask("Journal::add_refusal");
-    journal.add_refusal();
+    probe.ask("AttemptTrace::add_refusal");
+    trace.add_refusal();
     probe.tell(&"made");
 }

@@ -1,6 +1,6 @@
 //! What is read and what is refused, where and by which word, and the texts of faults.
 use am_cli::fault::InputFault;
-use am_cli::reader::{Manner, Reader, parse};
+use am_cli::reader::{Dialect, Reader, parse};
 use serde_json::Value;
 use std::alloc::{AllocError, Global};
 use std::process::Abort;
@@ -13,11 +13,11 @@ mod route_names;
 mod texts;
 mod trees;
 
-/// The value as a whole, read in this manner.
-fn reader_of<'v>(alloc: Global, value: &'v Value, manner: Manner) -> Reader<'v, 'v> {
-    match manner {
-        Manner::Lenient => Reader::top(alloc, value),
-        Manner::Strict => Reader::strict(alloc, value),
+/// The value as a whole, read in this dialect.
+fn reader_of<'v>(alloc: Global, value: &'v Value, dialect: Dialect) -> Reader<'v, 'v> {
+    match dialect {
+        Dialect::Lenient => Reader::top(alloc, value),
+        Dialect::Strict => Reader::strict(alloc, value),
     }
 }
 

@@ -7,13 +7,13 @@ pub mod FoundRows
 pub mod FoundSteps
 pub mod LooksBack
 pub mod Opened
-pub mod Outlooks
+pub mod Previews
 pub mod PastWords
 pub mod Pasts
-pub mod ReasonsDecide
+pub mod ReasonsAreExact
 pub mod ReasonsSay
 pub mod Refiring
 pub mod RowSteps
 pub mod RowsDelivered
 pub mod SameAlerts
-pub mod ToldSets
+pub mod AlertSets

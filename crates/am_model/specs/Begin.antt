@@ -12,7 +12,7 @@ use Rattle.am_mute.specs.Mute.{is_muted}
 use Rattle.am_nflog.specs.Members.{is_empty}
 use Rattle.am_nflog.specs.Needed.{needed}
 use Rattle.am_nflog.specs.declared.row.LogRow.{LogRow}
-use Rattle.am_model.specs.declared.notice.TheConstants.{LEAST_TIME, MAX_DEADLINE}
+use Rattle.am_model.specs.declared.notice.TheConstants.{MIN_FLUSH_TIMEOUT, MAX_DEADLINE}
 use Rattle.am_model.specs.declared.config.Config.{Config}
 use Rattle.am_model.specs.declared.config.Integration.{Integration}
 use Rattle.am_model.specs.declared.group.GroupName.{GroupName}
@@ -101,7 +101,7 @@ sent i resolved = if i.send_resolved then resolved else []
 
 -- the deadline of a flush at t: a group interval later, but 10 seconds at least
 abbrev pub deadline_of : Config → ℕ → GroupState → ℕ
-deadline_of config t g = t + max (route_of config g.name).group_interval LEAST_TIME
+deadline_of config t g = t + max (route_of config g.name).group_interval MIN_FLUSH_TIMEOUT
 
 -- the notice for an integration that is asked
 abbrev pub notice_for : Config → ℕ → State → ℕ → GroupState → ℕ × Integration → NoticeData

@@ -9,7 +9,7 @@ use Rattle.am_model.specs.declared.record.Finished.{Finished}
 use Rattle.am_model.specs.declared.views.RowView.{RowView}
 use Rattle.am_model.specs.Begin.{is_entry_of}
 use Rattle.am_model.specs.Configured.{expiry_at}
-use Rattle.am_model.specs.Lists.{put_in, without, changed_where}
+use Rattle.am_model.specs.Lists.{upsert, without, changed_where}
 use Rattle.am_model.specs.State.{MemberState, GroupState, AskedState, Stamped, FlushState, State, at_moment, is_named, members_in}
 use Rattle.am_model.specs.Ticket.{outcome_of}
 
@@ -47,7 +47,7 @@ same_key row other = is_entry_of row.group row.integration other
 
 -- the log with a row in place of the one with its key, or added
 abbrev pub log_with : RowView → List RowView → List RowView
-log_with row rows = put_in same_key row rows
+log_with row rows = upsert same_key row rows
 
 -- the integrations whose success a finish logs: those that weren't noted
 abbrev pub logged_by : List (ℕ × Outcome) → FlushState → List AskedState

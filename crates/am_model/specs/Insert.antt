@@ -10,7 +10,7 @@ use Rattle.am_model.specs.declared.config.Config.{Config}
 use Rattle.am_model.specs.declared.group.GroupName.{GroupName}
 use Rattle.am_model.specs.declared.record.Inserted.{Inserted}
 use Rattle.am_model.specs.Configured.{route_of}
-use Rattle.am_model.specs.Lists.{put_in}
+use Rattle.am_model.specs.Lists.{upsert}
 use Rattle.am_model.specs.State.{MemberState, GroupState, State, is_named, has_group, same_name}
 
 -- the name of a label set's group of the route at a position
@@ -52,11 +52,11 @@ due_with config t a g = if not g.flushed && nat_lt (a.starts + wait_of config g.
 
 -- a group with a member in place of the one with its label set, or added
 abbrev pub group_with : Config → ℕ → MemberState → GroupState → GroupState
-group_with config t m g = record g { due = due_with config t m.alert g; members = put_in same_member m g.members }
+group_with config t m g = record g { due = due_with config t m.alert g; members = upsert same_member m g.members }
 
 -- the groups with a member put into the one of this name
 abbrev pub put_into_group : Config → ℕ → MemberState → List GroupState → GroupName → List GroupState
-put_into_group config t m groups name = put_in same_group (group_with config t m (group_or_new config t groups name)) groups
+put_into_group config t m groups name = upsert same_group (group_with config t m (group_or_new config t groups name)) groups
 
 -- the groups with a member put into each group of its routes
 abbrev pub groups_with : Config → ℕ → MemberState → List GroupState → List GroupState
@@ -81,6 +81,6 @@ after_insert config s t a =
     record s {
       clock = t;
       inserts = next_stamp s;
-      known = put_in same_alert a s.known;
+      known = upsert same_alert a s.known;
       groups = groups_with config t (record { alert = a; stamp = next_stamp s }) s.groups;
     }

@@ -4,9 +4,9 @@ use Rattle.std.specs.Ordering.{is_gt}
 use Rattle.std.specs.declared.cmp.Ordering.{Ordering}
 
 -- the element in place of the first one that it is like, or added at the end if it is like none
-abbrev pub put_in : {X : Type 0} → (X → X → Bool) → X → List X → List X
-put_in like x [] = x ∷ []
-put_in like x (y ∷ ys) = if like x y then x ∷ ys else y ∷ put_in like x ys
+abbrev pub upsert : {X : Type 0} → (X → X → Bool) → X → List X → List X
+upsert like x [] = x ∷ []
+upsert like x (y ∷ ys) = if like x y then x ∷ ys else y ∷ upsert like x ys
 
 -- the list without the elements that pass a test
 abbrev pub without : {X : Type 0} → (X → Bool) → List X → List X

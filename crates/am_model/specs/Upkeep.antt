@@ -6,7 +6,7 @@ use Rattle.am_nflog.specs.Members.{is_empty}
 use Rattle.am_model.specs.declared.record.Maintained.{Maintained}
 use Rattle.am_model.specs.declared.record.Silenced.{Silenced}
 use Rattle.am_model.specs.declared.views.RowView.{RowView}
-use Rattle.am_model.specs.Lists.{put_in, without}
+use Rattle.am_model.specs.Lists.{upsert, without}
 use Rattle.am_model.specs.State.{GroupState, State}
 
 -- whether two silences have one id
@@ -19,7 +19,7 @@ silenced s silence = record { replaced = list_any (same_silence silence) s.silen
 
 -- the state after a silence at t
 abbrev pub after_silence : State → ℕ → SilenceData → State
-after_silence s t silence = record s { clock = t; silences = put_in same_silence silence s.silences }
+after_silence s t silence = record s { clock = t; silences = upsert same_silence silence s.silences }
 
 -- whether a group has no alerts
 abbrev pub is_deserted : GroupState → Bool

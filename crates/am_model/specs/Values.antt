@@ -9,7 +9,7 @@ use Rattle.am_model.specs.declared.fault.Fault.TheVariants as call
 use Rattle.am_model.specs.declared.fault.NoteFault.TheVariants as note
 use Rattle.am_model.specs.declared.fault.ReportFault.TheVariants as report
 use Rattle.am_model.specs.declared.law.TheConstants.{CALL_FAULTS, NOTE_FAULTS, CONFIG_FAULTS, REPORT_FAULTS}
-use Rattle.am_model.specs.declared.notice.TheConstants.{LEAST_TIME, MAX_DEADLINE}
+use Rattle.am_model.specs.declared.notice.TheConstants.{MIN_FLUSH_TIMEOUT, MAX_DEADLINE}
 use Rattle.am_model.specs.Config.{greatest_limits}
 use Rattle.am_model.specs.Faults.{board_fault_number}
 
@@ -32,7 +32,7 @@ DefaultIs =
 
 -- law: a flush has 10 s at least, and a deadline is at most 10^15 + 10^12 ms
 abbrev pub TimesAre : Type 0
-TimesAre = (LEAST_TIME ≡ 10_000) × (MAX_DEADLINE ≡ 1_001_000_000_000_000)
+TimesAre = (MIN_FLUSH_TIMEOUT ≡ 10_000) × (MAX_DEADLINE ≡ 1_001_000_000_000_000)
 
 -- law: the numbers of the faults of an insert, a silence, a begin or a maintenance
 abbrev pub CallFaultsAre : Type 0

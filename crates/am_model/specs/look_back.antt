@@ -1,7 +1,7 @@
 pub mod Entry
 pub mod Interval
 pub mod Laws
-pub mod Outlook
+pub mod Preview
 pub mod Past
 pub mod Presence
 pub mod Reasons

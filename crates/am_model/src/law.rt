@@ -4,8 +4,8 @@ ghost use Rattle.am_model.specs.look_back.Interval.{BeginsKeepTheInterval};
 ghost use Rattle.am_model.specs.look_back.Laws.{EveryLegalHistory, AlertsAreFound, ShownAlertsAreFound, RowsAreFound, ShownRowsAreFound};
 ghost use Rattle.am_model.specs.look_back.Laws.{OnlyDeliveredIsLogged, RowsComeByDelivery, RowsWereDelivered, RefiringAlertsStay};
 ghost use Rattle.am_model.specs.look_back.Laws.{FlushesEndOnce};
-ghost use Rattle.am_model.specs.look_back.Laws.{BeginsAskRightly, BeginsTellWhatIsThere, LooksBack};
-ghost use Rattle.am_model.specs.look_back.Outlook.{OutlooksAreFound};
+ghost use Rattle.am_model.specs.look_back.Laws.{BeginsNotifyExactlyWhomNeeded, NoticesListPresentAlerts, LooksBack};
+ghost use Rattle.am_model.specs.look_back.Preview.{PreviewsAreFound};
 ghost use Rattle.am_model.specs.look_back.Reasons.{BeginsHaveReasons, ReasonsAreSo, NotYetEnds};
 ghost use Rattle.am_model.specs.Values.{LimitsAre, DefaultIs, TimesAre};
 ghost use Rattle.am_model.specs.Values.{CallFaultsAre, NoteFaultsAre, ConfigFaultsAre, BoardFaultsAre, ReportFaultsAre};
@@ -114,8 +114,8 @@ pub fn flushes_end_once()
 
 /// A begin that takes a group asks exactly the integrations that need an update, by the entries,
 /// alerts and mutes that looking back finds.
-pub fn begins_ask_rightly()
-    ensures { EveryLegalHistory BeginsAskRightly }
+pub fn begins_notify_exactly_whom_needed()
+    ensures { EveryLegalHistory BeginsNotifyExactlyWhomNeeded }
 {}
 
 /// What a begin tells is there: a flush asks somebody, and each of its notices lists the alerts that
@@ -123,8 +123,8 @@ pub fn begins_ask_rightly()
 /// where its integration is sent them; the deadline is the begin's moment plus the group interval or
 /// ten seconds, whichever is more; and a quiet begin counts the alerts that looking back finds
 /// resolved, muted ones too.
-pub fn begins_tell_what_is_there()
-    ensures { EveryLegalHistory BeginsTellWhatIsThere }
+pub fn notices_list_present_alerts()
+    ensures { EveryLegalHistory NoticesListPresentAlerts }
 {}
 
 /// Of any two begins of a group, with no maintenance between them that found it without alerts, the
@@ -136,7 +136,7 @@ pub fn begins_keep_the_interval()
 /// A begin that takes a group asks an integration of its receiver exactly if the case of needs-update
 /// that applies, by the history before it, is a reason to. A reason is given exactly where what it
 /// says is so; and a notice that isn't repeated yet is from the moment on that its reason names.
-pub fn reasons_decide()
+pub fn reasons_are_exact()
     ensures asked { EveryLegalHistory BeginsHaveReasons }
     ensures so { ReasonsAreSo }
     ensures waits { NotYetEnds }
@@ -144,8 +144,8 @@ pub fn reasons_decide()
 
 /// The reasons that the state alone gives for what a begin is to do are those that looking back
 /// finds. The group that it takes and what mutes its alerts are read off the state in both.
-pub fn outlooks_look_back()
-    ensures { OutlooksAreFound }
+pub fn previews_look_back()
+    ensures { PreviewsAreFound }
 {}
 
 /// What looking back says of every legal history, all of it.

@@ -8,7 +8,7 @@ pub mod group;
 pub mod law;
 pub mod notice;
 pub mod outcome;
-pub mod outlook;
+pub mod preview;
 pub mod reason;
 pub mod record;
 pub mod views;

@@ -15,7 +15,7 @@ use std::marker::Model;
 pub const MAX_DEADLINE: u64 = MAX_MOMENT + MAX_DURATION;
 
 /// A flush has at least so long until its deadline, in milliseconds.
-pub const LEAST_TIME: u64 = 10_000;
+pub const MIN_FLUSH_TIMEOUT: u64 = 10_000;
 
 /// What one integration is to be told of a group's flush. Alerts are in the order of their labels.
 #[derive(Debug, Drop)]

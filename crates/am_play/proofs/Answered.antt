@@ -47,14 +47,14 @@ module _ (Answers : Tried → Type 0) (jobs : List Job) (reports : List Report) 
   of_run : (k : ℕ) (t : List Tried) (r : ℕ) (t' : List Tried) (r' : ℕ) → IsRun jobs reports k t r t' r' → All Answers t' → Went k
   of_run k t r t' r' run all =
       let delivery = run.delivery in
-      let made = all_tried_for run.job.notice.now (tries_of run.job.start delivery.told) in (
+      let made = all_tried_for run.job.notice.now (tries_of run.job.start delivery.responses) in (
         run.job,
         run.job_is,
         run.report,
         run.report_is,
         record {
           names = (are.each k run.job run.report run.job_is run.report_is).names;
-          told = delivery.told;
+          responses = delivery.responses;
           answered = all_behind Answers t made (subst (All Answers) delivery.appended all);
           has = delivery.has;
           attempts_are = delivery.attempts_are;
@@ -65,7 +65,7 @@ module _ (Answers : Tried → Type 0) (jobs : List Job) (reports : List Report) 
   before_run : (k : ℕ) (t : List Tried) (r : ℕ) (t' : List Tried) (r' : ℕ) → IsRun jobs reports k t r t' r' → All Answers t' → All Answers t
   before_run k t r t' r' run all =
       let delivery = run.delivery in
-      all_front Answers t (all_tried_for run.job.notice.now (tries_of run.job.start delivery.told)) (subst (All Answers) delivery.appended all)
+      all_front Answers t (all_tried_for run.job.notice.now (tries_of run.job.start delivery.responses)) (subst (All Answers) delivery.appended all)
 
   before_runs : (ks : List ℕ) (t : List Tried) (r : ℕ) (t' : List Tried) (r' : ℕ) → AreRuns jobs reports ks t r t' r' → All Answers t' → All Answers t
   before_runs [] t r t' r' runs all = subst (All Answers) runs.0 all

@@ -11,12 +11,12 @@ use Rattle.am_model.specs.declared.record.Record.{Record}
 use Rattle.am_model.specs.declared.record.Reply.{Reply}
 use Rattle.am_model.specs.Records.{entry}
 use Rattle.am_desk.specs.Calls.{Called}
-use Rattle.am_desk.specs.Desks.{AreFresh, Stands}
+use Rattle.am_desk.specs.Desks.{AreFresh, IsPrefixViewOf}
 use Rattle.am_desk.specs.History.{own, made}
 use Rattle.am_desk.specs.Known.{Seen}
 use Rattle.am_desk.specs.declared.word.Terms.{Terms}
 use Rattle.am_play.specs.Lanes.{calls_at, calls_by, lane_calls, phase_calls}
-use Rattle.am_play.specs.Seats.{HaveMade, MadeCalls, MadeLanes}
+use Rattle.am_play.specs.LaneStates.{HaveMade, MadeCalls, MadeLanes}
 use Rattle.am_scenario.specs.declared.scenario.Lane.{Lane}
 use Rattle.am_scenario.specs.declared.scenario.Phase.{Phase}
 
@@ -82,12 +82,12 @@ lane_none i (p ∷ ps) all =
     ap (λ (cs : List Call). cs ++ lane_calls i ps) none ∙ lane_none i ps (All-rest (λ (p : Phase). length p.lanes.items ≤ i) p ps (p ∷ ps) refl all)
 
 -- a pass that stands in a history made its calls there
-stands_with : (p : Seen) (k : ℕ) (history : List Record) → Stands p history → p.number ≡ k → calls_by k history ≡ calls_by k p.log
+stands_with : (p : Seen) (k : ℕ) (history : List Record) → IsPrefixViewOf p history → p.number ≡ k → calls_by k history ≡ calls_by k p.log
 stands_with p k history stands is =
     ap (map (λ (r : Record). r.call)) (subst (λ (n : ℕ). own n history ≡ own n p.log) is stands.1)
 
 -- the calls of the lanes stand in a history in which their passes stand, and in which no other pass made a call
-pub lanes_stand : (n i : ℕ) (phases : List Phase) (ps : List Seen) (history : List Record) → HaveMade n phases ps → All (λ (p : Seen). Stands p history) ps
+pub lanes_stand : (n i : ℕ) (phases : List Phase) (ps : List Seen) (history : List Record) → HaveMade n phases ps → All (λ (p : Seen). IsPrefixViewOf p history) ps
     → ((k : ℕ) → n + length ps < k → made k history ≡ 0) → All (λ (p : Phase). length p.lanes.items ≤ n + length ps) phases → n ≤ i
     → calls_by (i + 1) history ≡ lane_calls i phases
 lanes_stand n i phases [] history have stand others few le =
@@ -95,7 +95,7 @@ lanes_stand n i phases [] history have stand others few le =
     ∙ sym (lane_none i phases (λ k d lt. omega (arith, few k d lt, le)))
 lanes_stand n i phases (p ∷ ps) history have stand others few le =
     let Here = λ (j : ℕ). calls_by (j + 1) history ≡ lane_calls j phases in
-    let here : Here n = stands_with p (n + 1) history (All-head (λ (q : Seen). Stands q history) p ps stand) have.0 ∙ have.1 in
+    let here : Here n = stands_with p (n + 1) history (All-head (λ (q : Seen). IsPrefixViewOf q history) p ps stand) have.0 ∙ have.1 in
     dite (ℕ_discrete i n) (λ (e : i ≡ n). subst Here (sym e) here)
-    (λ (ne : i ≢ n). lanes_stand (n + 1) i phases ps history have.2 (All-rest (λ (q : Seen). Stands q history) p ps (p ∷ ps) refl stand)
+    (λ (ne : i ≢ n). lanes_stand (n + 1) i phases ps history have.2 (All-rest (λ (q : Seen). IsPrefixViewOf q history) p ps (p ∷ ps) refl stand)
     (λ k more. others k (omega (arith, more))) (λ k d lt. omega (arith, few k d lt)) (omega (arith, le, ne)))

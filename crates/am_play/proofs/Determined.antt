@@ -4,7 +4,7 @@ use Rattle.std.proofs.lemmas.List.{map-append}
 use Rattle.std.proofs.lemmas.List.Elements.{All-head}
 use Rattle.am_model.specs.Notice.{NoticeData}
 use Rattle.am_model.specs.declared.notice.Report.{Report}
-use Rattle.am_retry.specs.Attempts.{Told, Try, attempt_after, end_after, tries_of}
+use Rattle.am_retry.specs.Attempts.{Response, Try, attempt_after, end_after, tries_of}
 use Rattle.am_retry.specs.Outcome.{HasOutcome}
 use Rattle.am_retry.specs.declared.outcome.Outcome.{Outcome}
 use Rattle.am_retry.specs.declared.outcome.Outcome.TheVariants.{Starved}
@@ -41,27 +41,27 @@ apart (suc k) (suc n) P same more less = apart k n P (λ e. same (ap suc e)) (λ
 
 module _ (scripts : List Script) (start : ℕ) (notice : NoticeData) where
   -- what is answered to the attempt after these answers
-  abbrev next_told : List Told → Told
-  next_told told =
-      let sent = sent_at (attempt_after start told) (planned_for scripts notice.ticket notice.integration (length told + 1)) in
+  abbrev next_response : List Response → Response
+  next_response responses =
+      let sent = sent_at (attempt_after start responses) (planned_for scripts notice.ticket notice.integration (length responses + 1)) in
       record { answer = sent.answer; ended = sent.ended }
 
   -- the first so many answers
-  abbrev first_told : ℕ → List Told
-  first_told zero = []
-  first_told (suc k) = first_told k ++ next_told (first_told k) ∷ []
+  abbrev first_responses : ℕ → List Response
+  first_responses zero = []
+  first_responses (suc k) = first_responses k ++ next_response (first_responses k) ∷ []
 
-  abbrev ArePlanned : List Told → Type 0
-  ArePlanned told = All (IsAsPlanned scripts) (all_tried_for notice (tries_of start told))
+  abbrev ArePlanned : List Response → Type 0
+  ArePlanned responses = All (IsAsPlanned scripts) (all_tried_for notice (tries_of start responses))
 
-  abbrev Has : List Told → Outcome → Type 0
-  Has told outcome = HasOutcome start notice.deadline told outcome
+  abbrev Has : List Response → Outcome → Type 0
+  Has responses outcome = HasOutcome start notice.deadline responses outcome
 
   -- answers that are as planned are the first of them
-  are_first : (n : ℕ) (told : List Told) → length told ≡ n → ArePlanned told → told ≡ first_told n
-  are_first zero told none planned = no_items told none
-  are_first (suc n) told long planned =
-      let split = last_of n told long in
+  are_first : (n : ℕ) (responses : List Response) → length responses ≡ n → ArePlanned responses → responses ≡ first_responses n
+  are_first zero responses none planned = no_items responses none
+  are_first (suc n) responses long planned =
+      let split = last_of n responses long in
       let us = split.0 in
       let t = split.1 in
       let last : Try = record { attempt = length us + 1; at = attempt_after start us; answer = t.answer; ended = t.ended } in
@@ -69,33 +69,33 @@ module _ (scripts : List Script) (start : ℕ) (notice : NoticeData) where
       ap (map (tried_for notice)) (one_more_try start us t) ∙ map-append (tried_for notice) (tries_of start us) (last ∷ [])
       in
       let all = subst (All (IsAsPlanned scripts)) tries (subst ArePlanned split.2 planned) in
-      let before : us ≡ first_told n = are_first n us split.3 (all_front (IsAsPlanned scripts) (all_tried_for notice (tries_of start us)) (tried_for notice last ∷ []) all) in
+      let before : us ≡ first_responses n = are_first n us split.3 (all_front (IsAsPlanned scripts) (all_tried_for notice (tries_of start us)) (tried_for notice last ∷ []) all) in
       let here : IsAsPlanned scripts (tried_for notice last) =
       All-head (IsAsPlanned scripts) (tried_for notice last) [] (all_behind (IsAsPlanned scripts) (all_tried_for notice (tries_of start us)) (tried_for notice last ∷ []) all)
       in
-      let same : t ≡ next_told us = ap (λ (s : Sent). record { answer = s.answer; ended = s.ended }) here in
-      split.2 ∙ (ap (λ (x : Told). us ++ x ∷ []) same ∙ ap (λ (xs : List Told). xs ++ next_told xs ∷ []) before)
+      let same : t ≡ next_response us = ap (λ (s : Sent). record { answer = s.answer; ended = s.ended }) here in
+      split.2 ∙ (ap (λ (x : Response). us ++ x ∷ []) same ∙ ap (λ (xs : List Response). xs ++ next_response xs ∷ []) before)
 
   -- more of them begin with fewer
-  more_told : (d k n : ℕ) → n ≡ suc (d + k) → (rest : List Told) × (first_told n ≡ first_told k ++ next_told (first_told k) ∷ rest)
-  more_told zero k n is =
+  more_responses : (d k n : ℕ) → n ≡ suc (d + k) → (rest : List Response) × (first_responses n ≡ first_responses k ++ next_response (first_responses k) ∷ rest)
+  more_responses zero k n is =
       let next : n ≡ suc k = omega (arith, is) in
-      ([], ap first_told next)
-  more_told (suc d) k n is =
-      let later = more_told d (suc k) n (omega (arith, is)) in (
-        next_told (first_told (suc k)) ∷ later.0,
-        later.1 ∙ append_assoc (first_told k) (next_told (first_told k) ∷ []) (next_told (first_told (suc k)) ∷ later.0),
+      ([], ap first_responses next)
+  more_responses (suc d) k n is =
+      let later = more_responses d (suc k) n (omega (arith, is)) in (
+        next_response (first_responses (suc k)) ∷ later.0,
+        later.1 ∙ append_assoc (first_responses k) (next_response (first_responses k) ∷ []) (next_response (first_responses (suc k)) ∷ later.0),
       )
 
   -- where more of them have an outcome, fewer ask for an attempt more
-  asks_more : (d k n : ℕ) (outcome : Outcome) → n ≡ suc (d + k) → Has (first_told n) outcome → Has (first_told k) Starved
+  asks_more : (d k n : ℕ) (outcome : Outcome) → n ≡ suc (d + k) → Has (first_responses n) outcome → Has (first_responses k) Starved
   asks_more d k n outcome is has =
-      let more = more_told d k n is in
-      has_front start notice.deadline (first_told k) (next_told (first_told k)) more.0 outcome (subst (λ (told : List Told). Has told outcome) more.1 has)
+      let more = more_responses d k n is in
+      has_front start notice.deadline (first_responses k) (next_response (first_responses k)) more.0 outcome (subst (λ (responses : List Response). Has responses outcome) more.1 has)
 
-  not_fewer : (d k n : ℕ) (one other : Outcome) → is_starved one ≡ false → n ≡ suc (d + k) → Has (first_told k) one → Has (first_told n) other → ⊥
+  not_fewer : (d k n : ℕ) (one other : Outcome) → is_starved one ≡ false → n ≡ suc (d + k) → Has (first_responses k) one → Has (first_responses n) other → ⊥
   not_fewer d k n one other fed is has later =
-      let starved = never_both start notice.deadline (first_told k) one Starved has (asks_more d k n other is later) in
+      let starved = never_both start notice.deadline (first_responses k) one Starved has (asks_more d k n other is later) in
       absurd (cc (ap is_starved starved, fed))
 
   -- two reports that are so sent are one
@@ -103,22 +103,22 @@ module _ (scripts : List Script) (start : ℕ) (notice : NoticeData) where
   same_report one other a b =
       let first = a.0 in
       let second = b.0 in
-      let k = length first.told in
-      let n = length second.told in
-      let told : first.told ≡ first_told k = are_first k first.told refl first.answered in
-      let says : second.told ≡ first_told n = are_first n second.told refl second.answered in
-      let has : Has (first_told k) one.outcome = subst (λ (ts : List Told). Has ts one.outcome) told first.has in
-      let got : Has (first_told n) other.outcome = subst (λ (ts : List Told). Has ts other.outcome) says second.has in
+      let k = length first.responses in
+      let n = length second.responses in
+      let responses : first.responses ≡ first_responses k = are_first k first.responses refl first.answered in
+      let says : second.responses ≡ first_responses n = are_first n second.responses refl second.answered in
+      let has : Has (first_responses k) one.outcome = subst (λ (ts : List Response). Has ts one.outcome) responses first.has in
+      let got : Has (first_responses n) other.outcome = subst (λ (ts : List Response). Has ts other.outcome) says second.has in
       let count : k ≡ n =
       apart k n (k ≡ n)
       (λ e. e)
       (λ d e. absurd (not_fewer d k n one.outcome other.outcome a.1 e has got))
       (λ d e. absurd (not_fewer d n k other.outcome one.outcome b.1 e got has))
       in
-      let same : first.told ≡ second.told = told ∙ (ap first_told count ∙ sym says) in
-      let outcome = never_both start notice.deadline first.told one.outcome other.outcome first.has (subst (λ (ts : List Told). Has ts other.outcome) (sym same) second.has) in
-      let attempts = first.attempts_are ∙ (ap (λ (ts : List Told). length ts) same ∙ sym second.attempts_are) in
-      let ended = first.end_is ∙ (ap (λ (ts : List Told). end_after start ts) same ∙ sym second.end_is) in
+      let same : first.responses ≡ second.responses = responses ∙ (ap first_responses count ∙ sym says) in
+      let outcome = never_both start notice.deadline first.responses one.outcome other.outcome first.has (subst (λ (ts : List Response). Has ts other.outcome) (sym same) second.has) in
+      let attempts = first.attempts_are ∙ (ap (λ (ts : List Response). length ts) same ∙ sym second.attempts_are) in
+      let ended = first.end_is ∙ (ap (λ (ts : List Response). end_after start ts) same ∙ sym second.end_is) in
       let desk = first.names.0 ∙ sym second.names.0 in
       let ticket = first.names.1 ∙ sym second.names.1 in
       let integration = first.names.2 ∙ sym second.names.2 in

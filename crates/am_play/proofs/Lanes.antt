@@ -1,4 +1,4 @@
--- Lanes and their seats.
+-- Lanes and their states.
 use Rattle.std.proofs.Common.{◌≡◌, ℕ, ◌+◌, ◌<◌, ◌≤◌, All, subst, List, [], ◌∷◌, ◌++◌, length, get_or, set, take, map, refl, sym, ap, ◌∙◌, append_assoc, arith}
 use Rattle.std.specs.List.{enumerate_from, range_with_len, remove}
 use Rattle.std.proofs.lemmas.List.{map-append, take_more, take_more_set}
@@ -7,14 +7,14 @@ use Rattle.am_desk.specs.Desks.{AreFresh}
 use Rattle.am_desk.specs.Known.{Seen}
 use Rattle.std.proofs.lemmas.List.FromFn.{length-enumerate_from, get_or-enumerate_from}
 
--- one pass more has its seat, and one fewer is left
+-- one pass more has its state, and one fewer is left
 pub seat_more : {S P : Type 0} (f : S → P) (ss : List S) (s : S) (ps : List P) (p : P) → 0 < length ps → p ≡ get_or ps 0 p → f s ≡ p → map f (ss ++ s ∷ []) ++ remove ps 0 ≡ map f ss ++ ps
 seat_more f ss s [] p some here same = absurd (omega arith)
 seat_more f ss s (x ∷ ps) p some here same =
     ap (λ qs. qs ++ ps) (map-append f ss (s ∷ []))
     ∙ (append_assoc (map f ss) (f s ∷ []) ps ∙ ap (λ q. map f ss ++ q ∷ ps) (same ∙ here))
 
--- one lane more has its seat
+-- one lane more has its state
 pub lane_more : {S L C : Type 0} (f : S → C) (g : L → C) (ss : List S) (s : S) (ls : List L) (x : L) (n : ℕ) → n < length ss → n < length ls → x ≡ get_or ls n x → f s ≡ g x
     → map f (take n ss) ≡ map g (take n ls) → map f (take (n + 1) (set ss n s)) ≡ map g (take (n + 1) ls)
 lane_more f g ss s ls x n here there is same so_far =

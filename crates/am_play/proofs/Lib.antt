@@ -4,7 +4,7 @@ pub mod Calls
 pub mod Lanes
 pub mod Noting
 pub mod Phases
-pub mod Seats
+pub mod LaneStates
 pub mod Crossing
 pub mod Sendings
 pub mod Steps

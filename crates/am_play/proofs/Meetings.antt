@@ -7,21 +7,21 @@ use Rattle.std.proofs.lemmas.List.Elements.{AllZip-push}
 use Rattle.am_model.specs.declared.record.Call.{Call}
 use Rattle.am_model.specs.declared.record.Record.{Record}
 use Rattle.am_desk.specs.History.{own}
-use Rattle.am_desk.specs.Known.{Looks, Seen}
+use Rattle.am_desk.specs.Known.{Observes, Seen}
 use Rattle.am_desk.specs.declared.word.Terms.{Terms}
 use Rattle.am_desk.proofs.Histories.{own_prefix}
 use Rattle.am_desk.proofs.Prefixes.{prefix_trans}
-use Rattle.am_play.specs.Beside.{MadeBetween, Meets, MeetsAll, RanBeside}
+use Rattle.am_play.specs.Interleaving.{CalledBetween, Meets, MeetsAll, RanConcurrently}
 use Rattle.am_play.specs.Lanes.{call_at}
-use Rattle.am_play.specs.Seats.{MadeCalls, MadeLanes}
+use Rattle.am_play.specs.LaneStates.{MadeCalls, MadeLanes}
 use Rattle.am_play.specs.Steps.{MadeRecords, Notes}
-use Rattle.am_play.specs.Turns.{AreNoted}
+use Rattle.am_play.specs.Turns.{AreNotesWithRoom}
 use Rattle.am_scenario.specs.declared.scenario.Lane.{Lane}
 use Rattle.am_play.proofs.Calls.{more_made}
 use Rattle.am_play.proofs.Steps.{looked_records, more_records, no_records}
 
 -- two passes that met
-pub passes_met : (t : Terms) (p q l m : Seen) → Looks t p q × IsPrefix l.log q.log → Looks t l m × IsPrefix q.log m.log → MadeRecords [] p q × Meets p q l m
+pub passes_met : (t : Terms) (p q l m : Seen) → Observes t p q × IsPrefix l.log q.log → Observes t l m × IsPrefix q.log m.log → MadeRecords [] p q × Meets p q l m
 passes_met t p q l m one other = (
   looked_records t p q one.0,
   (looked_records t l m other.0, prefix_trans p.log q.log m.log one.0.begins other.1, one.1),
@@ -137,7 +137,7 @@ starts p q k l m met same = (
   subst (λ (rs : List Record). IsPrefix (own k.number p.log) rs) (met.0.1 ∙ append-nil (own k.number k.log)) (own_prefix k.number p.log l.log met.1),
 )
 
-made_between : (p q r k m n : Seen) → Starts p k m → Meets q r m n → MadeBetween p.log r.log k n
+made_between : (p q r k m n : Seen) → Starts p k m → Meets q r m n → CalledBetween p.log r.log k n
 made_between p q r k m n start met =
     let own_is : own m.number m.log ≡ own m.number n.log = sym (met.0.1 ∙ append-nil (own m.number m.log)) in
     record {
@@ -149,12 +149,12 @@ made_between p q r k m n start met =
     }
 
 -- lanes that were run between two meetings
-pub ran_beside : (at : ℕ) (xs : List Lane) (p q r : Seen) (ks ls ms ns : List Seen) → MeetsAll p q ks ls → MadeLanes at xs ls ms → MeetsAll q r ms ns → RanBeside p r ks ns
+pub ran_beside : (at : ℕ) (xs : List Lane) (p q r : Seen) (ks ls ms ns : List Seen) → MeetsAll p q ks ls → MadeLanes at xs ls ms → MeetsAll q r ms ns → RanConcurrently p r ks ns
 ran_beside at xs p q r ks ls ms ns first made last =
     record {
       quiet = more_records [] [] p q r first.quiet last.quiet;
       each =
-          zip_through (Starts p) (Meets q r) (MadeBetween p.log r.log) ks ms ns (λ k m n start met. made_between p q r k m n start met)
+          zip_through (Starts p) (Meets q r) (CalledBetween p.log r.log) ks ms ns (λ k m n start met. made_between p q r k m n start met)
           (zip_through (Meets p q) SameNumber (Starts p) ks ls ms (λ k l m met same. starts p q k l m met same) first.each (lanes_numbers at xs ls ms made)) last.each;
     }
 
@@ -166,6 +166,6 @@ quiet_first t calls p q r quiet notes =
       records = notes.records;
       made = more_records [] notes.records p q r quiet notes.made;
       noted =
-          subst (λ (xs : List Record). AreNoted t p.number r.log xs calls notes.records) same
-          (subst (λ (n : ℕ). AreNoted t n r.log (own n q.log) calls notes.records) quiet.0 notes.noted);
+          subst (λ (xs : List Record). AreNotesWithRoom t p.number r.log xs calls notes.records) same
+          (subst (λ (n : ℕ). AreNotesWithRoom t n r.log (own n q.log) calls notes.records) quiet.0 notes.noted);
     }

@@ -21,45 +21,45 @@ use Rattle.am_model.specs.declared.record.Call.{Call}
 use Rattle.am_model.specs.declared.record.Record.{Record}
 use Rattle.am_desk.specs.Calls.{Called, why_note}
 use Rattle.am_desk.specs.History.{own}
-use Rattle.am_desk.specs.Known.{Looks, Seen}
+use Rattle.am_desk.specs.Known.{Observes, Seen}
 use Rattle.am_desk.specs.declared.word.Terms.{Terms}
 use Rattle.am_desk.proofs.Prefixes.{prefix_self, prefix_trans}
 use Rattle.am_retry.specs.declared.outcome.Outcome.{Outcome}
 use Rattle.am_play.specs.Steps.{Notes, end_on, is_recorded_success, note_at, note_of, notes_of, notes_of_all}
-use Rattle.am_play.specs.Turns.{AreNoted, HasNoRoom, Once, report_on}
+use Rattle.am_play.specs.Turns.{AreNotesWithRoom, FailsHistoryFull, AtSomePrefix, report_on}
 use Rattle.am_play.proofs.Steps.{looked_records, more_records, no_records, one_record}
 
 -- what was once so was so, seen from later
 pub once_longer : (pass : ℕ) (history later records : List Record) (Holds : List Record → Type 0) → IsPrefix history later
-    → Once pass history records Holds → Once pass later records Holds
+    → AtSomePrefix pass history records Holds → AtSomePrefix pass later records Holds
 once_longer pass history later records Holds longer once = (once.0, prefix_trans once.0 history later once.1 longer, once.2, once.3)
 
 -- the first of these calls is noted, and the others are
 abbrev IsNoted : Terms → ℕ → List Record → List Record → Call → List Call → List Record → Type 0
 IsNoted t pass history before c cs notes =
-    (r : Record) × (rs : List Record) × (notes ≡ r ∷ rs) × (r.call ≡ c) × AreNoted t pass history (before ++ r ∷ []) cs rs
+    (r : Record) × (rs : List Record) × (notes ≡ r ∷ rs) × (r.call ≡ c) × AreNotesWithRoom t pass history (before ++ r ∷ []) cs rs
 
 -- there was no room for the first of these notes, and the others are noted
 abbrev IsLeft : Terms → ℕ → List Record → List Record → List Call → List Record → Type 0
-IsLeft t pass history before cs notes = Once pass history before (HasNoRoom t) × AreNoted t pass history before cs notes
+IsLeft t pass history before cs notes = AtSomePrefix pass history before (FailsHistoryFull t) × AreNotesWithRoom t pass history before cs notes
 
 pub noted_longer : (t : Terms) (pass : ℕ) (history later before : List Record) (calls : List Call) (notes : List Record) → IsPrefix history later
-    → AreNoted t pass history before calls notes → AreNoted t pass later before calls notes
+    → AreNotesWithRoom t pass history before calls notes → AreNotesWithRoom t pass later before calls notes
 noted_longer t pass history later before [] notes longer noted = noted
 noted_longer t pass history later before (c ∷ cs) notes longer noted =
     ⊎_elim
     (λ (one : IsNoted t pass history before c cs notes).
     inl (one.0, one.1, one.2, one.3, noted_longer t pass history later (before ++ one.0 ∷ []) cs one.1 longer one.4))
     (λ (left : IsLeft t pass history before cs notes).
-    inr (once_longer pass history later before (HasNoRoom t) longer left.0, noted_longer t pass history later before cs notes longer left.1))
+    inr (once_longer pass history later before (FailsHistoryFull t) longer left.0, noted_longer t pass history later before cs notes longer left.1))
     noted
 
 -- these notes, and then those
-pub noted_more : (t : Terms) (pass : ℕ) (history before : List Record) (cs ds : List Call) (rs ss : List Record) → AreNoted t pass history before cs rs
-    → AreNoted t pass history (before ++ rs) ds ss → AreNoted t pass history before (cs ++ ds) (rs ++ ss)
+pub noted_more : (t : Terms) (pass : ℕ) (history before : List Record) (cs ds : List Call) (rs ss : List Record) → AreNotesWithRoom t pass history before cs rs
+    → AreNotesWithRoom t pass history (before ++ rs) ds ss → AreNotesWithRoom t pass history before (cs ++ ds) (rs ++ ss)
 noted_more t pass history before [] ds rs ss first after =
-    subst (λ (xs : List Record). AreNoted t pass history before ds (xs ++ ss)) (sym first)
-    (subst (λ (xs : List Record). AreNoted t pass history xs ds ss) (ap (λ (xs : List Record). before ++ xs) first ∙ append-nil before) after)
+    subst (λ (xs : List Record). AreNotesWithRoom t pass history before ds (xs ++ ss)) (sym first)
+    (subst (λ (xs : List Record). AreNotesWithRoom t pass history xs ds ss) (ap (λ (xs : List Record). before ++ xs) first ∙ append-nil before) after)
 noted_more t pass history before (c ∷ cs) ds rs ss first after =
     ⊎_elim
     (λ (one : IsNoted t pass history before c cs rs).
@@ -69,7 +69,7 @@ noted_more t pass history before (c ∷ cs) ds rs ss first after =
       ap (λ (xs : List Record). xs ++ ss) one.2,
       one.3,
       noted_more t pass history (before ++ one.0 ∷ []) cs ds one.1 ss one.4
-          (subst (λ (xs : List Record). AreNoted t pass history xs ds ss)
+          (subst (λ (xs : List Record). AreNotesWithRoom t pass history xs ds ss)
           (ap (λ (xs : List Record). before ++ xs) one.2 ∙ sym (append_assoc before (one.0 ∷ []) one.1)) after),
     ))
     (λ (left : IsLeft t pass history before cs rs). inr (left.0, noted_more t pass history before cs ds rs ss left.1 after))
@@ -88,8 +88,8 @@ notes_more t cs ds p q r first after =
       noted =
           noted_more t p.number r.log before cs ds first.records after.records
           (noted_longer t p.number q.log r.log before cs first.records after.made.2 first.noted)
-          (subst (λ (xs : List Record). AreNoted t p.number r.log xs ds after.records) first.made.1
-          (subst (λ (n : ℕ). AreNoted t n r.log (own n q.log) ds after.records) first.made.0 after.noted));
+          (subst (λ (xs : List Record). AreNotesWithRoom t p.number r.log xs ds after.records) first.made.1
+          (subst (λ (n : ℕ). AreNotesWithRoom t n r.log (own n q.log) ds after.records) first.made.0 after.noted));
     }
 
 -- an accepted note
@@ -129,13 +129,13 @@ full_ours true cause e = e
 full_ours false cause e = absurd (cc)
 
 -- a note that was refused for it had no room
-pub had_no_room : (t : Terms) (ticket : TicketData) (place : ℕ) (h : List Record) → why_note t ticket place h ≡ Some note.HistoryFull → HasNoRoom t h
+pub had_no_room : (t : Terms) (ticket : TicketData) (place : ℕ) (h : List Record) → why_note t ticket place h ≡ Some note.HistoryFull → FailsHistoryFull t h
 had_no_room t ticket place h why =
     let f = flush_numbered (replay t.config h).flushes ticket.number in
     full_flush t.config (length h) (replay t.config h) ticket place f (full_ours _ (flush_cause t.config (length h) (replay t.config h) ticket place f) why)
 
 -- a note for which there was no room
-pub note_left : (t : Terms) (p q : Seen) (ticket : TicketData) (place : ℕ) (c : Call) → Looks t p q → why_note t ticket place q.log ≡ Some note.HistoryFull → Notes t (c ∷ []) p q
+pub note_left : (t : Terms) (p q : Seen) (ticket : TicketData) (place : ℕ) (c : Call) → Observes t p q → why_note t ticket place q.log ≡ Some note.HistoryFull → Notes t (c ∷ []) p q
 note_left t p q ticket place c looks why =
     record {
       records = [];

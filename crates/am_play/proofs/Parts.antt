@@ -10,18 +10,18 @@ use Rattle.std.proofs.lemmas.List.Elements.{All-cons, All-head, All-nil, All-res
 use Rattle.am_model.specs.declared.notice.Report.{Report}
 use Rattle.am_model.specs.declared.record.Call.{Call}
 use Rattle.am_model.specs.declared.record.Record.{Record}
-use Rattle.am_desk.specs.Desks.{AreFresh, Stands}
+use Rattle.am_desk.specs.Desks.{AreFresh, IsPrefixViewOf}
 use Rattle.am_desk.specs.History.{own, made}
 use Rattle.am_desk.specs.Known.{Seen}
 use Rattle.am_desk.proofs.Histories.{own-append, own_prefix}
 use Rattle.am_desk.proofs.Prefixes.{prefix_both, prefix_nil, prefix_trans}
 use Rattle.am_desk.specs.declared.word.Terms.{Terms}
 use Rattle.am_pool.specs.declared.courier.Tried.{Tried}
-use Rattle.am_play.specs.Beside.{HadNoParts, HadParts, HasNoMore, MadeBetween, TookPart}
+use Rattle.am_play.specs.Interleaving.{BeforePhases, AfterPhases, HasNoOtherCalls, CalledBetween, RunsPhase}
 use Rattle.am_play.specs.Lanes.{calls_at, calls_by, phase_calls}
-use Rattle.am_play.specs.Parts.{ArePartsOf, IsPartOf, Part, all_in}
-use Rattle.am_play.specs.Seats.{HaveMade, MadeCalls, MadeLanes}
-use Rattle.am_play.specs.Turns.{Turn, records_in}
+use Rattle.am_play.specs.Parts.{SplitsByPhase, AreRecordsOfPhase, PhaseRecords, all_in}
+use Rattle.am_play.specs.LaneStates.{HaveMade, MadeCalls, MadeLanes}
+use Rattle.am_play.specs.Turns.{MainSteps, records_in}
 use Rattle.am_scenario.specs.declared.scenario.Lane.{Lane}
 use Rattle.am_scenario.specs.declared.scenario.Phase.{Phase}
 use Rattle.am_play.proofs.Turns.{no_turns, turn_more, turns_more, turns_none, zip_push}
@@ -136,7 +136,7 @@ record PassOver (p begun joined s : List Record) (l m : Seen) : Type 0 where
   ends : own l.number s ≡ own l.number m.log
 
 pass_over : (p begun joined s : List Record) (l m : Seen) → IsPrefix p begun → IsPrefix joined s → IsPrefix (own l.number l.log) (own l.number p)
-    → IsPrefix (own m.number s) (own m.number m.log) → MadeBetween begun joined l m → PassOver p begun joined s l m
+    → IsPrefix (own m.number s) (own m.number m.log) → CalledBetween begun joined l m → PassOver p begun joined s l m
 pass_over p begun joined s l m first last had no_more between =
     let n = l.number in
     let to : IsPrefix (own n s) (own n m.log) = subst (λ (k : ℕ). IsPrefix (own k s) (own k m.log)) between.number no_more in
@@ -193,16 +193,16 @@ in_order (p ∷ ps) bs ys ns fs = ap (λ (rs : List Record). p ∷ rs) (in_order
 record PartOver (Answers : Tried → Type 0) (desk : Terms) (phases : List Phase) (phase : Phase) (p s : Seen) (ls ms : List Seen) (reports since : List Report) : Type 0 where
   have : HaveMade 0 phases ls
   lanes : MadeLanes phase.at phase.lanes.items ls ms
-  had : HadParts Answers desk phases p ls reports
-  took : TookPart Answers desk phase p s ls ms reports since
-  no_more : HasNoMore ms s.log
+  had : AfterPhases Answers desk phases p ls reports
+  took : RunsPhase Answers desk phase p s ls ms reports since
+  no_more : HasNoOtherCalls ms s.log
 
 -- each pass over the phase
 passes_over : (Answers : Tried → Type 0) (desk : Terms) (phases : List Phase) (phase : Phase) (p s : Seen) (ls ms : List Seen) (reports since : List Report)
     → (o : PartOver Answers desk phases phase p s ls ms reports since) → AllZip (PassOver p.log o.took.begun.log o.took.joined.log s.log) ls ms
 passes_over Answers desk phases phase p s ls ms reports since o =
     let t = o.took in
-    zip_weaker (MadeBetween t.begun.log t.joined.log) (PassOver p.log t.begun.log t.joined.log s.log)
+    zip_weaker (CalledBetween t.begun.log t.joined.log) (PassOver p.log t.begun.log t.joined.log s.log)
     (λ (l : Seen). IsPrefix (own l.number l.log) (own l.number p.log)) (λ (m : Seen). IsPrefix (own m.number s.log) (own m.number m.log)) ls ms
     (λ l m had no_more between. pass_over p.log t.begun.log t.joined.log s.log l m t.begins.2 t.ends.2 had no_more between)
     o.had.sees o.no_more.each t.beside.each
@@ -212,9 +212,9 @@ others_before : (k : ℕ) (ls ms : List Seen) (xs ys : List Record) → length l
 others_before k ls ms xs ys same begins others more = none_before k xs ys begins (others k (omega (arith, same, more)))
 
 -- the part of a phase that is over, and how the list goes on with it
-record PartMade (phase : Phase) (turn : Turn) (before since : List Record) : Type 0 where
+record PartMade (phase : Phase) (turn : MainSteps) (before since : List Record) : Type 0 where
   beside : List Record
-  is : IsPartOf phase (record { turn = turn; beside = beside })
+  is : AreRecordsOfPhase phase (record { turn = turn; beside = beside })
   made : since ≡ before ++ all_in (record { turn = turn; beside = beside })
 
 part_made : (Answers : Tried → Type 0) (desk : Terms) (phases : List Phase) (phase : Phase) (p s : Seen) (ls ms : List Seen) (reports since : List Report)
@@ -287,19 +287,19 @@ flat_more {X} {Y} f xs x front all so_far more =
     ∙ sym (flat_map-append f xs (x ∷ []) ∙ ap (λ (ys : List Y). flat_map f xs ++ ys) (append-nil (f x))))
 
 -- before the phase nobody had more than it had made
-no_more_before : (p s : Seen) (ls ms : List Seen) (begun joined : List Record) → IsPrefix p.log begun → IsPrefix p.log s.log → AllZip (MadeBetween begun joined) ls ms → HasNoMore ms s.log
-    → HasNoMore ls p.log
+no_more_before : (p s : Seen) (ls ms : List Seen) (begun joined : List Record) → IsPrefix p.log begun → IsPrefix p.log s.log → AllZip (CalledBetween begun joined) ls ms → HasNoOtherCalls ms s.log
+    → HasNoOtherCalls ls p.log
 no_more_before p s ls ms begun joined first all between no_more =
     record {
       each =
-          zip_firsts (MadeBetween begun joined) (λ (l : Seen). IsPrefix (own l.number p.log) (own l.number l.log)) ls ms
+          zip_firsts (CalledBetween begun joined) (λ (l : Seen). IsPrefix (own l.number p.log) (own l.number l.log)) ls ms
           (λ l m x. prefix_trans (own l.number p.log) (own l.number begun) (own l.number l.log) (own_prefix l.number p.log begun first) x.starts) between;
-      others = λ k more. others_before k ls ms p.log s.log (zip_length (MadeBetween begun joined) ls ms between) all no_more.others more;
+      others = λ k more. others_before k ls ms p.log s.log (zip_length (CalledBetween begun joined) ls ms between) all no_more.others more;
     }
 
 -- one part more
 part_more : (Answers : Tried → Type 0) (desk : Terms) (phases : List Phase) (phase : Phase) (p s : Seen) (ls ms : List Seen) (reports since : List Report) → HaveMade 0 phases ls
-    → MadeLanes phase.at phase.lanes.items ls ms → HadParts Answers desk phases p ls reports → TookPart Answers desk phase p s ls ms reports since → HadParts Answers desk (phases ++ phase ∷ []) s ms since
+    → MadeLanes phase.at phase.lanes.items ls ms → AfterPhases Answers desk phases p ls reports → RunsPhase Answers desk phase p s ls ms reports since → AfterPhases Answers desk (phases ++ phase ∷ []) s ms since
 part_more Answers desk phases phase p s ls ms reports since have lanes had t =
     let turn = t.took.turn in
     let begun = t.begun.log in
@@ -309,18 +309,18 @@ part_more Answers desk phases phase p s ls ms reports since have lanes had t =
     record {
       main = turn_more Answers desk phases phase p s reports since had.main t.took;
       sees =
-          zip_seconds (MadeBetween begun joined) (λ (m : Seen). IsPrefix (own m.number m.log) (own m.number s.log)) ls ms
+          zip_seconds (CalledBetween begun joined) (λ (m : Seen). IsPrefix (own m.number m.log) (own m.number s.log)) ls ms
           (λ l m x. prefix_trans (own m.number m.log) (own m.number joined) (own m.number s.log) x.ends (own_prefix m.number joined s.log t.ends.2)) t.beside.each;
       parts = λ no_more.
           let before = had.parts (no_more_before p s ls ms begun joined t.begins.2 all t.beside.each no_more) in
           let one = part_made Answers desk phases phase p s ls ms reports since (record { have = have; lanes = lanes; had = had; took = t; no_more = no_more }) in
-          let part : Part = record { turn = turn; beside = one.beside } in
+          let part : PhaseRecords = record { turn = turn; beside = one.beside } in
           record {
             parts = before.parts ++ part ∷ [];
             turned =
-                map-append (λ (x : Part). x.turn) before.parts (part ∷ [])
-                ∙ (ap (λ (us : List Turn). us ++ turn ∷ []) before.turned ∙ sym (turns_more Answers desk phases phase p s reports since had.main t.took));
-            each = zip_push IsPartOf phases before.parts phase part before.each one.is;
+                map-append (λ (x : PhaseRecords). x.turn) before.parts (part ∷ [])
+                ∙ (ap (λ (us : List MainSteps). us ++ turn ∷ []) before.turned ∙ sym (turns_more Answers desk phases phase p s reports since had.main t.took));
+            each = zip_push AreRecordsOfPhase phases before.parts phase part before.each one.is;
             made = flat_more all_in before.parts part p.log s.log before.made one.made;
           };
     }
@@ -328,23 +328,23 @@ part_more Answers desk phases phase p s ls ms reports since have lanes had t =
 -- the part of the next phase of a list
 pub part_next : (Answers : Tried → Type 0) (desk : Terms) (phases : List Phase) (n m : ℕ) (phase : Phase) (p q : Seen) (ls ms : List Seen) (reports since : List Report) → m ≡ n + 1 → n < length phases
     → phase ≡ get_or phases n phase → HaveMade 0 (take n phases) ls → MadeLanes phase.at phase.lanes.items ls ms
-    → HadParts Answers desk (take n phases) p ls reports → TookPart Answers desk phase p q ls ms reports since → HadParts Answers desk (take m phases) q ms since
+    → AfterPhases Answers desk (take n phases) p ls reports → RunsPhase Answers desk phase p q ls ms reports since → AfterPhases Answers desk (take m phases) q ms since
 part_next Answers desk phases n m phase p q ls ms reports since next there is have lanes had took =
     let longer : take m phases ≡ take n phases ++ phase ∷ [] =
     ap (λ (k : ℕ). take k phases) next ∙ (take_more phases n phase there ∙ ap (λ (x : Phase). take n phases ++ x ∷ []) (sym is))
     in
-    subst (λ (xs : List Phase). HadParts Answers desk xs q ms since) (sym longer) (part_more Answers desk (take n phases) phase p q ls ms reports since have lanes had took)
+    subst (λ (xs : List Phase). AfterPhases Answers desk xs q ms since) (sym longer) (part_more Answers desk (take n phases) phase p q ls ms reports since have lanes had took)
 
 -- a history in which all passes stand, and no other made a call, is made of these parts
 pub parts_stand : (Answers : Tried → Type 0) (desk : Terms) (phases : List Phase) (p : Seen) (ls : List Seen) (reports : List Report) (history : List Record) → HaveMade 0 phases ls
-    → (had : HadParts Answers desk phases p ls reports) → Stands p history → All (λ (l : Seen). Stands l history) ls → ((k : ℕ) → length ls < k → made k history ≡ 0)
-    → ArePartsOf phases had.main.1.turns history
+    → (had : AfterPhases Answers desk phases p ls reports) → IsPrefixViewOf p history → All (λ (l : Seen). IsPrefixViewOf l history) ls → ((k : ℕ) → length ls < k → made k history ≡ 0)
+    → SplitsByPhase phases had.main.1.turns history
 parts_stand Answers desk phases p ls reports history have had stands each others =
     let none : (k : ℕ) → length ls < k → own k history ≡ [] = λ k more. nil_from_length (own k history) (others k more) in
-    let no_more : HasNoMore ls p.log =
+    let no_more : HasNoOtherCalls ls p.log =
     record {
       each =
-          All-weaker (λ (l : Seen). Stands l history) (λ (l : Seen). IsPrefix (own l.number p.log) (own l.number l.log))
+          All-weaker (λ (l : Seen). IsPrefixViewOf l history) (λ (l : Seen). IsPrefix (own l.number p.log) (own l.number l.log))
           (λ l s. subst (λ (rs : List Record). IsPrefix (own l.number p.log) rs) s.1 (own_prefix l.number p.log history stands.0)) ls each;
       others = λ k more. none_before k p.log history stands.0 (none k more);
     }
@@ -359,7 +359,7 @@ parts_stand Answers desk phases p ls reports history have had stands each others
     (of_each (λ (k : ℕ). own k history ≡ own k p.log) 0 phases ls have both (λ k more. none k (omega (arith, more)) ∙ sym (no_more.others k (omega (arith, more)))))
     (subst (λ (n : ℕ). own n history ≡ own n p.log) had.main.0 stands.1 ∙ sym (append-nil (own 0 p.log)))
     in
-    subst (λ (rs : List Record). ArePartsOf phases had.main.1.turns rs) (sym (whole ∙ append-nil p.log)) (had.parts no_more)
+    subst (λ (rs : List Record). SplitsByPhase phases had.main.1.turns rs) (sym (whole ∙ append-nil p.log)) (had.parts no_more)
 
 -- passes that have seen nothing
 fresh_seen : (n : ℕ) (p : Seen) (ls : List Seen) → AreFresh n ls → All (λ (l : Seen). IsPrefix (own l.number l.log) (own l.number p.log)) ls
@@ -369,7 +369,7 @@ fresh_seen n p (l ∷ ls) fresh =
     (subst (λ (x : Seen). IsPrefix (own x.number x.log) (own x.number p.log)) (sym fresh.0) (prefix_nil (own n p.log))) (fresh_seen (n + 1) p ls fresh.1)
 
 -- before the first phase
-pub no_parts : (Answers : Tried → Type 0) (desk : Terms) (p : Seen) (ls : List Seen) (reports : List Report) → HadNoParts p ls reports → HadParts Answers desk [] p ls reports
+pub no_parts : (Answers : Tried → Type 0) (desk : Terms) (p : Seen) (ls : List Seen) (reports : List Report) → BeforePhases p ls reports → AfterPhases Answers desk [] p ls reports
 no_parts Answers desk p ls reports none =
     record {
       main = no_turns Answers desk p reports none.0 none.2;

@@ -2,11 +2,11 @@
 use Rattle.std.proofs.Common.{◌≡◌, ℕ, ◌+◌, ◌<◌, All, subst, List, [], ◌∷◌, ◌++◌, length, get_or, take, slice_get, vec_len, sym, ap, ◌∙◌, arith}
 use Rattle.std.proofs.lemmas.List.{take_more}
 use Rattle.am_model.specs.declared.record.Record.{Record}
-use Rattle.am_desk.specs.Desks.{Stands}
+use Rattle.am_desk.specs.Desks.{IsPrefixViewOf}
 use Rattle.am_desk.specs.History.{made}
 use Rattle.am_desk.specs.Known.{Seen}
 use Rattle.am_play.specs.Lanes.{calls_by, lane_calls}
-use Rattle.am_play.specs.Seats.{HaveMade, MadeLanes}
+use Rattle.am_play.specs.LaneStates.{HaveMade, MadeLanes}
 use Rattle.am_scenario.specs.declared.scenario.Phase.{Phase}
 use Rattle.am_play.proofs.Calls.{lanes_stand, phase_made}
 
@@ -23,7 +23,7 @@ turn_made phases n m phase ps qs next there is have since =
 -- what a run is known by when its desk is closed
 pub record Ended (phases : List Phase) (ps : List Seen) (history : List Record) (passes : ℕ) : Type 0 where
   pub have : HaveMade 0 phases ps
-  pub stand : All (λ (p : Seen). Stands p history) ps
+  pub stand : All (λ (p : Seen). IsPrefixViewOf p history) ps
   pub others : (k : ℕ) → length ps < k → made k history ≡ 0
   pub few : All (λ (p : Phase). vec_len p.lanes < passes) phases
   pub seated : length ps + 1 ≡ passes

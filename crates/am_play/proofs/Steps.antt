@@ -14,12 +14,12 @@ use Rattle.am_model.specs.declared.record.Reply.{Reply}
 use Rattle.am_model.specs.declared.record.Reply.TheVariants as reply
 use Rattle.am_desk.specs.Calls.{Called, why_begin}
 use Rattle.am_desk.specs.History.{own}
-use Rattle.am_desk.specs.Known.{Looks, Seen}
+use Rattle.am_desk.specs.Known.{Observes, Seen}
 use Rattle.am_desk.specs.declared.word.Terms.{Terms}
 use Rattle.am_board.proofs.keeping.Calls.{room_of}
 use Rattle.am_desk.proofs.Prefixes.{prefix_length, prefix_self, prefix_snoc, prefix_trans}
 use Rattle.am_play.specs.Steps.{Begins, FinishesOne, Grows, IsUnrecorded, MadeRecords, opened_of}
-use Rattle.am_play.specs.Turns.{EndRightly, EndedByNothing, FoundDue, HasManyOpen, Once, Opened, opened_by, opened_in}
+use Rattle.am_play.specs.Turns.{BeginsExhausted, EndsWithNothingDue, FoundDue, FailsTooManyOpen, AtSomePrefix, Opened, opened_by, opened_in}
 
 pub no_records : (p : Seen) → MadeRecords [] p p
 no_records p = (refl, sym (append-nil (own p.number p.log)), prefix_self p.log)
@@ -29,7 +29,7 @@ pub same_records : (p q : Seen) → q ≡ p → MadeRecords [] p q
 same_records p q same = subst (λ (x : Seen). MadeRecords [] p x) (sym same) (no_records p)
 
 -- a pass that looked
-pub looked_records : (t : Terms) (p q : Seen) → Looks t p q → MadeRecords [] p q
+pub looked_records : (t : Terms) (p q : Seen) → Observes t p q → MadeRecords [] p q
 looked_records t p q looks = (ap (λ (s : Seen). s.number) looks.same, looks.own ∙ sym (append-nil (own p.number p.log)), looks.begins)
 
 -- a pass whose call was accepted
@@ -56,10 +56,10 @@ one_finish t p q Allowed now ticket told called = (entry p.number (call.Finish n
 
 -- begins that were made before these, which all found a group due
 rightly_more : (t : Terms) (pass : ℕ) (history before : List Record) (at : ℕ) (xs ys : List Record) → All FoundDue xs
-    → EndRightly t pass history (before ++ xs) at ys → EndRightly t pass history before at (xs ++ ys)
+    → BeginsExhausted t pass history (before ++ xs) at ys → BeginsExhausted t pass history before at (xs ++ ys)
 rightly_more t pass history before at xs ys found then =
     ⊎_elim
-    (λ (nothing : EndedByNothing ys).
+    (λ (nothing : EndsWithNothingDue ys).
     inl (
       xs ++ nothing.0,
       nothing.1,
@@ -67,10 +67,10 @@ rightly_more t pass history before at xs ys found then =
       All-append FoundDue xs nothing.0 found nothing.3,
       nothing.4,
     ))
-    (λ (many : All FoundDue ys × Once pass history ((before ++ xs) ++ ys) (HasManyOpen t at)).
+    (λ (many : All FoundDue ys × AtSomePrefix pass history ((before ++ xs) ++ ys) (FailsTooManyOpen t at)).
     inr (
       All-append FoundDue xs ys found many.0,
-      subst (λ (rs : List Record). Once pass history rs (HasManyOpen t at)) (append_assoc before xs ys) many.1,
+      subst (λ (rs : List Record). AtSomePrefix pass history rs (FailsTooManyOpen t at)) (append_assoc before xs ys) many.1,
     ))
     then
 
@@ -99,7 +99,7 @@ begins_none t flush at p q ts us none same made =
     }
 
 -- as many flushes are open as may be
-pub begins_full : (t : Terms) (at : ℕ) (p q : Seen) (ts us : List TicketData) → us ≡ ts → Looks t p q → why_begin t at q.log ≡ Some fault.TooManyOpen → Begins t true false at p q ts us
+pub begins_full : (t : Terms) (at : ℕ) (p q : Seen) (ts us : List TicketData) → us ≡ ts → Observes t p q → why_begin t at q.log ≡ Some fault.TooManyOpen → Begins t true false at p q ts us
 begins_full t at p q ts us same looks why =
     record {
       begins = [];
@@ -185,8 +185,8 @@ begins_more t more at p q r ts us vs first then =
       ended =
           λ asked end.
           rightly_more t p.number r.log (own p.number p.log) at first.begins then.begins (first.found refl)
-          (subst (λ (xs : List Record). EndRightly t p.number r.log xs at then.begins) first.made.1
-          (subst (λ (n : ℕ). EndRightly t n r.log (own n q.log) at then.begins) first.made.0 (then.ended asked end)));
+          (subst (λ (xs : List Record). BeginsExhausted t p.number r.log xs at then.begins) first.made.1
+          (subst (λ (n : ℕ). BeginsExhausted t n r.log (own n q.log) at then.begins) first.made.0 (then.ended asked end)));
       opened =
           then.opened
           ∙ (ap (λ (os : List Opened). os ++ opened_by then.begins) first.opened

@@ -13,16 +13,16 @@ use Rattle.am_model.specs.declared.notice.Report.{Report}
 use Rattle.am_model.specs.declared.record.Call.{Call}
 use Rattle.am_model.specs.declared.record.Call.TheVariants as call
 use Rattle.am_model.specs.declared.record.Record.{Record}
-use Rattle.am_desk.specs.Desks.{AreFresh, Stands}
+use Rattle.am_desk.specs.Desks.{AreFresh, IsPrefixViewOf}
 use Rattle.am_desk.specs.History.{own}
 use Rattle.am_desk.specs.Known.{Seen, seen}
 use Rattle.am_desk.specs.declared.word.Terms.{Terms}
 use Rattle.am_desk.proofs.Prefixes.{prefix_trans}
 use Rattle.am_pool.specs.declared.courier.Tried.{Tried}
-use Rattle.am_play.specs.Beside.{RanFirst, TookPart}
+use Rattle.am_play.specs.Interleaving.{RanBefore, RunsPhase}
 use Rattle.am_play.specs.Sendings.{IsSentFrom}
-use Rattle.am_play.specs.Steps.{Begins, Finishes, HadTurns, IsUnrecorded, MadeRecords, Sends, TookTurn, end_on, finish_with, is_recorded_success, note_of, notes_of, notes_of_all, opened_of, recorded_all}
-use Rattle.am_play.specs.Turns.{AreNoted, AreTurnsFrom, AreTurnsOf, EndRightly, EndedByNothing, FoundDue, HasManyOpen, IsTurnOf, Once, Opened, Turn, all_notes_due, finish_of, is_success, last_end, note_on, notes_due, opened_by, outcome_in, outcomes_told, records_in, report_on, reports_on, to_send}
+use Rattle.am_play.specs.Steps.{Begins, Finishes, AfterMainSteps, IsUnrecorded, MadeRecords, Sends, RunsMainSteps, end_on, finish_with, is_recorded_success, note_of, notes_of, notes_of_all, opened_of, recorded_all}
+use Rattle.am_play.specs.Turns.{AreNotesWithRoom, AreTurnsFrom, AreAllMainStepsOf, BeginsExhausted, EndsWithNothingDue, FoundDue, FailsTooManyOpen, AreMainStepsOf, AtSomePrefix, Opened, MainSteps, all_notes_due, finish_of, is_success, last_end, note_on, notes_due, opened_by, outcome_in, outcomes_told, records_in, report_on, reports_on, to_send}
 use Rattle.am_scenario.specs.declared.scenario.Phase.{Phase}
 use Rattle.am_play.proofs.Noting.{noted_longer, once_longer}
 use Rattle.am_play.proofs.Steps.{more_records}
@@ -122,16 +122,16 @@ pub record FinishesSoFar (at : ℕ) (reports : List Report) (ts left : List Tick
 
 -- begins that ended rightly did so, seen from later
 rightly_longer : (t : Terms) (pass : ℕ) (history later before : List Record) (at : ℕ) (begins : List Record) → IsPrefix history later
-    → EndRightly t pass history before at begins → EndRightly t pass later before at begins
+    → BeginsExhausted t pass history before at begins → BeginsExhausted t pass later before at begins
 rightly_longer t pass history later before at begins longer ended =
-    ⊎_elim (λ (nothing : EndedByNothing begins). inl nothing)
-    (λ (many : All FoundDue begins × Once pass history (before ++ begins) (HasManyOpen t at)).
-    inr (many.0, once_longer pass history later (before ++ begins) (HasManyOpen t at) longer many.1))
+    ⊎_elim (λ (nothing : EndsWithNothingDue begins). inl nothing)
+    (λ (many : All FoundDue begins × AtSomePrefix pass history (before ++ begins) (FailsTooManyOpen t at)).
+    inr (many.0, once_longer pass history later (before ++ begins) (FailsTooManyOpen t at) longer many.1))
     ended
 
 -- a turn was one, seen from later
-turn_longer : (Answers : Tried → Type 0) (t : Terms) (pass : ℕ) (history later before : List Record) (phase : Phase) (turn : Turn) → IsPrefix history later
-    → IsTurnOf Answers t pass history before phase turn → IsTurnOf Answers t pass later before phase turn
+turn_longer : (Answers : Tried → Type 0) (t : Terms) (pass : ℕ) (history later before : List Record) (phase : Phase) (turn : MainSteps) → IsPrefix history later
+    → AreMainStepsOf Answers t pass history before phase turn → AreMainStepsOf Answers t pass later before phase turn
 turn_longer Answers t pass history later before phase turn longer is =
     record {
       begun = is.begun;
@@ -141,7 +141,7 @@ turn_longer Answers t pass history later before phase turn longer is =
       finished = is.finished;
     }
 
-turns_longer : (Answers : Tried → Type 0) (t : Terms) (pass : ℕ) (history later before : List Record) (phases : List Phase) (turns : List Turn) → IsPrefix history later
+turns_longer : (Answers : Tried → Type 0) (t : Terms) (pass : ℕ) (history later before : List Record) (phases : List Phase) (turns : List MainSteps) → IsPrefix history later
     → AreTurnsFrom Answers t pass history before phases turns → AreTurnsFrom Answers t pass later before phases turns
 turns_longer Answers t pass history later before [] [] longer are = tt
 turns_longer Answers t pass history later before [] (u ∷ us) longer are = absurd are
@@ -150,29 +150,29 @@ turns_longer Answers t pass history later before (p ∷ ps) (u ∷ us) longer ar
     (turn_longer Answers t pass history later before p u longer are.0, turns_longer Answers t pass history later (before ++ records_in u) ps us longer are.1)
 
 -- one turn more at the end
-turns_push : (Answers : Tried → Type 0) (t : Terms) (pass : ℕ) (history before : List Record) (phases : List Phase) (turns : List Turn) (phase : Phase) (turn : Turn) → AreTurnsFrom Answers t pass history before phases turns
-    → IsTurnOf Answers t pass history (before ++ flat_map records_in turns) phase turn → AreTurnsFrom Answers t pass history before (phases ++ phase ∷ []) (turns ++ turn ∷ [])
+turns_push : (Answers : Tried → Type 0) (t : Terms) (pass : ℕ) (history before : List Record) (phases : List Phase) (turns : List MainSteps) (phase : Phase) (turn : MainSteps) → AreTurnsFrom Answers t pass history before phases turns
+    → AreMainStepsOf Answers t pass history (before ++ flat_map records_in turns) phase turn → AreTurnsFrom Answers t pass history before (phases ++ phase ∷ []) (turns ++ turn ∷ [])
 turns_push Answers t pass history before [] [] phase turn are is =
-    (subst (λ (xs : List Record). IsTurnOf Answers t pass history xs phase turn) (append-nil before) is, tt)
+    (subst (λ (xs : List Record). AreMainStepsOf Answers t pass history xs phase turn) (append-nil before) is, tt)
 turns_push Answers t pass history before [] (u ∷ us) phase turn are is = absurd are
 turns_push Answers t pass history before (p ∷ ps) [] phase turn are is = absurd are
 turns_push Answers t pass history before (p ∷ ps) (u ∷ us) phase turn are is = (
   are.0,
   turns_push Answers t pass history (before ++ records_in u) ps us phase turn are.1
-      (subst (λ (xs : List Record). IsTurnOf Answers t pass history xs phase turn) (sym (append_assoc before (records_in u) (flat_map records_in us))) is),
+      (subst (λ (xs : List Record). AreMainStepsOf Answers t pass history xs phase turn) (sym (append_assoc before (records_in u) (flat_map records_in us))) is),
 )
 
 -- the steps of a phase are a turn
 pub turn_taken : (Answers : Tried → Type 0) (t : Terms) (phase : Phase) (p q r s : Seen) (ts us : List TicketData) (had reports since : List Report) → Begins t phase.flush false phase.at p q [] ts
-    → Sends Answers t phase.at reports ts us q r → Finishes phase.at reports us r s → since ≡ had ++ reports → TookTurn Answers t phase p s had since
+    → Sends Answers t phase.at reports ts us q r → Finishes phase.at reports us r s → since ≡ had ++ reports → RunsMainSteps Answers t phase p s had since
 turn_taken Answers t phase p q r s ts us had reports since begins sends finishes more =
     let notes = sends.noted in
     let before = own p.number p.log in
     let fresh : All IsUnrecorded ts = begins.unrecorded (All-nil IsUnrecorded) in
     let opened : map opened_of ts ≡ opened_by begins.begins = begins.opened in
-    let noted : AreNoted t p.number r.log (before ++ begins.begins) (notes_of_all phase.at reports us) notes.records =
-    subst (λ (xs : List Record). AreNoted t p.number r.log xs (notes_of_all phase.at reports us) notes.records) begins.made.1
-    (subst (λ (n : ℕ). AreNoted t n r.log (own n q.log) (notes_of_all phase.at reports us) notes.records) begins.made.0 notes.noted)
+    let noted : AreNotesWithRoom t p.number r.log (before ++ begins.begins) (notes_of_all phase.at reports us) notes.records =
+    subst (λ (xs : List Record). AreNotesWithRoom t p.number r.log xs (notes_of_all phase.at reports us) notes.records) begins.made.1
+    (subst (λ (n : ℕ). AreNotesWithRoom t n r.log (own n q.log) (notes_of_all phase.at reports us) notes.records) begins.made.0 notes.noted)
     in
     let due : notes_of_all phase.at reports us ≡ all_notes_due phase.at reports (opened_by begins.begins) =
     notes_each phase.at reports ts us sends.recorded fresh ∙ ap (all_notes_due phase.at reports) opened
@@ -189,7 +189,7 @@ turn_taken Answers t phase p q r s ts us had reports since begins sends finishes
             sent = subst (λ (os : List Opened). AllZip (IsSentFrom Answers phase.at) (to_send os) reports) opened sends.sent;
             noted =
                 noted_longer t p.number r.log s.log (before ++ begins.begins) (all_notes_due phase.at reports (opened_by begins.begins)) notes.records later
-                (subst (λ (cs : List Call). AreNoted t p.number r.log (before ++ begins.begins) cs notes.records) due noted);
+                (subst (λ (cs : List Call). AreNotesWithRoom t p.number r.log (before ++ begins.begins) cs notes.records) due noted);
             finished =
                 finishes.calls
                 ∙ (ap (map (finish_with phase.at reports)) sends.recorded
@@ -210,8 +210,8 @@ notes_after q joined r notes quiet begins made = (
 
 -- the steps of a phase are a turn that has the lanes between its begins and its notes
 pub part_taken : (Answers : Tried → Type 0) (t : Terms) (phase : Phase) (p q r s : Seen) (ls ms : List Seen) (ts us : List TicketData) (had reports since : List Report)
-    → Begins t phase.flush false phase.at p q [] ts → Sends Answers t phase.at reports ts us q r → Finishes phase.at reports us r s → since ≡ had ++ reports → RanFirst q r ls ms
-    → TookPart Answers t phase p s ls ms had since
+    → Begins t phase.flush false phase.at p q [] ts → Sends Answers t phase.at reports ts us q r → Finishes phase.at reports us r s → since ≡ had ++ reports → RanBefore q r ls ms
+    → RunsPhase Answers t phase p s ls ms had since
 unfolding turn_taken
 part_taken Answers t phase p q r s ls ms ts us had reports since begins sends finishes more first =
     let notes = sends.noted in
@@ -233,14 +233,14 @@ zip_push R (a ∷ xs) [] x y all one = absurd all
 zip_push R (a ∷ xs) (b ∷ ys) x y all one = (all.0, zip_push R xs ys x y all.1 one)
 
 -- one turn more
-pub turn_more : (Answers : Tried → Type 0) (t : Terms) (phases : List Phase) (phase : Phase) (p q : Seen) (reports since : List Report) → HadTurns Answers t phases p reports → TookTurn Answers t phase p q reports since
-    → HadTurns Answers t (phases ++ phase ∷ []) q since
+pub turn_more : (Answers : Tried → Type 0) (t : Terms) (phases : List Phase) (phase : Phase) (p q : Seen) (reports since : List Report) → AfterMainSteps Answers t phases p reports → RunsMainSteps Answers t phase p q reports since
+    → AfterMainSteps Answers t (phases ++ phase ∷ []) q since
 turn_more Answers t phases phase p q reports since had took =
     let turns = had.1.turns in
     let more : own 0 q.log ≡ own 0 p.log ++ records_in took.turn = subst (λ (n : ℕ). own n q.log ≡ own n p.log ++ records_in took.turn) had.0 took.made.1 in
-    let is : IsTurnOf Answers t 0 q.log (flat_map records_in turns) phase took.turn =
-    subst (λ (xs : List Record). IsTurnOf Answers t 0 q.log xs phase took.turn) had.1.made
-    (subst (λ (n : ℕ). IsTurnOf Answers t n q.log (own n p.log) phase took.turn) had.0 took.is)
+    let is : AreMainStepsOf Answers t 0 q.log (flat_map records_in turns) phase took.turn =
+    subst (λ (xs : List Record). AreMainStepsOf Answers t 0 q.log xs phase took.turn) had.1.made
+    (subst (λ (n : ℕ). AreMainStepsOf Answers t n q.log (own n p.log) phase took.turn) had.0 took.is)
     in (
       took.made.0 ∙ had.0,
       record {
@@ -253,20 +253,20 @@ turn_more Answers t phases phase p q reports since had took =
         told =
             took.more
             ∙ (ap (λ (rs : List Report). rs ++ took.turn.reports) had.1.told
-            ∙ sym (flat_map-append (λ (u : Turn). u.reports) turns (took.turn ∷ [])
-            ∙ ap (λ (rs : List Report). flat_map (λ (u : Turn). u.reports) turns ++ rs) (append-nil took.turn.reports)));
+            ∙ sym (flat_map-append (λ (u : MainSteps). u.reports) turns (took.turn ∷ [])
+            ∙ ap (λ (rs : List Report). flat_map (λ (u : MainSteps). u.reports) turns ++ rs) (append-nil took.turn.reports)));
       },
     )
 
 -- it comes after the others
-pub turns_more : (Answers : Tried → Type 0) (t : Terms) (phases : List Phase) (phase : Phase) (p q : Seen) (reports since : List Report) → (had : HadTurns Answers t phases p reports)
-    → (took : TookTurn Answers t phase p q reports since) → (turn_more Answers t phases phase p q reports since had took).1.turns ≡ had.1.turns ++ took.turn ∷ []
+pub turns_more : (Answers : Tried → Type 0) (t : Terms) (phases : List Phase) (phase : Phase) (p q : Seen) (reports since : List Report) → (had : AfterMainSteps Answers t phases p reports)
+    → (took : RunsMainSteps Answers t phase p q reports since) → (turn_more Answers t phases phase p q reports since had took).1.turns ≡ had.1.turns ++ took.turn ∷ []
 unfolding turn_more
 turns_more Answers t phases phase p q reports since had took = refl
 
 -- the turns stand in a history in which the pass stands
-pub turns_stand : (Answers : Tried → Type 0) (t : Terms) (phases : List Phase) (p : Seen) (reports : List Report) (history : List Record) → HadTurns Answers t phases p reports → Stands p history
-    → AreTurnsOf Answers t 0 history phases reports
+pub turns_stand : (Answers : Tried → Type 0) (t : Terms) (phases : List Phase) (p : Seen) (reports : List Report) (history : List Record) → AfterMainSteps Answers t phases p reports → IsPrefixViewOf p history
+    → AreAllMainStepsOf Answers t 0 history phases reports
 turns_stand Answers t phases p reports history had stands =
     let so_far = had.1 in
     record {
@@ -276,13 +276,13 @@ turns_stand Answers t phases p reports history had stands =
       told = so_far.told;
     }
 
-pub turns_stay : (Answers : Tried → Type 0) (t : Terms) (phases : List Phase) (p : Seen) (reports : List Report) (history : List Record) → (had : HadTurns Answers t phases p reports)
-    → (stands : Stands p history) → (turns_stand Answers t phases p reports history had stands).turns ≡ had.1.turns
+pub turns_stay : (Answers : Tried → Type 0) (t : Terms) (phases : List Phase) (p : Seen) (reports : List Report) (history : List Record) → (had : AfterMainSteps Answers t phases p reports)
+    → (stands : IsPrefixViewOf p history) → (turns_stand Answers t phases p reports history had stands).turns ≡ had.1.turns
 unfolding turns_stand
 turns_stay Answers t phases p reports history had stands = refl
 
 -- a pass that has seen nothing had no turn
-pub no_turns : (Answers : Tried → Type 0) (t : Terms) (p : Seen) (reports : List Report) → p ≡ seen 0 0 [] → reports ≡ [] → HadTurns Answers t [] p reports
+pub no_turns : (Answers : Tried → Type 0) (t : Terms) (p : Seen) (reports : List Report) → p ≡ seen 0 0 [] → reports ≡ [] → AfterMainSteps Answers t [] p reports
 no_turns Answers t p reports fresh none =
     (ap (λ (s : Seen). s.number) fresh, record { turns = []; each = tt; made = ap (λ (s : Seen). own 0 s.log) fresh; told = none })
 

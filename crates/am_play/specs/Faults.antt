@@ -17,7 +17,7 @@ fault_of_parse parse.NoMemory = run.NoMemory
 
 -- a fault of what the input tells is the run's of the same name
 abbrev pub fault_of_input : InputFault → RunFault
-fault_of_input (input.Refused place word) = run.Refused place word
+fault_of_input (input.Refused place fault_kind) = run.Refused place fault_kind
 fault_of_input input.NoMemory = run.NoMemory
 
 -- a fault of reading is the run's of the same name
@@ -29,14 +29,14 @@ fault_of_read read.NoMemory = run.NoMemory
 abbrev pub status_of : RunFault → ℕ
 status_of run.Unreadable = 1
 status_of run.NotJson = 2
-status_of (run.Refused place word) = 2
+status_of (run.Refused place fault_kind) = 2
 status_of run.NoMemory = 3
 status_of run.Unwritable = 4
 
 -- an input is refused as no JSON only where it is none, and at a place only where it is the text of a JSON value
 abbrev pub Refuses : List ℕ → RunFault → Type 0
 Refuses input run.NotJson = IsNoJson input
-Refuses input (run.Refused place word) = IsJson input
+Refuses input (run.Refused place fault_kind) = IsJson input
 Refuses input run.Unreadable = ⊥
 Refuses input run.NoMemory = Unit {0}
 Refuses input run.Unwritable = ⊥

@@ -4,9 +4,9 @@ pub mod Sendings
 pub mod Turns
 pub mod Parts
 pub mod Plays
-pub mod Seats
+pub mod LaneStates
 pub mod Steps
-pub mod Beside
-pub mod Troubles
+pub mod Interleaving
+pub mod PhaseFaults
 pub mod Runs
 pub mod Laws

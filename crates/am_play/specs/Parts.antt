@@ -4,28 +4,28 @@ use Rattle.std.specs.List.{AllZip, flat_map}
 use Rattle.am_model.specs.declared.record.Record.{Record}
 use Rattle.am_desk.specs.History.{own}
 use Rattle.am_play.specs.Lanes.{calls_by, phase_calls}
-use Rattle.am_play.specs.Turns.{Turn, records_in}
+use Rattle.am_play.specs.Turns.{MainSteps, records_in}
 use Rattle.am_scenario.specs.declared.scenario.Phase.{Phase}
 
 -- what a history has of a phase: the main thread's turn, and the records that came beside it
-pub record Part : Type 0 where
-  pub turn : Turn
+pub record PhaseRecords : Type 0 where
+  pub turn : MainSteps
   pub beside : List Record
 
 -- all records of a part, in their order: what came beside the turn stands between its begins and its notes
-abbrev pub all_in : Part → List Record
+abbrev pub all_in : PhaseRecords → List Record
 all_in part = part.turn.begins ++ part.beside ++ part.turn.notes ++ part.turn.finishes
 
 -- the part of a phase: the turn's records are the main thread's, which has none beside it; beside it each lane made just its calls, at
 -- the phase's moment and in their order, and nobody else any. How the calls of two lanes stand to each other isn't said
-pub record IsPartOf (phase : Phase) (part : Part) : Type 0 where
+pub record AreRecordsOfPhase (phase : Phase) (part : PhaseRecords) : Type 0 where
   pub main : All (λ r. r.pass ≡ 0) (records_in part.turn)
   pub others : own 0 part.beside ≡ []
   pub lanes : (i : ℕ) → calls_by (i + 1) part.beside ≡ phase_calls i phase
 
 -- this history is made of one part for each phase, in their order, each with the turn of the phase
-pub record ArePartsOf (phases : List Phase) (turns : List Turn) (history : List Record) : Type 0 where
-  pub parts : List Part
+pub record SplitsByPhase (phases : List Phase) (turns : List MainSteps) (history : List Record) : Type 0 where
+  pub parts : List PhaseRecords
   pub turned : map (λ p. p.turn) parts ≡ turns
-  pub each : AllZip IsPartOf phases parts
+  pub each : AllZip AreRecordsOfPhase phases parts
   pub made : history ≡ flat_map all_in parts

@@ -3,11 +3,11 @@ use Rattle.std.specs.Prelude.{◌≡◌, ℕ, ◌+◌, List}
 use Rattle.am_model.specs.declared.record.Record.{Record}
 use Rattle.am_desk.specs.Terms.{terms}
 use Rattle.am_play.specs.Lanes.{calls_by, lane_calls}
-use Rattle.am_play.specs.Parts.{ArePartsOf}
+use Rattle.am_play.specs.Parts.{SplitsByPhase}
 use Rattle.am_report.specs.Report.{IsReportOn}
 use Rattle.am_scenario.specs.Scripts.{IsAsPlanned}
-use Rattle.am_scenario.specs.Told.{IsScenarioIn}
-use Rattle.am_play.specs.Turns.{AreTurnsOf}
+use Rattle.am_scenario.specs.Decoding.{IsScenarioIn}
+use Rattle.am_play.specs.Turns.{AreAllMainStepsOf}
 use Rattle.am_scenario.specs.declared.scenario.Scenario.{Scenario}
 
 -- the text is the report on a legal history of the board of this id, with the scenario's configuration, in which the pass after each
@@ -18,8 +18,8 @@ pub record IsPlayOf (id : ℕ) (scenario : Scenario) (text : List ℕ) : Type 0 
   pub history : List Record
   pub report : IsReportOn scenario.config id history text
   pub lanes : (i : ℕ) → calls_by (i + 1) history ≡ lane_calls i scenario.phases.items
-  pub main : AreTurnsOf (IsAsPlanned scenario.scripts.items) (terms scenario.config id) 0 history scenario.phases.items report.reports
-  pub parts : ArePartsOf scenario.phases.items main.turns history
+  pub main : AreAllMainStepsOf (IsAsPlanned scenario.scripts.items) (terms scenario.config id) 0 history scenario.phases.items report.reports
+  pub parts : SplitsByPhase scenario.phases.items main.turns history
 
 -- the text is the report on the scenario that an input tells, which was played on the board of this id
 pub record IsPlay (id : ℕ) (input text : List ℕ) : Type 0 where

@@ -2,7 +2,7 @@
 use Rattle.std.specs.Prelude.{◌≡◌, ℕ, false, All, List, length}
 use Rattle.am_model.specs.Notice.{NoticeData}
 use Rattle.am_model.specs.declared.notice.Report.{Report}
-use Rattle.am_retry.specs.Attempts.{Told, end_after, tries_of}
+use Rattle.am_retry.specs.Attempts.{Response, end_after, tries_of}
 use Rattle.am_retry.specs.Outcome.{HasOutcome}
 use Rattle.am_pool.specs.Delivery.{IsReportOn, is_starved}
 use Rattle.am_pool.specs.Tries.{all_tried_for}
@@ -13,19 +13,19 @@ use Rattle.am_pool.specs.declared.worker.Job.{Job}
 -- the number and the end that the retry rules give for these answers
 pub record IsSending (Answers : Tried → Type 0) (start : ℕ) (notice : NoticeData) (report : Report) : Type 0 where
   pub names : IsReportOn notice report
-  pub told : List Told
-  pub answered : All Answers (all_tried_for notice (tries_of start told))
-  pub has : HasOutcome start notice.deadline told report.outcome
-  pub attempts_are : report.attempts ≡ length told
-  pub end_is : report.ended ≡ end_after start told
+  pub responses : List Response
+  pub answered : All Answers (all_tried_for notice (tries_of start responses))
+  pub has : HasOutcome start notice.deadline responses report.outcome
+  pub attempts_are : report.attempts ≡ length responses
+  pub end_is : report.ended ≡ end_after start responses
 
 -- no attempt that was due lacked memory
-abbrev pub IsFed : Report → Type 0
-IsFed report = is_starved report.outcome ≡ false
+abbrev pub IsNotStarved : Report → Type 0
+IsNotStarved report = is_starved report.outcome ≡ false
 
 -- the same, and each attempt that was due was made
 abbrev pub IsSentFrom : (Tried → Type 0) → ℕ → NoticeData → Report → Type 0
-IsSentFrom Answers start notice report = IsSending Answers start notice report × IsFed report
+IsSentFrom Answers start notice report = IsSending Answers start notice report × IsNotStarved report
 
 -- a report of a job whose tries are answered so
 abbrev pub IsSendingOf : (Tried → Type 0) → Job → Report → Type 0

@@ -15,7 +15,7 @@ use Rattle.am_desk.specs.declared.word.Terms.{Terms}
 use Rattle.am_pool.specs.declared.courier.Tried.{Tried}
 use Rattle.am_pool.specs.declared.worker.Job.{Job}
 use Rattle.am_play.specs.Sendings.{IsSentFrom}
-use Rattle.am_play.specs.Turns.{Opened, Turn, AreNoted, AreTurnsOf, EndRightly, FoundDue, IsTurnOf}
+use Rattle.am_play.specs.Turns.{Opened, MainSteps, AreNotesWithRoom, AreAllMainStepsOf, BeginsExhausted, FoundDue, AreMainStepsOf}
 use Rattle.am_play.specs.Turns.{opened_by, outcomes_told, last_end, records_in, report_on, reports_on, to_send}
 use Rattle.am_scenario.specs.declared.scenario.Phase.{Phase}
 
@@ -35,7 +35,7 @@ MadeRecords rs p q = (q.number ≡ p.number) × (own p.number q.log ≡ own p.nu
 pub record Notes (t : Terms) (calls : List Call) (p q : Seen) : Type 0 where
   pub records : List Record
   pub made : MadeRecords records p q
-  pub noted : AreNoted t p.number q.log (own p.number p.log) calls records
+  pub noted : AreNotesWithRoom t p.number q.log (own p.number p.log) calls records
 
 -- the flush of a ticket
 abbrev pub opened_of : TicketData → Opened
@@ -52,7 +52,7 @@ pub record Begins (t : Terms) (flush more : Bool) (at : ℕ) (p q : Seen) (ts us
   pub made : MadeRecords begins p q
   pub begun : All (λ r. (flush ≡ true) × (r.call ≡ call.Begin at)) begins
   pub found : more ≡ true → All FoundDue begins
-  pub ended : flush ≡ true → more ≡ false → EndRightly t p.number q.log (own p.number p.log) at begins
+  pub ended : flush ≡ true → more ≡ false → BeginsExhausted t p.number q.log (own p.number p.log) at begins
   pub opened : map opened_of us ≡ map opened_of ts ++ opened_by begins
   pub unrecorded : All IsUnrecorded ts → All IsUnrecorded us
 
@@ -115,12 +115,12 @@ pub record Finishes (at : ℕ) (reports : List Report) (ts : List TicketData) (p
   pub calls : map (λ r. r.call) finishes ≡ map (finish_with at reports) ts
 
 -- the main thread had its turn in a phase, whose reports came to the others
-pub record TookTurn (Answers : Tried → Type 0) (t : Terms) (phase : Phase) (p q : Seen) (reports reports_since : List Report) : Type 0 where
-  pub turn : Turn
-  pub is : IsTurnOf Answers t p.number q.log (own p.number p.log) phase turn
+pub record RunsMainSteps (Answers : Tried → Type 0) (t : Terms) (phase : Phase) (p q : Seen) (reports reports_since : List Report) : Type 0 where
+  pub turn : MainSteps
+  pub is : AreMainStepsOf Answers t p.number q.log (own p.number p.log) phase turn
   pub made : MadeRecords (records_in turn) p q
   pub more : reports_since ≡ reports ++ turn.reports
 
 -- the main thread's pass has had its turns in these phases, and these are all reports
-abbrev pub HadTurns : (Tried → Type 0) → Terms → List Phase → Seen → List Report → Type 0
-HadTurns Answers t phases p reports = (p.number ≡ 0) × AreTurnsOf Answers t 0 p.log phases reports
+abbrev pub AfterMainSteps : (Tried → Type 0) → Terms → List Phase → Seen → List Report → Type 0
+AfterMainSteps Answers t phases p reports = (p.number ≡ 0) × AreAllMainStepsOf Answers t 0 p.log phases reports

@@ -101,72 +101,72 @@ abbrev pub all_notes_due : ℕ → List Report → List Opened → List Call
 all_notes_due at reports opened = flat_map (notes_due at reports) opened
 
 -- at some time, when a pass had made just these records, this held of the history so far
-abbrev pub Once : ℕ → List Record → List Record → (List Record → Type 0) → Type 0
-Once pass history records Holds = (front : List Record) × IsPrefix front history × (own pass front ≡ records) × Holds front
+abbrev pub AtSomePrefix : ℕ → List Record → List Record → (List Record → Type 0) → Type 0
+AtSomePrefix pass history records Holds = (front : List Record) × IsPrefix front history × (own pass front ≡ records) × Holds front
 
 -- as many flushes were open as may be: a begin at this moment is refused for it
-abbrev pub HasManyOpen : Terms → ℕ → List Record → Type 0
-HasManyOpen t at front = why_begin t at front ≡ Some TooManyOpen
+abbrev pub FailsTooManyOpen : Terms → ℕ → List Record → Type 0
+FailsTooManyOpen t at front = why_begin t at front ≡ Some TooManyOpen
 
 -- a history had no room for one record more, beside those that finish the open flushes
-abbrev pub HasNoRoom : Terms → List Record → Type 0
-HasNoRoom t front = is_full t.config (length front) (replay t.config front) 1 ≡ true
+abbrev pub FailsHistoryFull : Terms → List Record → Type 0
+FailsHistoryFull t front = is_full t.config (length front) (replay t.config front) 1 ≡ true
 
 -- a begin that found a group due
 abbrev pub FoundDue : Record → Type 0
 FoundDue r = r.reply ≢ reply.NothingDue
 
 -- these begins, all but the last of which found a group due, ended with one that found none
-abbrev pub EndedByNothing : List Record → Type 0
-EndedByNothing begins =
+abbrev pub EndsWithNothingDue : List Record → Type 0
+EndsWithNothingDue begins =
     (found : List Record) × (last : Record) × (begins ≡ found ++ last ∷ []) × All FoundDue found × (last.reply ≡ reply.NothingDue)
 
 -- these begins, which a pass made after those records, ended when no group was due, or when as many flushes were open as may be
-abbrev pub EndRightly : Terms → ℕ → List Record → List Record → ℕ → List Record → Type 0
-EndRightly t pass history before at begins =
-    EndedByNothing begins ⊎ (All FoundDue begins × Once pass history (before ++ begins) (HasManyOpen t at))
+abbrev pub BeginsExhausted : Terms → ℕ → List Record → List Record → ℕ → List Record → Type 0
+BeginsExhausted t pass history before at begins =
+    EndsWithNothingDue begins ⊎ (All FoundDue begins × AtSomePrefix pass history (before ++ begins) (FailsTooManyOpen t at))
 
 -- a pass that had made the records before made these then: a record of each of the calls, in their order, but of those for which
 -- there was no room when their turn came
-abbrev pub AreNoted : Terms → ℕ → List Record → List Record → List Call → List Record → Type 0
-AreNoted t pass history before [] notes = notes ≡ []
-AreNoted t pass history before (c ∷ cs) notes =
-    ((r : Record) × (rs : List Record) × (notes ≡ r ∷ rs) × (r.call ≡ c) × AreNoted t pass history (before ++ r ∷ []) cs rs)
-    ⊎ (Once pass history before (HasNoRoom t) × AreNoted t pass history before cs notes)
+abbrev pub AreNotesWithRoom : Terms → ℕ → List Record → List Record → List Call → List Record → Type 0
+AreNotesWithRoom t pass history before [] notes = notes ≡ []
+AreNotesWithRoom t pass history before (c ∷ cs) notes =
+    ((r : Record) × (rs : List Record) × (notes ≡ r ∷ rs) × (r.call ≡ c) × AreNotesWithRoom t pass history (before ++ r ∷ []) cs rs)
+    ⊎ (AtSomePrefix pass history before (FailsHistoryFull t) × AreNotesWithRoom t pass history before cs notes)
 
 -- what the main thread does in a phase: it begins flushes, hears of the sending of their notices, notes successes and finishes the flushes
-pub record Turn : Type 0 where
+pub record MainSteps : Type 0 where
   pub begins : List Record
   pub reports : List Report
   pub notes : List Record
   pub finishes : List Record
 
 -- its records, in their order
-abbrev pub records_in : Turn → List Record
+abbrev pub records_in : MainSteps → List Record
 records_in turn = turn.begins ++ turn.notes ++ turn.finishes
 
 -- the turn of a phase, of a pass that had made the records before: the begins are at the phase's moment, and go on until no group is
 -- due or as many flushes are open as may be; each notice that has something to send has one report, of a sending from that moment on
 -- whose tries are answered so; each success is noted, at the end of its sending, but where there was no room; and each flush is
 -- finished once, in their order, at the end of the last
-pub record IsTurnOf (Answers : Tried → Type 0) (t : Terms) (pass : ℕ) (history before : List Record) (phase : Phase) (turn : Turn) : Type 0 where
+pub record AreMainStepsOf (Answers : Tried → Type 0) (t : Terms) (pass : ℕ) (history before : List Record) (phase : Phase) (turn : MainSteps) : Type 0 where
   pub begun : All (IsBeginOf phase) turn.begins
-  pub ended : phase.flush ≡ true → EndRightly t pass history before phase.at turn.begins
+  pub ended : phase.flush ≡ true → BeginsExhausted t pass history before phase.at turn.begins
   pub sent : AllZip (IsSentFrom Answers phase.at) (to_send (opened_by turn.begins)) turn.reports
-  pub noted : AreNoted t pass history (before ++ turn.begins) (all_notes_due phase.at turn.reports (opened_by turn.begins)) turn.notes
+  pub noted : AreNotesWithRoom t pass history (before ++ turn.begins) (all_notes_due phase.at turn.reports (opened_by turn.begins)) turn.notes
   pub finished : map (λ r. r.call) turn.finishes ≡ map (finish_of phase.at turn.reports) (opened_by turn.begins)
 
 -- these are turns of these phases, one after the other, of a pass that had made the records before
-abbrev pub AreTurnsFrom : (Tried → Type 0) → Terms → ℕ → List Record → List Record → List Phase → List Turn → Type 0
+abbrev pub AreTurnsFrom : (Tried → Type 0) → Terms → ℕ → List Record → List Record → List Phase → List MainSteps → Type 0
 AreTurnsFrom Answers t pass history before [] [] = Unit {0}
 AreTurnsFrom Answers t pass history before [] (u ∷ us) = ⊥
 AreTurnsFrom Answers t pass history before (p ∷ ps) [] = ⊥
 AreTurnsFrom Answers t pass history before (p ∷ ps) (u ∷ us) =
-    IsTurnOf Answers t pass history before p u × AreTurnsFrom Answers t pass history (before ++ records_in u) ps us
+    AreMainStepsOf Answers t pass history before p u × AreTurnsFrom Answers t pass history (before ++ records_in u) ps us
 
 -- a pass had a turn in each phase and made no other records in a history, with tries that are answered so, and these are all reports
-pub record AreTurnsOf (Answers : Tried → Type 0) (t : Terms) (pass : ℕ) (history : List Record) (phases : List Phase) (reports : List Report) : Type 0 where
-  pub turns : List Turn
+pub record AreAllMainStepsOf (Answers : Tried → Type 0) (t : Terms) (pass : ℕ) (history : List Record) (phases : List Phase) (reports : List Report) : Type 0 where
+  pub turns : List MainSteps
   pub each : AreTurnsFrom Answers t pass history [] phases turns
   pub made : own pass history ≡ flat_map records_in turns
   pub told : reports ≡ flat_map (λ u. u.reports) turns

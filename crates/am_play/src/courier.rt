@@ -3,8 +3,8 @@ ghost use Rattle.std.specs.Prelude.{◌≡◌, All, IfOk, find, option_copied, v
 ghost use Rattle.am_scenario.specs.Scripts.{IsAsPlanned, planned_for, is_script_for};
 
 use am_board::notice::Notice;
-use am_pool::{Courier, Journal, Sent, Tried};
-use am_scenario::scenario::{Planned, Script};
+use am_pool::{AttemptTrace, Courier, Sent, Tried};
+use am_scenario::scenario::{Script, ScriptedAnswer};
 use std::alloc::{AllocError, Global};
 use std::marker::{Brand, PhantomData};
 
@@ -39,10 +39,10 @@ pub trait Answering: Courier {
 #[derive(Drop)]
 pub struct ScriptedCourier<'s, S: Scripts> {
     scripts: &'s [Script],
-    journal: Journal,
+    trace: AttemptTrace,
     of: PhantomData<S>,
     ghost given: { scripts.now ≡ S.scripts },
-    ghost planned: { All (IsAsPlanned S.scripts) journal.tries },
+    ghost planned: { All (IsAsPlanned S.scripts) trace.tries },
 }
 
 impl<'s, S: Scripts> ScriptedCourier<'s, S> {
@@ -51,16 +51,16 @@ impl<'s, S: Scripts> ScriptedCourier<'s, S> {
     {
         ScriptedCourier {
             scripts,
-            journal: Journal::new(),
+            trace: AttemptTrace::new(),
             of: PhantomData,
         }
     }
 
-    fn plan(&self, notice: &Notice, attempt: u64) -> Planned
+    fn plan(&self, notice: &Notice, attempt: u64) -> ScriptedAnswer
         ensures { result ≡ planned_for S.scripts notice.now.ticket notice.now.integration attempt }
     {
         match script_for(self.scripts, notice) {
-            None => Planned::at_once(),
+            None => ScriptedAnswer::at_once(),
             Some(script) => script.answer_to(attempt),
         }
     }
@@ -83,14 +83,14 @@ pub fn couriers_for<'s, S: Scripts>(
 }
 
 impl<S: Scripts> Courier for ScriptedCourier<'_, S> {
-    ghost tries = { λ c. c.journal.tries };
+    ghost tries = { λ c. c.trace.tries };
 
-    ghost refusals = { λ c. c.journal.refusals };
+    ghost refusals = { λ c. c.trace.refusals };
 
     fn send(&mut self, notice: &Notice, attempt: u64, at: u64) -> Result<Sent, AllocError> {
         let sent = self.plan(notice, attempt).sent_at(at);
         let tried = Tried::new(notice, attempt, at, &sent);
-        self.journal.add_try(&tried);
+        self.trace.add_try(&tried);
         Ok(sent)
     }
 }

@@ -1,5 +1,5 @@
 //! Why a run ends without its report.
-use am_cli::fault::{InputFault, ParseFault, Word};
+use am_cli::fault::{FaultKind, InputFault, ParseFault};
 use am_cli::transfer::{ReadFault, Unwritable};
 use thiserror::Error;
 
@@ -13,8 +13,11 @@ pub enum RunFault {
     #[error("am-run: scenario refused: not JSON")]
     NotJson,
     /// The scenario is refused; the place is a JSON pointer.
-    #[error("am-run: scenario refused at {place}: {word}")]
-    Refused { place: String, word: Word },
+    #[error("am-run: scenario refused at {place}: {fault_kind}")]
+    Refused {
+        place: String,
+        fault_kind: FaultKind,
+    },
     /// Memory was refused.
     #[error("am-run: no memory")]
     NoMemory,
@@ -62,7 +65,7 @@ impl From<InputFault> for RunFault {
 
     fn from(fault: InputFault) -> RunFault {
         match fault {
-            InputFault::Refused { place, word } => RunFault::Refused { place, word },
+            InputFault::Refused { place, fault_kind } => RunFault::Refused { place, fault_kind },
             InputFault::NoMemory => RunFault::NoMemory,
         }
     }

@@ -2,9 +2,9 @@
 ghost use Rattle.std.specs.Prelude.{◌≡◌, ◌<◌, ◌≤◌, ◌∷◌, [], All, IfOk, OnOk, length, map, take, vec_len};
 ghost use Rattle.std.specs.List.{AllZip};
 ghost use Rattle.am_pool.specs.Work.{IsReady};
-ghost use Rattle.am_play.specs.Beside.{Meets, MeetsAll};
+ghost use Rattle.am_play.specs.Interleaving.{Meets, MeetsAll};
 ghost use Rattle.am_play.specs.Lanes.{call_at};
-ghost use Rattle.am_play.specs.Seats.{AfterLanes, AllRan, MadeCalls, Ran, passes_in};
+ghost use Rattle.am_play.specs.LaneStates.{AfterLanes, AllRan, MadeCalls, Ran, passes_in};
 ghost use Rattle.am_play.specs.Sendings.{IsSendingOf};
 ghost use Rattle.am_play.specs.Steps.{MadeRecords};
 
@@ -21,20 +21,20 @@ use std::sync::Wait;
 use std::thread::{Threads, for_each_mut, join_mut};
 
 /// What a lane has: its pass, the calls that it is to make, and where one was refused. The thread of
-/// a lane writes into its own seat and nowhere else.
+/// a lane writes into its own state and nowhere else.
 #[derive(Drop)]
-pub struct Seat<N: Name> {
+pub struct LaneState<N: Name> {
     pass: Pass<N>,
     calls: Vec<LaneCall>,
     /// The position of the call that was refused, and why.
     refused: Option<(usize, Fault)>,
 }
 
-impl<N: Name> Seat<N> {
-    fn new(alloc: Global, pass: Pass<N>) -> Seat<N>
+impl<N: Name> LaneState<N> {
+    fn new(alloc: Global, pass: Pass<N>) -> LaneState<N>
         ensures { result.pass ≡ pass }
     {
-        Seat {
+        LaneState {
             pass,
             calls: Vec::new(alloc),
             refused: None,
@@ -51,7 +51,7 @@ impl<N: Name> Seat<N> {
     pub fn into_pass(self) -> Pass<N>
         ensures { result ≡ self.pass }
     {
-        let Seat {
+        let LaneState {
             pass,
             calls: _,
             refused: _,
@@ -88,39 +88,39 @@ impl<N: Name> Seat<N> {
     }
 }
 
-/// The seats of the lanes, one for each pass, in their order. The vector keeps its room.
-pub fn seats_for<N: Name>(
+/// The states of the lanes, one for each pass, in their order. The vector keeps its room.
+pub fn lane_states_for<N: Name>(
     alloc: Global,
     passes: &mut Vec<Pass<N>>,
-) -> Result<Vec<Seat<N>>, AllocError>
-    ensures passes { IfOk result (λ seats. map (λ s. s.pass) seats.items ≡ passes.old.items) }
-    ensures count { IfOk result (λ seats. vec_len seats ≡ vec_len passes.old) }
+) -> Result<Vec<LaneState<N>>, AllocError>
+    ensures passes { IfOk result (λ lane_states. map (λ s. s.pass) lane_states.items ≡ passes.old.items) }
+    ensures count { IfOk result (λ lane_states. vec_len lane_states ≡ vec_len passes.old) }
 {
-    let mut seats = Vec::new(alloc);
-    seats.reserve(passes.len())?;
+    let mut lane_states = Vec::new(alloc);
+    lane_states.reserve(passes.len())?;
     while !passes.is_empty() {
-        seats.push_reserved(Seat::new(alloc, passes.remove(0)));
+        lane_states.push_reserved(LaneState::new(alloc, passes.remove(0)));
     }
-    Ok(seats)
+    Ok(lane_states)
 }
 
-/// Each lane gets the seat of its number.
-pub fn take_seats<N: Name>(seats: &mut [Seat<N>], lanes: Vec<Lane>)
-    requires { vec_len lanes ≤ length seats.old }
-    ensures passes { map (λ s. s.pass) seats.new ≡ map (λ s. s.pass) seats.old }
-    ensures calls { map (λ s. s.calls) (take (vec_len lanes) seats.new) ≡ map (λ l. l.calls) lanes.items }
+/// Each lane gets the state of its number.
+pub fn take_lane_states<N: Name>(lane_states: &mut [LaneState<N>], lanes: Vec<Lane>)
+    requires { vec_len lanes ≤ length lane_states.old }
+    ensures passes { map (λ s. s.pass) lane_states.new ≡ map (λ s. s.pass) lane_states.old }
+    ensures calls { map (λ s. s.calls) (take (vec_len lanes) lane_states.new) ≡ map (λ l. l.calls) lanes.items }
 {
     for (number, lane) in lanes.into_iter().enumerate() {
-        seats[number].take(lane);
+        lane_states[number].take(lane);
     }
 }
 
 /// The main thread's pass meets those of the lanes, one after the other. It waits for nobody.
-pub fn meet_lanes<N: Name>(desk: &Desk<N>, main: &mut Pass<N>, seats: &mut [Seat<N>])
-    ensures { MeetsAll main.old main.new (passes_in seats.old) (passes_in seats.new) }
+pub fn meet_lanes<N: Name>(desk: &Desk<N>, main: &mut Pass<N>, lane_states: &mut [LaneState<N>])
+    ensures { MeetsAll main.old main.new (passes_in lane_states.old) (passes_in lane_states.new) }
 {
-    for seat in seats.iter_mut() {
-        seat.meet(desk, main);
+    for lane_state in lane_states.iter_mut() {
+        lane_state.meet(desk, main);
     }
 }
 
@@ -130,45 +130,45 @@ pub fn run_beside<N: Name + Send + Sync, R: Threads + Wait + Sync, C: Answering 
     alloc: Global,
     desk: &Desk<N>,
     at: u64,
-    seats: &mut [Seat<N>],
+    lane_states: &mut [LaneState<N>],
     lanes: Vec<Lane>,
     couriers: &mut [C],
     jobs: &[Job<'_>],
 ) -> Result<Vec<Report>, PoolFault>
-    requires lanes { vec_len lanes ≤ length seats.old }
+    requires lanes { vec_len lanes ≤ length lane_states.old }
     requires ready { All IsReady jobs.now }
-    ensures lanes { AfterLanes at lanes.items seats.old seats.new }
+    ensures lanes { AfterLanes at lanes.items lane_states.old lane_states.new }
     ensures reports { IfOk result (λ reports. AllZip (IsSendingOf C.answers) jobs.now reports.items) }
 {
     if lanes.is_empty() {
         return send_jobs(rt, alloc, couriers, jobs);
     }
-    let (taken, _others) = seats.split_at_mut(lanes.len());
-    take_seats(taken, lanes);
+    let (taken, _others) = lane_states.split_at_mut(lanes.len());
+    take_lane_states(taken, lanes);
     share(rt, alloc, desk, at, taken, couriers, jobs)
 }
 
-/// Runs the lanes in these seats, of which there is one at least, beside the couriers.
+/// Runs the lanes in these lane states, of which there is one at least, beside the couriers.
 fn share<N: Name + Send + Sync, R: Threads + Wait + Sync, C: Answering + Send>(
     rt: &R,
     alloc: Global,
     desk: &Desk<N>,
     at: u64,
-    seats: &mut [Seat<N>],
+    lane_states: &mut [LaneState<N>],
     couriers: &mut [C],
     jobs: &[Job<'_>],
 ) -> Result<Vec<Report>, PoolFault>
-    requires seats { 0 < length seats.old }
+    requires lane_states { 0 < length lane_states.old }
     requires ready { All IsReady jobs.now }
-    ensures lanes { AllRan at seats.old seats.new }
+    ensures lanes { AllRan at lane_states.old lane_states.new }
     ensures reports { IfOk result (λ reports. AllZip (IsSendingOf C.answers) jobs.now reports.items) }
 {
     let (_, reports) = join_mut(
         rt,
         &mut ||
-            requires { 0 < length seats.now }
-            ensures { AllRan at seats.entry.now seats.exit.now }
-        { run_lanes(rt, alloc, desk, at, seats) },
+            requires { 0 < length lane_states.now }
+            ensures { AllRan at lane_states.entry.now lane_states.exit.now }
+        { run_lanes(rt, alloc, desk, at, lane_states) },
         &mut ||
             requires { All IsReady jobs.now }
             ensures { IfOk result (λ reports. AllZip (IsSendingOf C.answers) jobs.entry.now reports.items) }
@@ -177,25 +177,25 @@ fn share<N: Name + Send + Sync, R: Threads + Wait + Sync, C: Answering + Send>(
     reports
 }
 
-/// Runs the lanes in these seats, each in a thread of its own.
+/// Runs the lanes in these lane states, each in a thread of its own.
 fn run_lanes<N: Name + Send + Sync, R: Threads + Wait + Sync>(
     rt: &R,
     alloc: Global,
     desk: &Desk<N>,
     at: u64,
-    seats: &mut [Seat<N>],
+    lane_states: &mut [LaneState<N>],
 )
-    requires { 0 < length seats.old }
-    ensures { AllRan at seats.old seats.new }
+    requires { 0 < length lane_states.old }
+    ensures { AllRan at lane_states.old lane_states.new }
 {
-    let threads = seats.len();
+    let threads = lane_states.len();
     for_each_mut(
         rt,
-        seats,
+        lane_states,
         threads,
-        &|_, seat: &mut Seat<N>|
-            ensures { Ran at seat.entry.now seat.exit.now }
-        { seat.run(rt, alloc, desk, at) },
+        &|_, lane_state: &mut LaneState<N>|
+            ensures { Ran at lane_state.entry.now lane_state.exit.now }
+        { lane_state.run(rt, alloc, desk, at) },
     );
 }
 

@@ -8,6 +8,6 @@ pub mod fault;
 mod lane;
 pub mod law;
 pub mod phase;
+mod phase_faults;
 pub mod run;
 mod sending;
-mod trouble;

@@ -3,26 +3,26 @@ ghost use Rattle.std.specs.Prelude.{◌≡◌, ◌<◌, ◌≤◌, ◌+◌, ◌+
 ghost use Rattle.std.specs.List.{AllZip, range_with_len};
 ghost use Rattle.am_alerts.specs.declared.limits.TheConstants.{MAX_MOMENT};
 ghost use Rattle.am_cli.specs.Read.{IsRefusedBy};
-ghost use Rattle.am_desk.specs.Desks.{AreFresh, Stands};
+ghost use Rattle.am_desk.specs.Desks.{AreFresh, IsPrefixViewOf};
 ghost use Rattle.am_desk.specs.History.{made};
 ghost use Rattle.am_desk.specs.Terms.{terms_of};
-ghost use Rattle.am_play.specs.Beside.{HadNoParts, MeetsAll, RanBeside, RanFirst, TookPart};
-ghost use Rattle.am_play.specs.Seats.{HaveMade, MadeLanes, NoneRefused, passes_in};
+ghost use Rattle.am_play.specs.Interleaving.{BeforePhases, MeetsAll, RanConcurrently, RanBefore, RunsPhase};
+ghost use Rattle.am_play.specs.LaneStates.{HaveMade, MadeLanes, NoneRefused, passes_in};
 ghost use Rattle.am_play.specs.Steps.{Begins, Finishes, FinishesOne, Grows, Notes, NotesAt, Sends};
 ghost use Rattle.am_play.specs.Steps.{notes_of, notes_of_all, opened_of, recorded_all};
-ghost use Rattle.am_play.specs.Troubles.{AreNone};
-ghost use Rattle.am_play.specs.Sendings.{IsFed, IsSentFrom};
+ghost use Rattle.am_play.specs.PhaseFaults.{HasNoFault};
+ghost use Rattle.am_play.specs.Sendings.{IsNotStarved, IsSentFrom};
 ghost use Rattle.am_play.specs.Turns.{to_send};
 
 use crate::courier::Answering;
-use crate::lane::{Seat, meet_lanes, run_beside, seats_for};
-use crate::sending::{are_fed, end_on, has_succeeded, jobs_of, last_end};
-use crate::trouble::{Refused, Troubles};
+use crate::lane::{LaneState, lane_states_for, meet_lanes, run_beside};
+use crate::phase_faults::{PhaseFaults, Refused};
+use crate::sending::{end_on, has_succeeded, jobs_of, last_end, none_starved};
 use am_board::begin::Begun;
 use am_board::fault::{Fault, NoteFault};
 use am_board::notice::Report;
-use am_cli::fault::{InputFault, Word};
-use am_cli::place::Place;
+use am_cli::fault::{FaultKind, InputFault};
+use am_cli::place::JsonPointer;
 use am_desk::{CloseFault, Closed, Desk, Name, NotOpen, OwnTicket, Pass};
 use am_pool::PoolFault;
 use am_retry::Outcome;
@@ -38,14 +38,14 @@ pub struct Run<N: Name> {
     desk: Desk<N>,
     /// The main thread's, which begins, notes and finishes.
     main: Pass<N>,
-    /// Lane i has seat i, with the pass i + 1.
-    seats: Vec<Seat<N>>,
+    /// Lane i has state i, with the pass i + 1.
+    lane_states: Vec<LaneState<N>>,
     /// Has room for all passes.
     passes: Vec<Pass<N>>,
-    troubles: Troubles,
+    faults: PhaseFaults,
     /// The reports on the notices so far.
     reports: Vec<Report>,
-    ghost seated: { vec_len seats + 1 ≡ N.plan.passes },
+    ghost seated: { vec_len lane_states + 1 ≡ N.plan.passes },
 }
 
 impl<N: Name + Send + Sync> Run<N> {
@@ -55,8 +55,8 @@ impl<N: Name + Send + Sync> Run<N> {
     pub fn new(alloc: Global, desk: Desk<N>, passes: Vec<Pass<N>>) -> Result<Run<N>, InputFault>
         requires { AreFresh 0 passes.items × (vec_len passes ≡ N.plan.passes) × (0 < N.plan.passes) }
         ensures lanes { IfOk result (λ run. HaveMade 0 [] (lanes_of run)) }
-        ensures main { IfOk result (λ run. HadNoParts run.main (lanes_of run) run.reports.items) }
-        ensures refused { IfErr result (IsRefusedBy Word.Full) }
+        ensures main { IfOk result (λ run. BeforePhases run.main (lanes_of run) run.reports.items) }
+        ensures refused { IfErr result (IsRefusedBy FaultKind.Full) }
     {
         Run::seated(alloc, desk, passes)
     }
@@ -65,20 +65,20 @@ impl<N: Name + Send + Sync> Run<N> {
     fn seated(alloc: Global, desk: Desk<N>, mut passes: Vec<Pass<N>>) -> Result<Run<N>, InputFault>
         requires { AreFresh 0 passes.items × (vec_len passes ≡ N.plan.passes) × (0 < N.plan.passes) }
         ensures numbers { IfOk result (λ run. (run.main.number ≡ 0)
-            × (map (λ s. s.pass.number) run.seats.items ≡ range_with_len 1 (vec_len run.seats))) }
+            × (map (λ s. s.pass.number) run.lane_states.items ≡ range_with_len 1 (vec_len run.lane_states))) }
         ensures lanes { IfOk result (λ run. HaveMade 0 [] (lanes_of run)) }
-        ensures main { IfOk result (λ run. HadNoParts run.main (lanes_of run) run.reports.items) }
-        ensures refused { IfErr result (IsRefusedBy Word.Full) }
+        ensures main { IfOk result (λ run. BeforePhases run.main (lanes_of run) run.reports.items) }
+        ensures refused { IfErr result (IsRefusedBy FaultKind.Full) }
     {
         let main = passes.remove(0);
-        let seats = seats_for(alloc, &mut passes)?;
+        let lane_states = lane_states_for(alloc, &mut passes)?;
         Ok(Run {
             alloc,
             desk,
             main,
-            seats,
+            lane_states,
             passes,
-            troubles: Troubles::none(),
+            faults: PhaseFaults::none(),
             reports: Vec::new(alloc),
         })
     }
@@ -86,22 +86,22 @@ impl<N: Name + Send + Sync> Run<N> {
     /// The closed desk, and the reports on the notices.
     pub fn close(self) -> Result<(Closed, Vec<Report>), InputFault>
         ensures terms { IfOk result (λ r. terms_of r.0 ≡ N.terms) }
-        ensures main { IfOk result (λ r. Stands self.main r.0.history) }
+        ensures main { IfOk result (λ r. IsPrefixViewOf self.main r.0.history) }
         ensures reports { IfOk result (λ r. r.1 ≡ self.reports) }
-        ensures lanes { IfOk result (λ r. All (λ p. Stands p r.0.history) (lanes_of self)) }
+        ensures lanes { IfOk result (λ r. All (λ p. IsPrefixViewOf p r.0.history) (lanes_of self)) }
         ensures others { IfOk result (λ r. (k : ℕ) → length (lanes_of self) < k → made k r.0.history ≡ 0) }
-        ensures refused { IfErr result (IsRefusedBy Word.Full) }
+        ensures refused { IfErr result (IsRefusedBy FaultKind.Full) }
     {
         let Run {
             alloc,
             desk,
             main,
-            seats,
+            lane_states,
             mut passes,
-            troubles: _,
+            faults: _,
             reports,
         } = self;
-        put_back(&mut passes, main, seats)?;
+        put_back(&mut passes, main, lane_states)?;
         Ok((close(alloc, desk, passes)?, reports))
     }
 
@@ -118,9 +118,9 @@ impl<N: Name + Send + Sync> Run<N> {
     ) -> Result<(), InputFault>
         requires { vec_len phase.lanes < N.plan.passes }
         ensures lanes { OnOk result (MadeLanes phase.at phase.lanes.items (lanes_of self.old) (lanes_of self.new)) }
-        ensures turn { OnOk result (TookPart C.answers N.terms phase self.old.main self.new.main
+        ensures turn { OnOk result (RunsPhase C.answers N.terms phase self.old.main self.new.main
             (lanes_of self.old) (lanes_of self.new) self.old.reports.items self.new.reports.items) }
-        ensures refused { IfErr result (IsRefusedBy Word.Full) }
+        ensures refused { IfErr result (IsRefusedBy FaultKind.Full) }
     {
         let Phase { at, flush, lanes } = phase;
         let mut tickets = Vec::new(self.alloc);
@@ -130,13 +130,13 @@ impl<N: Name + Send + Sync> Run<N> {
         let reports = self.send_all(rt, couriers, at, &mut tickets, lanes);
         self.finish_all(rt, at, tickets, reports.as_slice());
         self.keep(reports.as_slice());
-        self.troubles.verdict(self.alloc, index)
+        self.faults.verdict(self.alloc, index)
     }
 
     /// Begins flushes until no group is due, or as many are open as may be.
     fn begin_all<R: Wait>(&mut self, rt: &R, at: u64, tickets: &mut Vec<OwnTicket<N>>)
         ensures keeps { Keeps self.old self.new }
-        ensures begins { AreNone self.new.troubles
+        ensures begins { HasNoFault self.new.faults
             → Begins N.terms true false at self.old.main self.new.main tickets.old.items tickets.new.items }
     {
         // This ends, since each begin leaves a record.
@@ -146,12 +146,12 @@ impl<N: Name + Send + Sync> Run<N> {
     /// Begins a flush. Answers whether there may be more to begin.
     fn begin<R: Wait>(&mut self, rt: &R, at: u64, tickets: &mut Vec<OwnTicket<N>>) -> bool
         ensures keeps { Keeps self.old self.new }
-        ensures begins { AreNone self.new.troubles
+        ensures begins { HasNoFault self.new.faults
             → Begins N.terms true result at self.old.main self.new.main tickets.old.items tickets.new.items }
         ensures grows { IsTrue result → Grows N.terms self.old.main self.new.main }
     {
         if tickets.reserve(1).is_err() {
-            self.troubles.add_no_memory();
+            self.faults.add_no_memory();
             return false;
         }
         match self.desk.begin(rt, self.alloc, &mut self.main, at) {
@@ -169,7 +169,7 @@ impl<N: Name + Send + Sync> Run<N> {
             // The groups that are left stay due.
             Err(Fault::TooManyOpen) => false,
             Err(fault) => {
-                self.troubles.refuse(fault, Refused::Begin);
+                self.faults.refuse(fault, Refused::Begin);
                 false
             }
         }
@@ -189,12 +189,12 @@ impl<N: Name + Send + Sync> Run<N> {
         requires lanes { vec_len lanes < N.plan.passes }
         ensures lanes { RunsLanes at lanes.items self.old self.new }
         ensures reports { self.new.reports ≡ self.old.reports }
-        ensures beside { AreNone self.new.troubles
-            → RanFirst self.old.main self.new.main (lanes_of self.old) (lanes_of self.new) }
-        ensures sent { AreNone self.new.troubles
+        ensures beside { HasNoFault self.new.faults
+            → RanBefore self.old.main self.new.main (lanes_of self.old) (lanes_of self.new) }
+        ensures sent { HasNoFault self.new.faults
             → Sends C.answers N.terms at result.items tickets.old.items tickets.new.items self.old.main self.new.main }
     {
-        if !self.troubles.are_none() {
+        if !self.faults.are_none() {
             return Vec::new(self.alloc);
         }
         let reports = self.run_beside(rt, couriers, at, tickets.as_slice(), lanes);
@@ -219,28 +219,28 @@ impl<N: Name + Send + Sync> Run<N> {
         requires lanes { vec_len lanes < N.plan.passes }
         ensures lanes { RunsLanes at lanes.items self.old self.new }
         ensures reports { self.new.reports ≡ self.old.reports }
-        ensures beside { AreNone self.new.troubles
-            → RanBeside self.old.main self.new.main (lanes_of self.old) (lanes_of self.new) }
-        ensures sent { AreNone self.new.troubles
+        ensures beside { HasNoFault self.new.faults
+            → RanConcurrently self.old.main self.new.main (lanes_of self.old) (lanes_of self.new) }
+        ensures sent { HasNoFault self.new.faults
             → AllZip (IsSentFrom C.answers at) (to_send (map opened_of tickets.now)) result.items }
     {
         let Ok(jobs) = jobs_of(self.alloc, tickets, at) else {
-            self.troubles.add_no_memory();
+            self.faults.add_no_memory();
             return Vec::new(self.alloc);
         };
-        let seats = self.seats.as_mut_slice();
-        meet_lanes(&self.desk, &mut self.main, seats);
+        let lane_states = self.lane_states.as_mut_slice();
+        meet_lanes(&self.desk, &mut self.main, lane_states);
         let sent = run_beside(
             rt,
             self.alloc,
             &self.desk,
             at,
-            seats,
+            lane_states,
             lanes,
             couriers,
             jobs.as_slice(),
         );
-        hear_joined(&self.desk, &mut self.main, seats, &mut self.troubles);
+        hear_joined(&self.desk, &mut self.main, lane_states, &mut self.faults);
         self.hear_couriers(sent)
     }
 
@@ -248,22 +248,22 @@ impl<N: Name + Send + Sync> Run<N> {
     fn hear_couriers(&mut self, sent: Result<Vec<Report>, PoolFault>) -> Vec<Report>
         ensures keeps { Keeps self.old self.new }
         ensures rests { Rests self.old self.new }
-        ensures heard { AreNone self.new.troubles → sent ≡ Ok result }
-        ensures fed { AreNone self.new.troubles → All IsFed result.items }
+        ensures heard { HasNoFault self.new.faults → sent ≡ Ok result }
+        ensures fed { HasNoFault self.new.faults → All IsNotStarved result.items }
     {
         match sent {
             Ok(reports) => {
-                if !are_fed(reports.as_slice()) {
-                    self.troubles.add_no_memory();
+                if !none_starved(reports.as_slice()) {
+                    self.faults.add_no_memory();
                 }
                 reports
             }
             Err(PoolFault::NoMemory) => {
-                self.troubles.add_no_memory();
+                self.faults.add_no_memory();
                 Vec::new(self.alloc)
             }
             Err(_) => {
-                self.troubles.add(Refused::Ending);
+                self.faults.add(Refused::Ending);
                 Vec::new(self.alloc)
             }
         }
@@ -274,7 +274,7 @@ impl<N: Name + Send + Sync> Run<N> {
         ensures { Gathers reports.now self.old self.new }
     {
         if self.reports.extend_from_slice(reports).is_err() {
-            self.troubles.add_no_memory();
+            self.faults.add_no_memory();
         }
     }
 
@@ -287,13 +287,13 @@ impl<N: Name + Send + Sync> Run<N> {
         reports: &[Report],
     )
         ensures keeps { Keeps self.old self.new }
-        ensures recorded { AreNone self.new.troubles
+        ensures recorded { HasNoFault self.new.faults
             → tickets.new.items ≡ map (recorded_all reports.now) tickets.old.items }
-        ensures noted { AreNone self.new.troubles
+        ensures noted { HasNoFault self.new.faults
             → Notes N.terms (notes_of_all at reports.now tickets.new.items) self.old.main self.new.main }
     {
         if !record_all(tickets, reports) {
-            self.troubles.add(Refused::Ending);
+            self.faults.add(Refused::Ending);
             return;
         }
         self.note_all(rt, at, tickets.as_slice(), reports);
@@ -302,7 +302,7 @@ impl<N: Name + Send + Sync> Run<N> {
     /// Notes each success of these flushes.
     fn note_all<R: Wait>(&mut self, rt: &R, at: u64, tickets: &[OwnTicket<N>], reports: &[Report])
         ensures keeps { Keeps self.old self.new }
-        ensures noted { AreNone self.new.troubles
+        ensures noted { HasNoFault self.new.faults
             → Notes N.terms (notes_of_all at reports.now tickets.now) self.old.main self.new.main }
     {
         for own in tickets {
@@ -313,7 +313,7 @@ impl<N: Name + Send + Sync> Run<N> {
     /// Notes each success of a flush, when the sending of its notice was over.
     fn settle<R: Wait>(&mut self, rt: &R, at: u64, own: &OwnTicket<N>, reports: &[Report])
         ensures keeps { Keeps self.old self.new }
-        ensures noted { AreNone self.new.troubles
+        ensures noted { HasNoFault self.new.faults
             → Notes N.terms (notes_of at reports.now own.now own.now.notices) self.old.main self.new.main }
     {
         let ticket = own.ticket();
@@ -329,7 +329,7 @@ impl<N: Name + Send + Sync> Run<N> {
     /// Logs the success of a notice. Where the history has no room the finish logs it.
     fn note<R: Wait>(&mut self, rt: &R, now: u64, own: &OwnTicket<N>, place: usize)
         ensures keeps { Keeps self.old self.new }
-        ensures noted { AreNone self.new.troubles → NotesAt N.terms now own.now place self.old.main self.new.main }
+        ensures noted { HasNoFault self.new.faults → NotesAt N.terms now own.now place self.old.main self.new.main }
     {
         match self
             .desk
@@ -337,8 +337,8 @@ impl<N: Name + Send + Sync> Run<N> {
         {
             Ok(_) => {}
             Err(NoteFault::HistoryFull) => {}
-            Err(NoteFault::NoMemory) => self.troubles.add_no_memory(),
-            Err(_) => self.troubles.add(Refused::Ending),
+            Err(NoteFault::NoMemory) => self.faults.add_no_memory(),
+            Err(_) => self.faults.add(Refused::Ending),
         }
     }
 
@@ -351,7 +351,7 @@ impl<N: Name + Send + Sync> Run<N> {
         reports: &[Report],
     )
         ensures keeps { Keeps self.old self.new }
-        ensures finished { AreNone self.new.troubles
+        ensures finished { HasNoFault self.new.faults
             → Finishes at reports.now tickets.items self.old.main self.new.main }
     {
         let mut left = tickets;
@@ -365,11 +365,11 @@ impl<N: Name + Send + Sync> Run<N> {
 
     fn finish<R: Wait>(&mut self, rt: &R, own: OwnTicket<N>, now: u64)
         ensures keeps { Keeps self.old self.new }
-        ensures finished { AreNone self.new.troubles → FinishesOne now own self.old.main self.new.main }
+        ensures finished { HasNoFault self.new.faults → FinishesOne now own self.old.main self.new.main }
     {
         match self.desk.finish_own(rt, &mut self.main, own, now) {
             Ok(_) => {}
-            Err(NotOpen) => self.troubles.add(Refused::Ending),
+            Err(NotOpen) => self.faults.add(Refused::Ending),
         }
     }
 }
@@ -378,23 +378,23 @@ impl<N: Name + Send + Sync> Run<N> {
 fn hear_joined<N: Name>(
     desk: &Desk<N>,
     main: &mut Pass<N>,
-    seats: &mut [Seat<N>],
-    troubles: &mut Troubles,
+    lane_states: &mut [LaneState<N>],
+    faults: &mut PhaseFaults,
 )
-    ensures heard { AreNone troubles.new → AreNone troubles.old × NoneRefused seats.old }
-    ensures met { MeetsAll main.old main.new (passes_in seats.old) (passes_in seats.new) }
+    ensures heard { HasNoFault faults.new → HasNoFault faults.old × NoneRefused lane_states.old }
+    ensures met { MeetsAll main.old main.new (passes_in lane_states.old) (passes_in lane_states.new) }
 {
-    hear_lanes(seats, troubles);
-    meet_lanes(desk, main, seats);
+    hear_lanes(lane_states, faults);
+    meet_lanes(desk, main, lane_states);
 }
 
 /// Adds the refused calls of the lanes, by lane.
-fn hear_lanes<N: Name>(seats: &[Seat<N>], troubles: &mut Troubles)
-    ensures { AreNone troubles.new → AreNone troubles.old × NoneRefused seats.now }
+fn hear_lanes<N: Name>(lane_states: &[LaneState<N>], faults: &mut PhaseFaults)
+    ensures { HasNoFault faults.new → HasNoFault faults.old × NoneRefused lane_states.now }
 {
-    for (lane, seat) in seats.iter().enumerate() {
-        if let Some((call, fault)) = seat.refused() {
-            troubles.refuse(fault, Refused::Call { lane, call });
+    for (lane, lane_state) in lane_states.iter().enumerate() {
+        if let Some((call, fault)) = lane_state.refused() {
+            faults.refuse(fault, Refused::Call { lane, call });
         }
     }
 }
@@ -428,14 +428,14 @@ fn record_on<N: Name>(own: &mut OwnTicket<N>, reports: &[Report]) -> bool
 fn put_back<N: Name>(
     passes: &mut Vec<Pass<N>>,
     main: Pass<N>,
-    seats: Vec<Seat<N>>,
+    lane_states: Vec<LaneState<N>>,
 ) -> Result<(), InputFault>
-    ensures passes { OnOk result (passes.new.items ≡ passes.old.items ++ main ∷ passes_in seats.items) }
-    ensures refused { IfErr result (IsRefusedBy Word.Full) }
+    ensures passes { OnOk result (passes.new.items ≡ passes.old.items ++ main ∷ passes_in lane_states.items) }
+    ensures refused { IfErr result (IsRefusedBy FaultKind.Full) }
 {
     passes.push(main)?;
-    for seat in seats {
-        passes.push(seat.into_pass())?;
+    for lane_state in lane_states {
+        passes.push(lane_state.into_pass())?;
     }
     Ok(())
 }
@@ -443,9 +443,9 @@ fn put_back<N: Name>(
 /// Closes the desk of a run. No flush is open, and no pass is missing.
 fn close<N: Name>(alloc: Global, desk: Desk<N>, passes: Vec<Pass<N>>) -> Result<Closed, InputFault>
     ensures terms { IfOk result (λ closed. terms_of closed ≡ N.terms) }
-    ensures stand { IfOk result (λ closed. All (λ p. Stands p closed.history) passes.items) }
+    ensures stand { IfOk result (λ closed. All (λ p. IsPrefixViewOf p closed.history) passes.items) }
     ensures others { IfOk result (λ closed. (k : ℕ) → N.plan.passes ≤ k → made k closed.history ≡ 0) }
-    ensures refused { IfErr result (IsRefusedBy Word.Full) }
+    ensures refused { IfErr result (IsRefusedBy FaultKind.Full) }
 {
     match desk.close(passes) {
         Ok(closed) => Ok(closed),
@@ -455,6 +455,6 @@ fn close<N: Name>(alloc: Global, desk: Desk<N>, passes: Vec<Pass<N>>) -> Result<
                 desk: _desk,
                 passes: _passes,
             },
-        ) => Err(Place::Top.refuse(alloc, Word::Full)),
+        ) => Err(JsonPointer::Root.refuse(alloc, FaultKind::Full)),
     }
 }

@@ -7,7 +7,7 @@ ghost use Rattle.am_desk.specs.Terms.{terms};
 ghost use Rattle.am_model.specs.Config.{config_fault};
 ghost use Rattle.am_play.specs.Faults.{Refuses, status_of};
 ghost use Rattle.am_play.specs.Plays.{IsPlay, IsPlayOf};
-ghost use Rattle.am_scenario.specs.Told.{IsScenarioIn};
+ghost use Rattle.am_scenario.specs.Decoding.{IsScenarioIn};
 ghost use Rattle.am_play.specs.declared.run.TheConstants.{BOARD_ID};
 ghost use Rattle.am_scenario.specs.declared.scenario.TheConstants.{MAX_LANES};
 
@@ -16,8 +16,8 @@ use crate::fault::RunFault;
 use crate::phase::Run;
 use am_board::config::Config;
 use am_cli::device::{Sink, Source};
-use am_cli::fault::{InputFault, Word};
-use am_cli::place::Place;
+use am_cli::fault::{FaultKind, InputFault};
+use am_cli::place::JsonPointer;
 use am_cli::reader::parse;
 use am_cli::transfer::{MAX_INPUT, read_all, write_all};
 use am_desk::{Blank, BlankFault, Brand, Desk, Name, OpenFault, Pass};
@@ -106,7 +106,7 @@ pub fn play_scenario<R: Threads + Wait + Sync>(
     scenario: Scenario,
 ) -> Result<String, InputFault>
     ensures report { IfOk result (λ text. IsPlayOf BOARD_ID scenario (string_bytes text)) }
-    ensures refused { IfErr result (λ fault. config_fault scenario.config ≡ None → IsRefusedBy Word.Full fault) }
+    ensures refused { IfErr result (λ fault. config_fault scenario.config ≡ None → IsRefusedBy FaultKind.Full fault) }
 {
     let blank = blank_for(alloc, scenario.phases.as_slice())?;
     play_on::<Brand, Brand, R>(rt, alloc, scenario, blank)
@@ -125,7 +125,7 @@ fn play_on<N: Name + Send + Sync, S: Scripts + Send, R: Threads + Wait + Sync>(
     requires scripts { scenario.scripts.items ≡ S.scripts }
     requires lanes { All (λ p. vec_len p.lanes < blank.passes) scenario.phases.items }
     ensures report { IfOk result (λ text. IsPlayOf BOARD_ID scenario (string_bytes text)) }
-    ensures refused { IfErr result (λ fault. config_fault scenario.config ≡ None → IsRefusedBy Word.Full fault) }
+    ensures refused { IfErr result (λ fault. config_fault scenario.config ≡ None → IsRefusedBy FaultKind.Full fault) }
 {
     let Scenario {
         config,
@@ -148,7 +148,7 @@ fn play_on<N: Name + Send + Sync, S: Scripts + Send, R: Threads + Wait + Sync>(
 pub fn blank_for(alloc: Global, phases: &[Phase]) -> Result<Blank, InputFault>
     ensures id { IfOk result (λ blank. blank.id ≡ BOARD_ID) }
     ensures lanes { IfOk result (λ blank. All (λ p. vec_len p.lanes < blank.passes) phases.now) }
-    ensures refused { IfErr result (IsRefusedBy Word.Full) }
+    ensures refused { IfErr result (IsRefusedBy FaultKind.Full) }
 {
     let lanes = most_lanes(phases);
     match Blank::new(alloc, BOARD_ID, 1 + lanes as u32) {
@@ -178,14 +178,14 @@ pub fn open<N: Name>(
 ) -> Result<(Desk<N>, Vec<Pass<N>>), InputFault>
     requires { (blank ≡ N.plan) × (terms config blank.id ≡ N.terms) }
     ensures passes { IfOk result (λ r. AreFresh 0 r.1.items × (vec_len r.1 ≡ N.plan.passes) × (0 < N.plan.passes)) }
-    ensures refused { IfErr result (λ fault. config_fault config ≡ None → IsRefusedBy Word.Full fault) }
+    ensures refused { IfErr result (λ fault. config_fault config ≡ None → IsRefusedBy FaultKind.Full fault) }
 {
     match Desk::<N>::open(alloc, config, blank) {
         Ok(opened) => Ok(opened),
         Err(OpenFault::NoMemory) => Err(InputFault::NoMemory),
         Err(OpenFault::BadConfig(_)) => {
-            let top = Place::Top;
-            Err(top.member("config").refuse(alloc, Word::Value))
+            let top = JsonPointer::Root;
+            Err(top.member("config").refuse(alloc, FaultKind::BadValue))
         }
     }
 }

@@ -6,7 +6,7 @@ ghost use Rattle.am_model.specs.Finish.{is_delivered};
 ghost use Rattle.am_model.specs.Notice.{is_nothing};
 ghost use Rattle.am_pool.specs.Delivery.{is_starved};
 ghost use Rattle.am_pool.specs.Work.{IsReady};
-ghost use Rattle.am_play.specs.Sendings.{IsFed, IsSendingOf};
+ghost use Rattle.am_play.specs.Sendings.{IsNotStarved, IsSendingOf};
 ghost use Rattle.am_play.specs.Steps.{StartsAt, end_on, notices_of, opened_of};
 ghost use Rattle.am_play.specs.Turns.{last_end, report_on, reports_on, sendable, to_send};
 
@@ -79,8 +79,8 @@ fn know_tries<C: Answering>(couriers: &[C])
 }
 
 /// Whether no attempt that was due lacked memory.
-pub fn are_fed(reports: &[Report]) -> bool
-    ensures { IsTrue result → All IsFed reports.now }
+pub fn none_starved(reports: &[Report]) -> bool
+    ensures { IsTrue result → All IsNotStarved reports.now }
 {
     for report in reports {
         if is_starved(report) {

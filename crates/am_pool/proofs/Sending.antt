@@ -137,7 +137,7 @@ module _ (jobs : List Job) where
       let is : IsReportOf (all.2).job run.1 =
       record {
         names = (all.2).of_notice;
-        told = delivery.told;
+        responses = delivery.responses;
         has = delivery.has;
         attempts_are = delivery.attempts_are;
         end_is = delivery.end_is;

@@ -2,7 +2,7 @@
 use Rattle.std.specs.Prelude.{◌≡◌, ℕ, ◌+◌, Bool, true, false, if◌then◌else◌, List, ◌++◌, length}
 use Rattle.am_retry.specs.declared.outcome.Outcome.{Outcome}
 use Rattle.am_retry.specs.declared.outcome.Outcome.TheVariants.{Delivered, Refused, Expired, Starved}
-use Rattle.am_retry.specs.Attempts.{Told, end_after, tries_of}
+use Rattle.am_retry.specs.Attempts.{Response, end_after, tries_of}
 use Rattle.am_retry.specs.Outcome.{HasOutcome}
 use Rattle.am_model.specs.Notice.{NoticeData}
 use Rattle.am_model.specs.declared.notice.Report.{Report}
@@ -26,9 +26,9 @@ IsReportOn notice report =
 -- courier refused one more attempt exactly where the outcome is Starved, which says that an attempt was due
 pub record IsDelivery (notice : NoticeData) (start : ℕ) (tries : List Tried) (refusals : ℕ)
     (tries_since : List Tried) (refusals_since : ℕ) (report : Report) : Type 0 where
-  pub told : List Told
-  pub appended : tries_since ≡ tries ++ all_tried_for notice (tries_of start told)
-  pub has : HasOutcome start notice.deadline told report.outcome
-  pub attempts_are : report.attempts ≡ length told
-  pub end_is : report.ended ≡ end_after start told
+  pub responses : List Response
+  pub appended : tries_since ≡ tries ++ all_tried_for notice (tries_of start responses)
+  pub has : HasOutcome start notice.deadline responses report.outcome
+  pub attempts_are : report.attempts ≡ length responses
+  pub end_is : report.ended ≡ end_after start responses
   pub refused : refusals_since ≡ refusals + (if is_starved report.outcome then 1 else 0)

@@ -2,7 +2,7 @@
 use Rattle.std.specs.Prelude.{◌≡◌, ◌+◌, ◌==◌, ℕ, ◌||◌, nat_lt, List, [], ◌∷◌, ⊤, length, Option, None, Some, slice_get, sum_by}
 use Rattle.std.specs.Prelude.{count_by, if◌then◌else◌}
 use Rattle.am_model.specs.declared.notice.Report.{Report}
-use Rattle.am_retry.specs.Attempts.{Told, end_after}
+use Rattle.am_retry.specs.Attempts.{Response, end_after}
 use Rattle.am_retry.specs.Outcome.{HasOutcome}
 use Rattle.am_pool.specs.Delivery.{IsDelivery, IsReportOn, is_starved}
 use Rattle.am_pool.specs.declared.courier.Tried.{Tried}
@@ -16,10 +16,10 @@ use Rattle.am_pool.specs.declared.worker.Job.{Job}
 -- the number and the end of answers to its attempts
 pub record IsReportOf (job : Job) (report : Report) : Type 0 where
   pub names : IsReportOn job.notice.now report
-  pub told : List Told
-  pub has : HasOutcome job.start job.notice.now.deadline told report.outcome
-  pub attempts_are : report.attempts ≡ length told
-  pub end_is : report.ended ≡ end_after job.start told
+  pub responses : List Response
+  pub has : HasOutcome job.start job.notice.now.deadline responses report.outcome
+  pub attempts_are : report.attempts ≡ length responses
+  pub end_is : report.ended ≡ end_after job.start responses
 
 -- there are as many reports as jobs, and report k is of job k
 pub record AreReportsOf (jobs : List Job) (reports : List Report) : Type 0 where

@@ -5,8 +5,8 @@ use Rattle.am_retry.specs.Attempts.{Try}
 use Rattle.am_pool.specs.declared.courier.Sent.{Sent}
 use Rattle.am_pool.specs.declared.courier.Tried.{Tried}
 
--- what a journal tells of its courier: its tries, and how many attempts it refused
-pub record JournalData : Type 0 where
+-- what a trace tells of its courier: its tries, and how many attempts it refused
+pub record AttemptTraceData : Type 0 where
   pub tries : List Tried
   pub refusals : ℕ
 

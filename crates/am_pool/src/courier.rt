@@ -36,7 +36,7 @@ pub struct Tried {
 /// Makes attempts to send notices.
 ///
 /// Contracts see the list of its tries and the number of its refusals. A courier of a program keeps
-/// both in a [`crate::Journal`], which takes no memory.
+/// both in a [`crate::AttemptTrace`], which takes no memory.
 pub trait Courier {
     ghost tries: { Self → List Tried };
 

@@ -8,7 +8,6 @@
 mod courier;
 mod delivery;
 mod fault;
-mod journal;
 mod law;
 mod limits;
 mod pool;
@@ -17,14 +16,15 @@ mod pool_tests;
 mod queue;
 #[cfg(test)]
 mod tests;
+mod trace;
 mod worker;
 
 pub use courier::{Courier, Sent, Tried};
 pub use delivery::deliver;
 pub use fault::PoolFault;
-pub use journal::Journal;
 pub use law::{fault_numbers_are, limits_are, queue_deals_each_number_once};
 pub use limits::{MAX_JOBS, MAX_WORKERS};
 pub use pool::run_jobs;
 pub use queue::Hand;
+pub use trace::AttemptTrace;
 pub use worker::Job;

@@ -3,7 +3,7 @@ ghost use Rattle.std.specs.Prelude.{All, IfOk};
 ghost use Rattle.am_pool.specs.Work.{IsReady};
 
 use crate::tests::notice;
-use crate::{Courier, Job, Journal, PoolFault, Sent, Tried, run_jobs};
+use crate::{AttemptTrace, Courier, Job, PoolFault, Sent, Tried, run_jobs};
 use am_board::notice::{Notice, Report};
 use am_retry::{Answer, Outcome};
 use crossbeam_utils::atomic::AtomicCell;
@@ -20,13 +20,13 @@ struct Meeting<'f> {
     flags: &'f [AtomicCell<u64>],
     own: usize,
     sent: usize,
-    journal: Journal,
+    trace: AttemptTrace,
 }
 
 impl Courier for Meeting<'_> {
-    ghost tries = { λ c. c.journal.tries };
+    ghost tries = { λ c. c.trace.tries };
 
-    ghost refusals = { λ c. c.journal.refusals };
+    ghost refusals = { λ c. c.trace.refusals };
 
     fn send(&mut self, notice: &Notice, attempt: u64, at: u64) -> Result<Sent, AllocError> {
         let met = meet(self.flags, self.own);
@@ -36,7 +36,7 @@ impl Courier for Meeting<'_> {
         };
         self.sent = self.sent.saturating_add(1);
         let tried = Tried::new(notice, attempt, at, &sent);
-        self.journal.add_try(&tried);
+        self.trace.add_try(&tried);
         Ok(sent)
     }
 }
@@ -95,7 +95,7 @@ fn couriers_for<'f>(alloc: Global, flags: &'f [AtomicCell<u64>]) -> Result<Vec<M
             flags,
             own,
             sent: 0,
-            journal: Journal::new(),
+            trace: AttemptTrace::new(),
         })?;
     }
     Ok(couriers)
@@ -192,18 +192,18 @@ fn too_many(rt: HostRuntime) -> Result<(), Fail> {
 #[derive(Drop)]
 struct Refusing {
     refused: u64,
-    journal: Journal,
+    trace: AttemptTrace,
 }
 
 impl Courier for Refusing {
-    ghost tries = { λ c. c.journal.tries };
+    ghost tries = { λ c. c.trace.tries };
 
-    ghost refusals = { λ c. c.journal.refusals };
+    ghost refusals = { λ c. c.trace.refusals };
 
     fn send(&mut self, notice: &Notice, attempt: u64, at: u64) -> Result<Sent, AllocError> {
         if notice.ticket == 0 && attempt == 2 {
             self.refused = self.refused.saturating_add(1);
-            self.journal.add_refusal();
+            self.trace.add_refusal();
             return Err(AllocError);
         }
         let sent = Sent {
@@ -215,7 +215,7 @@ impl Courier for Refusing {
             ended: at,
         };
         let tried = Tried::new(notice, attempt, at, &sent);
-        self.journal.add_try(&tried);
+        self.trace.add_try(&tried);
         Ok(sent)
     }
 }
@@ -224,7 +224,7 @@ impl Refusing {
     fn new() -> Refusing {
         Refusing {
             refused: 0,
-            journal: Journal::new(),
+            trace: AttemptTrace::new(),
         }
     }
 }

@@ -1,5 +1,5 @@
 //! Deliveries by couriers that answer by a plan.
-use crate::{Courier, Journal, Sent, Tried, deliver};
+use crate::{AttemptTrace, Courier, Sent, Tried, deliver};
 use am_alerts::alert::Alert;
 use am_alerts::labels::Labels;
 use am_alerts::sequence::Sequence;
@@ -17,7 +17,7 @@ struct Planned {
     first: Option<Answer>,
     further: Option<Answer>,
     sent: u64,
-    journal: Journal,
+    trace: AttemptTrace,
 }
 
 impl Planned {
@@ -26,15 +26,15 @@ impl Planned {
             first,
             further,
             sent: 0,
-            journal: Journal::new(),
+            trace: AttemptTrace::new(),
         }
     }
 }
 
 impl Courier for Planned {
-    ghost tries = { λ c. c.journal.tries };
+    ghost tries = { λ c. c.trace.tries };
 
-    ghost refusals = { λ c. c.journal.refusals };
+    ghost refusals = { λ c. c.trace.refusals };
 
     fn send(&mut self, notice: &Notice, attempt: u64, at: u64) -> Result<Sent, AllocError> {
         let planned = if attempt == 1 {
@@ -43,13 +43,13 @@ impl Courier for Planned {
             self.further
         };
         let Some(answer) = planned else {
-            self.journal.add_refusal();
+            self.trace.add_refusal();
             return Err(AllocError);
         };
         let sent = Sent { answer, ended: at };
         self.sent = self.sent.saturating_add(1);
         let tried = Tried::new(notice, attempt, at, &sent);
-        self.journal.add_try(&tried);
+        self.trace.add_try(&tried);
         Ok(sent)
     }
 }

@@ -6,7 +6,7 @@ use Rattle.std.specs.List.{range_with_len}
 use Rattle.am_model.specs.declared.notice.Report.{Report}
 use Rattle.am_rehearsal.specs.declared.event.Event.{Event}
 use Rattle.am_rehearsal.specs.declared.event.Event.TheVariants.{Begun, Sent}
-use Rattle.am_rehearsal.specs.Happened.{begun_by, begun_in}
+use Rattle.am_rehearsal.specs.EventOrder.{begin_index_of, begin_indices}
 
 range-more : (a n : ℕ) → range_with_len a (suc n) ≡ range_with_len a n ++ (a + n) ∷ []
 range-more a zero = let e : a ≡ a + 0 = omega arith in ap (λ (k : ℕ). k ∷ []) e
@@ -16,16 +16,16 @@ range-more a (suc n) =
 
 -- a begin more
 pub begun_more : (old new : List Event) (place count more : ℕ) → new ≡ old ++ Begun place ∷ [] → place ≡ count → more ≡ count + 1
-    → begun_in old ≡ range_with_len 0 count → begun_in new ≡ range_with_len 0 more
+    → begin_indices old ≡ range_with_len 0 count → begin_indices new ≡ range_with_len 0 more
 begun_more old new place count more is same counts was =
     let e : 0 + count ≡ count = omega arith in
-    ap begun_in is
-    ∙ filter_map-append begun_by old (Begun place ∷ [])
+    ap begin_indices is
+    ∙ filter_map-append begin_index_of old (Begun place ∷ [])
     ∙ ap (λ (l : List ℕ). l ++ place ∷ []) was
     ∙ ap (λ (k : ℕ). range_with_len 0 count ++ k ∷ []) (same ∙ sym e)
     ∙ sym (range-more 0 count)
     ∙ ap (λ (n : ℕ). range_with_len 0 n) (sym (add-one count) ∙ sym counts)
 
 -- and something else
-pub begun_same : (old new : List Event) (begin : ℕ) (report : Report) → new ≡ old ++ Sent begin report ∷ [] → begun_in new ≡ begun_in old
-begun_same old new begin report is = ap begun_in is ∙ filter_map-append begun_by old (Sent begin report ∷ []) ∙ append-nil (begun_in old)
+pub begun_same : (old new : List Event) (begin : ℕ) (report : Report) → new ≡ old ++ Sent begin report ∷ [] → begin_indices new ≡ begin_indices old
+begun_same old new begin report is = ap begin_indices is ∙ filter_map-append begin_index_of old (Sent begin report ∷ []) ∙ append-nil (begin_indices old)

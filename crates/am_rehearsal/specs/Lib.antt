@@ -1,4 +1,4 @@
-pub mod Told
+pub mod Previews
 pub mod Planned
-pub mod Happened
+pub mod EventOrder
 pub mod Faults

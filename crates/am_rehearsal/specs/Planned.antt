@@ -7,46 +7,46 @@ use Rattle.am_model.specs.declared.record.Call.TheVariants as call
 use Rattle.am_model.specs.declared.record.Record.{Record}
 use Rattle.am_model.specs.Records.{call_of_silence}
 use Rattle.am_board.specs.History.{BoardData}
-use Rattle.am_rehearsal.specs.declared.rehearsal.Act.{Act}
-use Rattle.am_rehearsal.specs.declared.rehearsal.Act.TheVariants.{Insert, Silence}
-use Rattle.am_rehearsal.specs.declared.rehearsal.Plan.{Plan}
+use Rattle.am_rehearsal.specs.declared.rehearsal.Action.{Action}
+use Rattle.am_rehearsal.specs.declared.rehearsal.Action.TheVariants.{Insert, Silence}
+use Rattle.am_rehearsal.specs.declared.rehearsal.TimedAction.{TimedAction}
 
 -- a call, if it is one that is planned: an insert or a silence
-abbrev pub act_of : Call → Option Call
-act_of (call.Insert now alert) = Some (call.Insert now alert)
-act_of (call.Silence now id matchers start end) = Some (call.Silence now id matchers start end)
-act_of (call.Begin now) = None
-act_of (call.Finish now number outcomes) = None
-act_of (call.Maintain now) = None
-act_of (call.Note now number integration outcome) = None
+abbrev pub input_of : Call → Option Call
+input_of (call.Insert now alert) = Some (call.Insert now alert)
+input_of (call.Silence now id matchers start end) = Some (call.Silence now id matchers start end)
+input_of (call.Begin now) = None
+input_of (call.Finish now number outcomes) = None
+input_of (call.Maintain now) = None
+input_of (call.Note now number integration outcome) = None
 
--- acted: the inserts and the silences of a history, in their order
-abbrev pub acted : List Record → List Call
-acted history = filter_map (λ r. act_of r.call) history
+-- inputs_in: the inserts and the silences of a history, in their order
+abbrev pub inputs_in : List Record → List Call
+inputs_in history = filter_map (λ r. input_of r.call) history
 
 -- the call that something planned is: an insert of the alert, or the silence, at its moment
-abbrev pub call_of : ℕ → Act → Call
+abbrev pub call_of : ℕ → Action → Call
 call_of at (Insert alert) = call.Insert at alert
 call_of at (Silence silence) = call_of_silence at silence
 
 -- planned: the calls of plans, up to the first plan that is after the end
-abbrev pub planned : ℕ → List Plan → List Call
+abbrev pub planned : ℕ → List TimedAction → List Call
 planned until [] = []
 planned until (p ∷ ps) = if nat_le p.at until then call_of p.at p.act ∷ planned until ps else []
 
 -- what a board has of what is planned: its configuration, and its inserts and silences
-pub record Doings : Type 0 where
+pub record InputTrace : Type 0 where
   pub config : Config
   pub acts : List Call
 
--- the doings of a board
-unfoldable pub doings : BoardData → Doings
-doings board = record { config = board.config; acts = acted board.history }
+-- the inputs of a board
+unfoldable pub input_trace : BoardData → InputTrace
+input_trace board = record { config = board.config; acts = inputs_in board.history }
 
 -- a configuration, and nothing done
-abbrev pub nothing_done : Config → Doings
-nothing_done config = record { config = config; acts = [] }
+abbrev pub no_inputs : Config → InputTrace
+no_inputs config = record { config = config; acts = [] }
 
--- doings, and then calls
-abbrev pub with_acts : Doings → List Call → Doings
-with_acts done calls = record { config = done.config; acts = done.acts ++ calls }
+-- inputs, and then calls
+abbrev pub with_inputs : InputTrace → List Call → InputTrace
+with_inputs done calls = record { config = done.config; acts = done.acts ++ calls }

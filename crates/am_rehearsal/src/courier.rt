@@ -2,7 +2,7 @@
 use crate::rehearsal::Outage;
 use am_board::config::Config;
 use am_board::notice::Notice;
-use am_pool::{Courier, Journal, Sent, Tried};
+use am_pool::{AttemptTrace, Courier, Sent, Tried};
 use am_retry::Answer;
 use std::alloc::AllocError;
 
@@ -12,7 +12,7 @@ use std::alloc::AllocError;
 pub(crate) struct OutageCourier<'o> {
     config: &'o Config,
     outages: &'o [Outage],
-    journal: Journal,
+    trace: AttemptTrace,
 }
 
 impl<'o> OutageCourier<'o> {
@@ -20,7 +20,7 @@ impl<'o> OutageCourier<'o> {
         OutageCourier {
             config,
             outages,
-            journal: Journal::new(),
+            trace: AttemptTrace::new(),
         }
     }
 
@@ -61,14 +61,14 @@ impl Outage {
 }
 
 impl Courier for OutageCourier<'_> {
-    ghost tries = { λ c. c.journal.tries };
+    ghost tries = { λ c. c.trace.tries };
 
-    ghost refusals = { λ c. c.journal.refusals };
+    ghost refusals = { λ c. c.trace.refusals };
 
     fn send(&mut self, notice: &Notice, attempt: u64, at: u64) -> Result<Sent, AllocError> {
         let sent = self.answer(notice, at);
         let tried = Tried::new(notice, attempt, at, &sent);
-        self.journal.add_try(&tried);
+        self.trace.add_try(&tried);
         Ok(sent)
     }
 }

@@ -1,14 +1,14 @@
 //! What a played rehearsal tells.
 use am_board::notice::Report;
-use am_board::outlook::Outlook;
+use am_board::preview::Preview;
 
 /// A begin that took a group, with what it was to do.
 #[derive(Debug, Drop)]
-pub struct ToldBegin {
+pub struct PreviewedBegin {
     /// The place of the begin's record in the history.
     pub place: usize,
     /// What it was to do, and why, told before it was made.
-    pub outlook: Outlook,
+    pub preview: Preview,
 }
 
 /// Something that happened, in the order in which it did.

@@ -9,9 +9,9 @@ pub mod event;
 mod law;
 mod limits;
 pub mod play;
+mod previewing;
 pub mod rehearsal;
 mod sending;
-mod told;
 
 pub use law::limits_are;
 pub use limits::{BOARD_ID, MAX_UNTIL};

@@ -5,16 +5,16 @@
 ghost use Rattle.std.specs.Prelude.{◌≡◌, ◌<◌, ◌≤◌, ◌∷◌, [], IfOk, IfSome, IsSome, None, length, vec_len, vec_capacity};
 ghost use Rattle.std.specs.List.{range_with_len};
 ghost use Rattle.am_alerts.specs.declared.limits.TheConstants.{MAX_MOMENT};
-ghost use Rattle.am_rehearsal.specs.Happened.{begun_in};
-ghost use Rattle.am_rehearsal.specs.Planned.{acted, call_of, doings, nothing_done, planned, with_acts};
-ghost use Rattle.am_rehearsal.specs.Told.{told};
+ghost use Rattle.am_rehearsal.specs.EventOrder.{begin_indices};
+ghost use Rattle.am_rehearsal.specs.Planned.{inputs_in, call_of, input_trace, no_inputs, planned, with_inputs};
+ghost use Rattle.am_rehearsal.specs.Previews.{previews_of};
 ghost use Rattle.am_rehearsal.specs.declared.limits.TheConstants.{BOARD_ID, MAX_UNTIL};
 
 use crate::courier::OutageCourier;
-use crate::event::{Event, ToldBegin};
-use crate::rehearsal::{Act, Outage, Plan, Rehearsal};
+use crate::event::{Event, PreviewedBegin};
+use crate::previewing::{OwnTicket, PreviewingBoard, Taken};
+use crate::rehearsal::{Action, Outage, Rehearsal, TimedAction};
 use crate::sending::{End, Sending, earlier, ends_of};
-use crate::told::{OwnTicket, Taken, ToldBoard};
 use am_board::board::Board;
 use am_board::config::{Config, MAX_HISTORY};
 use am_board::fault::{BoardFault, Fault, NoteFault};
@@ -26,7 +26,7 @@ use std::alloc::{AllocError, Global};
 #[derive(Drop)]
 pub struct Played {
     pub board: Board,
-    pub begins: Vec<ToldBegin>,
+    pub begins: Vec<PreviewedBegin>,
     pub events: Vec<Event>,
 }
 
@@ -54,10 +54,10 @@ pub fn play(alloc: Global, rehearsal: Rehearsal) -> Result<Played, PlayFault>
     ensures configured { IfOk result (λ played. played.board.config ≡ rehearsal.config) }
     ensures ours { IfOk result (λ played. played.board.id ≡ BOARD_ID) }
     ensures planned { IfOk result (λ played.
-        acted played.board.history ≡ planned rehearsal.until rehearsal.plans.items) }
-    ensures told { IfOk result (λ played. played.begins.items ≡ told played.board.config played.board.history) }
+        inputs_in played.board.history ≡ planned rehearsal.until rehearsal.plans.items) }
+    ensures previews { IfOk result (λ played. played.begins.items ≡ previews_of played.board.config played.board.history) }
     ensures begun { IfOk result (λ played.
-        begun_in played.events.items ≡ range_with_len 0 (vec_len played.begins)) }
+        begin_indices played.events.items ≡ range_with_len 0 (vec_len played.begins)) }
 {
     let Rehearsal {
         config,
@@ -90,7 +90,7 @@ enum Step {
 /// A rehearsal that is being played.
 struct Course<'o> {
     alloc: Global,
-    board: ToldBoard,
+    board: PreviewingBoard,
     outages: &'o [Outage],
     maintain: u64,
     /// In the order of their begins.
@@ -110,11 +110,11 @@ impl<'o> Course<'o> {
         outages: &'o [Outage],
         maintain: u64,
     ) -> Result<Course<'o>, PlayFault>
-        ensures { IfOk result (λ course. doings course.board.board ≡ nothing_done config) }
+        ensures { IfOk result (λ course. input_trace course.board.board ≡ no_inputs config) }
     {
         Ok(Course {
             alloc,
-            board: ToldBoard::new(alloc, config)?,
+            board: PreviewingBoard::new(alloc, config)?,
             outages,
             maintain,
             sendings: Vec::new(alloc),
@@ -126,10 +126,10 @@ impl<'o> Course<'o> {
     }
 
     /// Does what is planned up to the end, and plays what comes before it.
-    fn run_plans(&mut self, plans: Vec<Plan>, until: u64)
+    fn run_plans(&mut self, plans: Vec<TimedAction>, until: u64)
         requires { until ≤ MAX_UNTIL }
         ensures { self.new.trouble ≡ None → (self.old.trouble ≡ None)
-            × (doings self.new.board.board ≡ with_acts (doings self.old.board.board) (planned until plans.items)) }
+            × (input_trace self.new.board.board ≡ with_inputs (input_trace self.old.board.board) (planned until plans.items)) }
     {
         for (index, plan) in plans.into_iter().enumerate() {
             if plan.at > until {
@@ -147,7 +147,7 @@ impl<'o> Course<'o> {
     /// sendings at it.
     fn run_before(&mut self, at: u64)
         requires { at ≤ MAX_MOMENT }
-        ensures doings { doings self.new.board.board ≡ doings self.old.board.board }
+        ensures input_trace { input_trace self.new.board.board ≡ input_trace self.old.board.board }
         ensures trouble { self.new.trouble ≡ None → self.old.trouble ≡ None }
     {
         for _ in 0..u64::MAX {
@@ -166,7 +166,7 @@ impl<'o> Course<'o> {
 
     /// Plays the ends of what is being sent, and nothing else.
     fn end_all(&mut self)
-        ensures doings { doings self.new.board.board ≡ doings self.old.board.board }
+        ensures input_trace { input_trace self.new.board.board ≡ input_trace self.old.board.board }
         ensures trouble { self.new.trouble ≡ None → self.old.trouble ≡ None }
     {
         for _ in 0..u64::MAX {
@@ -212,18 +212,18 @@ impl<'o> Course<'o> {
     }
 
     /// Does what is planned, which is the plan at this place.
-    fn act(&mut self, index: usize, plan: Plan)
+    fn act(&mut self, index: usize, plan: TimedAction)
         ensures { self.new.trouble ≡ None → (self.old.trouble ≡ None)
-            × (doings self.new.board.board ≡ with_acts (doings self.old.board.board) (call_of plan.at plan.act ∷ [])) }
+            × (input_trace self.new.board.board ≡ with_inputs (input_trace self.old.board.board) (call_of plan.at plan.act ∷ [])) }
     {
         if self.trouble.is_some() {
             return;
         }
-        let Plan { at, act } = plan;
+        let TimedAction { at, act } = plan;
         self.clock = at;
         let done = match act {
-            Act::Insert(alert) => self.board.insert(self.alloc, at, alert),
-            Act::Silence(silence) => self.board.silence(self.alloc, at, silence),
+            Action::Insert(alert) => self.board.insert(self.alloc, at, alert),
+            Action::Silence(silence) => self.board.silence(self.alloc, at, silence),
         };
         if let Err(fault) = done {
             self.refuse(fault, PlayFault::PlanFull(index));
@@ -231,7 +231,7 @@ impl<'o> Course<'o> {
     }
 
     fn make_maintenance(&mut self, at: u64)
-        ensures { doings self.new.board.board ≡ doings self.old.board.board }
+        ensures { input_trace self.new.board.board ≡ input_trace self.old.board.board }
     {
         self.clock = at;
         self.next_maintenance = at.saturating_add(self.maintain);
@@ -254,7 +254,7 @@ impl<'o> Course<'o> {
     /// Begins flushes until no group is due, or as many are open as may be.
     fn begin_all(&mut self, at: u64)
         requires { at ≤ MAX_MOMENT }
-        ensures { doings self.new.board.board ≡ doings self.old.board.board }
+        ensures { input_trace self.new.board.board ≡ input_trace self.old.board.board }
     {
         self.clock = at;
         // Each begin leaves a record: the history is full before this ends.
@@ -268,7 +268,7 @@ impl<'o> Course<'o> {
     /// Begins a flush. Answers whether there may be more to begin.
     fn begin(&mut self, at: u64) -> bool
         requires { at ≤ MAX_MOMENT }
-        ensures { doings self.new.board.board ≡ doings self.old.board.board }
+        ensures { input_trace self.new.board.board ≡ input_trace self.old.board.board }
     {
         if self.sendings.reserve(1).is_err() {
             self.trouble = Some(PlayFault::NoMemory);
@@ -298,7 +298,7 @@ impl<'o> Course<'o> {
     fn send(&mut self, begin: usize, own: OwnTicket, at: u64)
         requires moment { at ≤ MAX_MOMENT }
         requires room { vec_len self.old.sendings < vec_capacity self.old.sendings }
-        ensures { doings self.new.board.board ≡ doings self.old.board.board }
+        ensures { input_trace self.new.board.board ≡ input_trace self.old.board.board }
     {
         let mut courier = OutageCourier::new(self.board.config(), self.outages);
         let ends = match ends_of(self.alloc, &mut courier, own.ticket(), at) {
@@ -314,16 +314,16 @@ impl<'o> Course<'o> {
     /// Tells the board of the ends of sendings that have come at `at`, and finishes the flushes of
     /// which all have.
     fn tell_ends(&mut self, at: u64)
-        ensures { doings self.new.board.board ≡ doings self.old.board.board }
+        ensures { input_trace self.new.board.board ≡ input_trace self.old.board.board }
     {
         self.clock = at;
-        let told = tell_all(
+        let answer = tell_all(
             self.alloc,
             &mut self.board,
             self.sendings.as_mut_slice(),
             at,
         );
-        if let Err(fault) = told {
+        if let Err(fault) = answer {
             self.trouble = Some(fault);
             return;
         }
@@ -332,7 +332,7 @@ impl<'o> Course<'o> {
 
     /// Finishes the flushes of which all notices have come to their ends.
     fn finish_over(&mut self, at: u64)
-        ensures { doings self.new.board.board ≡ doings self.old.board.board }
+        ensures { input_trace self.new.board.board ≡ input_trace self.old.board.board }
     {
         while let Some(place) = first_over(self.sendings.as_slice()) {
             let sending = self.sendings.remove(place);
@@ -346,7 +346,7 @@ impl<'o> Course<'o> {
     /// Finishes the flushes that are open, as they are.
     fn finish_all(&mut self)
         ensures none { vec_len self.new.sendings ≡ 0 }
-        ensures doings { doings self.new.board.board ≡ doings self.old.board.board }
+        ensures input_trace { input_trace self.new.board.board ≡ input_trace self.old.board.board }
         ensures trouble { self.new.trouble ≡ None → self.old.trouble ≡ None }
     {
         while !self.sendings.is_empty() {
@@ -361,11 +361,11 @@ impl<'o> Course<'o> {
     /// they are.
     fn close(mut self) -> Result<Played, PlayFault>
         ensures trouble { IfOk result (λ _. self.entry.trouble ≡ None) }
-        ensures doings { IfOk result (λ played. doings played.board ≡ doings self.entry.board.board) }
+        ensures input_trace { IfOk result (λ played. input_trace played.board ≡ input_trace self.entry.board.board) }
         ensures ours { IfOk result (λ played. played.board.id ≡ BOARD_ID) }
-        ensures told { IfOk result (λ played. played.begins.items ≡ told played.board.config played.board.history) }
+        ensures previews { IfOk result (λ played. played.begins.items ≡ previews_of played.board.config played.board.history) }
         ensures begun { IfOk result (λ played.
-            begun_in played.events.items ≡ range_with_len 0 (vec_len played.begins)) }
+            begin_indices played.events.items ≡ range_with_len 0 (vec_len played.begins)) }
     {
         self.finish_all();
         let Course {
@@ -395,8 +395,8 @@ impl<'o> Course<'o> {
 }
 
 /// Finishes a flush. Answers whether it was open.
-fn finish(board: &mut ToldBoard, sending: Sending, at: u64) -> bool
-    ensures { doings board.new.board ≡ doings board.old.board }
+fn finish(board: &mut PreviewingBoard, sending: Sending, at: u64) -> bool
+    ensures { input_trace board.new.board ≡ input_trace board.old.board }
 {
     let Sending {
         own,
@@ -429,11 +429,11 @@ fn first_end(sendings: &[Sending]) -> Option<u64> {
 /// Tells the board of the ends of these sendings that have come at `at`.
 fn tell_all(
     alloc: Global,
-    board: &mut ToldBoard,
+    board: &mut PreviewingBoard,
     sendings: &mut [Sending],
     at: u64,
 ) -> Result<(), PlayFault>
-    ensures { doings board.new.board ≡ doings board.old.board }
+    ensures { input_trace board.new.board ≡ input_trace board.old.board }
 {
     for sending in sendings.iter_mut() {
         tell_ends_of(alloc, board, sending, at)?;
@@ -444,11 +444,11 @@ fn tell_all(
 /// Tells the board of the ends of a sending that have come at `at`.
 fn tell_ends_of(
     alloc: Global,
-    board: &mut ToldBoard,
+    board: &mut PreviewingBoard,
     sending: &mut Sending,
     at: u64,
 ) -> Result<(), PlayFault>
-    ensures { doings board.new.board ≡ doings board.old.board }
+    ensures { input_trace board.new.board ≡ input_trace board.old.board }
 {
     for place in 0..sending.ends.len() {
         let end = sending.ends[place];
@@ -463,13 +463,13 @@ fn tell_ends_of(
 /// Records the end of the notice at a place, and notes a success.
 fn tell_end(
     alloc: Global,
-    board: &mut ToldBoard,
+    board: &mut PreviewingBoard,
     sending: &mut Sending,
     place: usize,
     end: End,
 ) -> Result<(), PlayFault>
     ensures ends { sending.new.ends ≡ sending.old.ends }
-    ensures doings { doings board.new.board ≡ doings board.old.board }
+    ensures input_trace { input_trace board.new.board ≡ input_trace board.old.board }
 {
     if let Some(report) = end.report {
         board.keep_sent(sending.begin, report)?;

@@ -18,7 +18,7 @@ pub struct Rehearsal {
     /// How often maintenance is made; not zero.
     pub maintain: u64,
     /// In the order of their moments.
-    pub plans: Vec<Plan>,
+    pub plans: Vec<TimedAction>,
     /// Of two that hold for one attempt the first counts.
     pub outages: Vec<Outage>,
     ghost ends: { until ≤ MAX_UNTIL },
@@ -27,14 +27,14 @@ pub struct Rehearsal {
 
 /// Something that happens at a moment.
 #[derive(Debug, Drop)]
-pub struct Plan {
+pub struct TimedAction {
     pub at: u64,
-    pub act: Act,
+    pub act: Action,
 }
 
 /// What happens.
 #[derive(Debug, Drop)]
-pub enum Act {
+pub enum Action {
     /// An alert comes, or comes again, as when it is resolved.
     Insert(Alert),
     /// A silence is made.

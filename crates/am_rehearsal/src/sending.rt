@@ -2,7 +2,7 @@
 ghost use Rattle.std.specs.Prelude.{◌≤◌};
 ghost use Rattle.am_alerts.specs.declared.limits.TheConstants.{MAX_MOMENT};
 
-use crate::told::OwnTicket;
+use crate::previewing::OwnTicket;
 use am_board::notice::Report;
 use am_board::ticket::Ticket;
 use am_pool::{Courier, deliver};

@@ -7,9 +7,9 @@ use am_alerts::text::Text;
 use am_board::config::{Config, Integration, Limits, Receiver};
 use am_board::reason::Reason;
 use am_rehearsal::MAX_UNTIL;
-use am_rehearsal::event::{Event, ToldBegin};
+use am_rehearsal::event::{Event, PreviewedBegin};
 use am_rehearsal::play::{PlayFault, Played, play};
-use am_rehearsal::rehearsal::{Act, Outage, Plan, Rehearsal};
+use am_rehearsal::rehearsal::{Action, Outage, Rehearsal, TimedAction};
 use am_retry::Answer;
 use std::alloc::{AllocError, Global};
 
@@ -72,12 +72,12 @@ fn alert(alloc: Global, name: &str, starts: u64, ends: Option<u64>) -> Result<Al
     }
 }
 
-fn plans(alloc: Global, planned: &[Planned]) -> Result<Vec<Plan>, AllocError> {
+fn plans(alloc: Global, planned: &[Planned]) -> Result<Vec<TimedAction>, AllocError> {
     let mut plans = Vec::new(alloc);
     for (name, starts, ends) in planned {
-        plans.push(Plan {
+        plans.push(TimedAction {
             at: ends.unwrap_or(*starts),
-            act: Act::Insert(alert(alloc, name, *starts, *ends)?),
+            act: Action::Insert(alert(alloc, name, *starts, *ends)?),
         })?;
     }
     Ok(plans)
@@ -114,12 +114,12 @@ fn story(alloc: Global, played: &Played) -> Result<String, AllocError> {
     Ok(out)
 }
 
-fn push_begun(begins: &[ToldBegin], place: usize, out: &mut String) -> Result<(), AllocError> {
+fn push_begun(begins: &[PreviewedBegin], place: usize, out: &mut String) -> Result<(), AllocError> {
     let Some(begin) = begins.get(place) else {
         return out.push_str("?");
     };
-    write!(out, "{}", begin.outlook.moment)?;
-    for reason in begin.outlook.reasons.as_slice() {
+    write!(out, "{}", begin.preview.moment)?;
+    for reason in begin.preview.reasons.as_slice() {
         push_reason(reason, out)?;
     }
     out.push_str(";")

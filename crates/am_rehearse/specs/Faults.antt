@@ -19,7 +19,7 @@ fault_of_parse parse.NoMemory = rehearse.NoMemory
 
 -- and so is one of what it tells
 abbrev pub fault_of_input : InputFault → RehearseFault
-fault_of_input (input.Refused place word) = rehearse.Refused place word
+fault_of_input (input.Refused place fault_kind) = rehearse.Refused place fault_kind
 fault_of_input input.NoMemory = rehearse.NoMemory
 
 -- one of Alertmanager's configuration is one of an input, or all faults
@@ -36,7 +36,7 @@ fault_of_read read.NoMemory = rehearse.NoMemory
 abbrev pub status_of : RehearseFault → ℕ
 status_of rehearse.Unreadable = 1
 status_of (rehearse.NotJson line column) = 2
-status_of (rehearse.Refused place word) = 2
+status_of (rehearse.Refused place fault_kind) = 2
 status_of (rehearse.AllRefused faults) = 2
 status_of rehearse.NoMemory = 3
 status_of rehearse.Unwritable = 4
@@ -46,7 +46,7 @@ status_of rehearse.Unmet = 5
 abbrev pub Refuses : List ℕ → RehearseFault → Type 0
 Refuses input rehearse.Unreadable = ⊥
 Refuses input (rehearse.NotJson line column) = IsNoJson input
-Refuses input (rehearse.Refused place word) = IsJson input
+Refuses input (rehearse.Refused place fault_kind) = IsJson input
 Refuses input (rehearse.AllRefused faults) = IsJson input
 Refuses input rehearse.NoMemory = Unit {0}
 Refuses input rehearse.Unwritable = ⊥

@@ -1,4 +1,4 @@
-pub mod Asked
+pub mod Request
 pub mod Expected
 pub mod Faults
-pub mod Tale
+pub mod Printed

@@ -1,5 +1,5 @@
 //! Why a rehearsal ends without its timeline, or with an expectation that isn't met.
-use am_cli::fault::{InputFault, ParseFault, Word};
+use am_cli::fault::{FaultKind, InputFault, ParseFault};
 use am_cli::transfer::{ReadFault, Unwritable};
 use am_config::faults::{Faults, Refusal};
 use thiserror::Error;
@@ -12,13 +12,21 @@ pub enum RehearseFault {
     Unreadable,
     /// The input is no JSON text in UTF-8, at this line and column.
     #[error("am-rehearse: rehearsal refused: not JSON at line {line}, column {column}")]
-    NotJson { line: usize, column: usize },
+    NotJson {
+        line: usize,
+        column: usize,
+    },
     /// The rehearsal is refused; the place is a JSON pointer.
-    #[error("am-rehearse: rehearsal refused at {place}: {word}")]
-    Refused { place: String, word: Word },
+    #[error("am-rehearse: rehearsal refused at {place}: {fault_kind}")]
+    Refused {
+        place: String,
+        fault_kind: FaultKind,
+    },
     /// Alertmanager's configuration is refused for these faults.
     #[error("am-rehearse: rehearsal refused")]
-    AllRefused { faults: Faults },
+    AllRefused {
+        faults: Faults,
+    },
     /// Memory was refused.
     #[error("am-rehearse: no memory")]
     NoMemory,
@@ -72,7 +80,10 @@ impl From<InputFault> for RehearseFault {
 
     fn from(fault: InputFault) -> RehearseFault {
         match fault {
-            InputFault::Refused { place, word } => RehearseFault::Refused { place, word },
+            InputFault::Refused { place, fault_kind } => RehearseFault::Refused {
+                place,
+                fault_kind,
+            },
             InputFault::NoMemory => RehearseFault::NoMemory,
         }
     }

@@ -4,7 +4,7 @@ ghost use Rattle.std.specs.Result.{result_ok};
 ghost use Rattle.serde_json.specs.Find.{get_member};
 ghost use Rattle.serde_json.specs.View.{members_view, view};
 ghost use Rattle.am_rehearsal.specs.declared.limits.TheConstants.{MAX_UNTIL};
-ghost use Rattle.am_rehearse.specs.Asked.{AsksFor, IsAskedIn, output_in, until_in};
+ghost use Rattle.am_rehearse.specs.Request.{Requests, IsRequestIn, output_in, until_in};
 
 use crate::input::alert::AlertItem;
 use crate::input::configured::read_configured;
@@ -14,14 +14,14 @@ use crate::input::silence::SilenceItem;
 use crate::input::target::check;
 use am_board::config::Config;
 use am_cli::duration::{duration, interval_or};
-use am_cli::fault::{InputFault, Word};
-use am_cli::place::Place;
+use am_cli::fault::{FaultKind, InputFault};
+use am_cli::place::JsonPointer;
 use am_cli::reader::{Object, Reader};
-use am_config::dropped::Dropped;
+use am_config::dropped::IgnoredSettings;
 use am_config::faults::Refusal;
 use am_rehearsal::MAX_UNTIL;
 use am_rehearsal::rehearsal::{Outage, Rehearsal};
-use am_timeline::dated::Dated;
+use am_timeline::dated::UtcDates;
 use am_timeline::expectation::Expectation;
 use serde_json::Value;
 use std::alloc::Global;
@@ -63,11 +63,11 @@ pub struct Input {
     /// Where the plans of the rehearsal stand in the input, by place.
     pub origins: Vec<Origin>,
     /// The moment of the start, if it is told.
-    pub start: Option<Dated>,
+    pub start: Option<UtcDates>,
     pub expectations: Vec<Expectation>,
     pub output: Output,
     /// What of Alertmanager's configuration is dropped.
-    pub dropped: Dropped,
+    pub dropped: IgnoredSettings,
 }
 
 /// What is printed.
@@ -84,7 +84,7 @@ pub enum Output {
 /// Reads a whole rehearsal. The first fault in the order of reading is answered; of Alertmanager's
 /// configuration all faults.
 pub fn read_input(alloc: Global, value: &Value) -> Result<Input, Refusal>
-    ensures { IfOk result (λ input. IsAskedIn (view value.now) input.output input.start input.expectations.items) }
+    ensures { IfOk result (λ input. IsRequestIn (view value.now) input.output input.start input.expectations.items) }
 {
     let reader = Reader::strict(alloc, value);
     let top = reader.object()?;
@@ -94,9 +94,13 @@ pub fn read_input(alloc: Global, value: &Value) -> Result<Input, Refusal>
 }
 
 /// Reads what is planned against a configuration.
-fn read_planned(top: &Object<'_, '_>, config: Config, dropped: Dropped) -> Result<Input, InputFault>
+fn read_planned(
+    top: &Object<'_, '_>,
+    config: Config,
+    dropped: IgnoredSettings,
+) -> Result<Input, InputFault>
     ensures { IfOk result (λ input.
-        AsksFor (members_view top.now.members) input.output input.start input.expectations.items) }
+        Requests (members_view top.now.members) input.output input.start input.expectations.items) }
 {
     let start = moment::start(top)?;
     let until = read_until(top)?;
@@ -132,7 +136,7 @@ fn read_until(top: &Object<'_, '_>) -> Result<u64, InputFault>
     let member = top.required("until")?;
     let until = duration(&member)?;
     if until > MAX_UNTIL {
-        return Err(member.refuse(Word::Value));
+        return Err(member.refuse(FaultKind::BadValue));
     }
     Ok(until)
 }
@@ -144,7 +148,7 @@ fn read_outages(top: &Object<'_, '_>, config: &Config) -> Result<Vec<Outage>, In
         .into_iter()
         .enumerate()
     {
-        let place = Place::Top;
+        let place = JsonPointer::Root;
         check(
             top.alloc(),
             config,
@@ -168,6 +172,6 @@ fn read_output(top: &Object<'_, '_>) -> Result<Output, InputFault>
         "timeline" => Ok(Output::Timeline),
         "notices" => Ok(Output::Notices),
         "json" => Ok(Output::Json),
-        _ => Err(member.refuse(Word::Value)),
+        _ => Err(member.refuse(FaultKind::BadValue)),
     }
 }

@@ -12,7 +12,7 @@ mod input;
 mod run;
 
 use am_cli::device::{StandardInput, StandardOutput};
-use am_config::dropped::Dropped;
+use am_config::dropped::IgnoredSettings;
 use fault::RehearseFault;
 use run::run_rehearsal;
 use std::process::ExitCode;
@@ -20,7 +20,7 @@ use std::process::ExitCode;
 fn main(rt: HostRuntime) -> ExitCode {
     let mut input = StandardInput::new(rt.stdin());
     let mut output = StandardOutput::new(rt.stdout());
-    let mut dropped = Dropped::nothing();
+    let mut dropped = IgnoredSettings::nothing();
     let ended = run_rehearsal(rt.alloc(), &mut input, &mut output, &mut dropped);
     if dropped.is_something() {
         let _ = eprintln!(rt; "am-rehearse: dropped: {dropped}");
@@ -40,8 +40,8 @@ fn tell(rt: &impl Eprint, fault: &RehearseFault) {
         RehearseFault::AllRefused { faults } => {
             for fault in faults.as_slice() {
                 let place = &fault.place;
-                let word = fault.word;
-                let _ = eprintln!(rt; "am-rehearse: rehearsal refused at {place}: {word}");
+                let fault_kind = fault.fault_kind;
+                let _ = eprintln!(rt; "am-rehearse: rehearsal refused at {place}: {fault_kind}");
             }
         }
         fault => {

@@ -3,12 +3,12 @@ ghost use Rattle.std.specs.Prelude.{◌≡◌, ◌≢◌, ◌≤◌, ◌<◌, �
 ghost use Rattle.std.specs.Prelude.{IfErr, IfOk, OnOk, option_and_then};
 ghost use Rattle.std.specs.List.{list_all, range_with_len};
 ghost use Rattle.am_cli.specs.declared.transfer.TheConstants.{MAX_INPUT};
-ghost use Rattle.am_rehearsal.specs.Happened.{begun_in};
-ghost use Rattle.am_rehearsal.specs.Told.{told};
+ghost use Rattle.am_rehearsal.specs.EventOrder.{begin_indices};
+ghost use Rattle.am_rehearsal.specs.Previews.{previews_of};
 ghost use Rattle.am_rehearsal.specs.declared.limits.TheConstants.{BOARD_ID};
-ghost use Rattle.am_rehearse.specs.Asked.{times_from};
+ghost use Rattle.am_rehearse.specs.Request.{times_from};
 ghost use Rattle.am_rehearse.specs.Faults.{Refuses, status_of};
-ghost use Rattle.am_rehearse.specs.Tale.{IsAnswered, IsPrinted, IsTaleOf, IsToldOf, judged};
+ghost use Rattle.am_rehearse.specs.Printed.{WritesOutput, IsPrinted, IsOutputOfRun, IsOutputFor, expectations_section};
 ghost use Rattle.am_timeline.specs.Expectation.{is_met};
 ghost use Rattle.am_timeline.specs.Table.{table_text};
 ghost use Rattle.am_timeline.specs.Timeline.{timeline_text};
@@ -16,25 +16,25 @@ ghost use Rattle.am_timeline.specs.Timeline.{timeline_text};
 use crate::fault::RehearseFault;
 use crate::input::{Input, Origin, Output, read_input};
 use am_cli::device::{Sink, Source};
-use am_cli::fault::{InputFault, Word};
-use am_cli::place::Place;
+use am_cli::fault::{FaultKind, InputFault};
+use am_cli::place::JsonPointer;
 use am_cli::reader::parse;
 use am_cli::transfer::{MAX_INPUT, read_all, write_all};
-use am_config::dropped::Dropped;
+use am_config::dropped::IgnoredSettings;
 use am_rehearsal::play::{PlayFault, Played, play};
-use am_timeline::clock::{Clock, Counted};
+use am_timeline::clock::{Elapsed, TimeFormat};
 use am_timeline::expectation::Expectation;
+use am_timeline::expectation_report::expectations_text;
 use am_timeline::json::json_text;
-use am_timeline::judgement::judgement_text;
 use am_timeline::notices::notices_text;
-use am_timeline::story::Story;
+use am_timeline::playback::Playback;
 use am_timeline::table::table_text;
 use am_timeline::timeline::timeline_text;
 use std::alloc::{AllocError, Global};
 
 /// What is printed of a rehearsal.
 #[derive(Drop)]
-struct Told {
+struct Rendered {
     text: String,
     /// Whether every expectation is met.
     is_met: bool,
@@ -56,7 +56,7 @@ pub fn run_rehearsal<S: Source, K: Sink>(
     alloc: Global,
     source: &mut S,
     sink: &mut K,
-    dropped: &mut Dropped,
+    dropped: &mut IgnoredSettings,
 ) -> Result<(), RehearseFault>
     ensures asked { S.asked source.new ≤ S.asked source.old + (MAX_INPUT + 1) }
     ensures unreadable { (result ≡ Err RehearseFault.Unreadable)
@@ -70,17 +70,17 @@ pub fn run_rehearsal<S: Source, K: Sink>(
     ensures ended_unmet { IfErr result (λ fault.
         fault ≡ RehearseFault.Unmet → S.ended source.new ≡ S.ended source.old + 1) }
     ensures met { OnOk result
-        (IsAnswered true (S.given source.old) (S.given source.new) (K.taken sink.old) (K.taken sink.new)) }
+        (WritesOutput true (S.given source.old) (S.given source.new) (K.taken sink.old) (K.taken sink.new)) }
     ensures unmet { IfErr result (λ fault. fault ≡ RehearseFault.Unmet →
-        IsAnswered false (S.given source.old) (S.given source.new) (K.taken sink.old) (K.taken sink.new)) }
+        WritesOutput false (S.given source.old) (S.given source.new) (K.taken sink.old) (K.taken sink.new)) }
     ensures refused { IfErr result (λ fault. status_of fault ≡ 2 → (input : List ℕ) × Refuses input fault
         × (S.given source.new ≡ S.given source.old ++ input)
         × (S.ended source.new ≡ S.ended source.old + 1)) }
 {
     let input = read_all(alloc, source)?;
-    let told = told_of(alloc, input.as_slice(), dropped)?;
-    write_all(sink, told.text.as_bytes())?;
-    if told.is_met {
+    let rendered = render(alloc, input.as_slice(), dropped)?;
+    write_all(sink, rendered.text.as_bytes())?;
+    if rendered.is_met {
         Ok(())
     } else {
         Err(RehearseFault::Unmet)
@@ -89,33 +89,37 @@ pub fn run_rehearsal<S: Source, K: Sink>(
 
 /// Why a rehearsal wasn't played to its end, told at the place in the input.
 fn refused(alloc: Global, fault: PlayFault, origins: &[Origin]) -> InputFault {
-    let top = Place::Top;
+    let top = JsonPointer::Root;
     match fault {
         PlayFault::NoMemory => InputFault::NoMemory,
-        PlayFault::BadConfig => top.member("config").refuse(alloc, Word::Value),
-        PlayFault::Full => top.member("until").refuse(alloc, Word::Full),
+        PlayFault::BadConfig => top.member("config").refuse(alloc, FaultKind::BadValue),
+        PlayFault::Full => top.member("until").refuse(alloc, FaultKind::Full),
         PlayFault::PlanFull(index) => match origins.get(index) {
             Some(origin) => origin.refuse_full(alloc),
-            None => top.refuse(alloc, Word::Full),
+            None => top.refuse(alloc, FaultKind::Full),
         },
     }
 }
 
 /// What is printed of the rehearsal that these bytes are.
-fn told_of(alloc: Global, input: &[u8], dropped: &mut Dropped) -> Result<Told, RehearseFault>
-    ensures told { IfOk result (λ told. IsToldOf input.now told.is_met (string_bytes told.text)) }
+fn render(
+    alloc: Global,
+    input: &[u8],
+    dropped: &mut IgnoredSettings,
+) -> Result<Rendered, RehearseFault>
+    ensures told { IfOk result (λ rendered. IsOutputFor input.now rendered.is_met (string_bytes rendered.text)) }
     ensures refused { IfErr result (Refuses input.now) }
 {
     let value = parse(alloc, input)?;
     let input = read_input(alloc, &value)?;
     *dropped = input.dropped;
-    Ok(tell(alloc, input)?)
+    Ok(play_and_render(alloc, input)?)
 }
 
 /// Plays a rehearsal, and tells what is asked for.
-fn tell(alloc: Global, input: Input) -> Result<Told, InputFault>
-    ensures { IfOk result (λ told. IsTaleOf input.output (times_from input.start) input.expectations.items
-        told.is_met (string_bytes told.text)) }
+fn play_and_render(alloc: Global, input: Input) -> Result<Rendered, InputFault>
+    ensures { IfOk result (λ rendered. IsOutputOfRun input.output (times_from input.start) input.expectations.items
+        rendered.is_met (string_bytes rendered.text)) }
 {
     let Input {
         rehearsal,
@@ -131,95 +135,95 @@ fn tell(alloc: Global, input: Input) -> Result<Told, InputFault>
     };
     let expectations = expectations.as_slice();
     match start {
-        None => tell_by(alloc, &played, &Counted, expectations, output),
-        Some(start) => tell_by(alloc, &played, &start, expectations, output),
+        None => render_by(alloc, &played, &Elapsed, expectations, output),
+        Some(start) => render_by(alloc, &played, &start, expectations, output),
     }
 }
 
 /// What is printed of a played rehearsal, with moments that this clock shows.
-fn tell_by<C: Clock>(
+fn render_by<C: TimeFormat>(
     alloc: Global,
     played: &Played,
     clock: &C,
     expectations: &[Expectation],
     output: Output,
-) -> Result<Told, InputFault>
+) -> Result<Rendered, InputFault>
     requires ours { played.now.board.id ≡ BOARD_ID }
-    requires told { played.now.begins.items ≡ told played.now.board.config played.now.board.history }
-    requires begun { begun_in played.now.events.items ≡ range_with_len 0 (vec_len played.now.begins) }
-    ensures { IfOk result (λ told. IsTaleOf output (C.times clock.now) expectations.now
-        told.is_met (string_bytes told.text)) }
+    requires previews { played.now.begins.items ≡ previews_of played.now.board.config played.now.board.history }
+    requires begun { begin_indices played.now.events.items ≡ range_with_len 0 (vec_len played.now.begins) }
+    ensures { IfOk result (λ rendered. IsOutputOfRun output (C.times clock.now) expectations.now
+        rendered.is_met (string_bytes rendered.text)) }
 {
-    let story = Story::new(
+    let playback = Playback::new(
         played.board.config(),
         played.board.history(),
         played.begins.as_slice(),
         played.events.as_slice(),
     );
-    let text = printed(alloc, &story, clock, expectations, output)?;
-    let is_met = are_met(&story, expectations);
-    Ok(Told { text, is_met })
+    let text = printed(alloc, &playback, clock, expectations, output)?;
+    let is_met = are_met(&playback, expectations);
+    Ok(Rendered { text, is_met })
 }
 
 /// Whether every expectation is met.
-fn are_met(story: &Story<'_>, expectations: &[Expectation]) -> bool
-    ensures { result ≡ list_all (is_met story.now) expectations.now }
+fn are_met(playback: &Playback<'_>, expectations: &[Expectation]) -> bool
+    ensures { result ≡ list_all (is_met playback.now) expectations.now }
 {
     expectations
         .iter()
-        .all(|expectation| expectation.is_met(story))
+        .all(|expectation| expectation.is_met(playback))
 }
 
-/// The output of a story that is asked for.
-fn printed<C: Clock>(
+/// The output of a playback that is asked for.
+fn printed<C: TimeFormat>(
     alloc: Global,
-    story: &Story<'_>,
+    playback: &Playback<'_>,
     clock: &C,
     expectations: &[Expectation],
     output: Output,
 ) -> Result<String, AllocError>
     ensures { IfOk result (λ text.
-        IsPrinted output story.now (C.times clock.now) expectations.now (string_bytes text)) }
+        IsPrinted output playback.now (C.times clock.now) expectations.now (string_bytes text)) }
 {
     match output {
-        Output::Timeline => timeline(alloc, story, clock, expectations),
-        Output::Notices => notices_text(alloc, story, clock),
-        Output::Json => json_text(alloc, story, clock),
+        Output::Timeline => timeline(alloc, playback, clock, expectations),
+        Output::Notices => notices_text(alloc, playback, clock),
+        Output::Json => json_text(alloc, playback, clock),
     }
 }
 
 /// The timeline, the table of the receivers and what became of the expectations.
-fn timeline<C: Clock>(
+fn timeline<C: TimeFormat>(
     alloc: Global,
-    story: &Story<'_>,
+    playback: &Playback<'_>,
     clock: &C,
     expectations: &[Expectation],
 ) -> Result<String, AllocError>
-    ensures { IfOk result (λ text. string_bytes text ≡ timeline_text story.now (C.times clock.now)
-        ++ table_text story.now (C.times clock.now) ++ judged story.now (C.times clock.now) expectations.now) }
+    ensures { IfOk result (λ text. string_bytes text ≡ timeline_text playback.now (C.times clock.now)
+        ++ table_text playback.now (C.times clock.now) ++ expectations_section playback.now (C.times clock.now) expectations.now) }
 {
-    let mut text = timeline_text(alloc, story, clock)?;
-    let table = table_text(alloc, story, clock)?;
+    let mut text = timeline_text(alloc, playback, clock)?;
+    let table = table_text(alloc, playback, clock)?;
     text.push_str(table.as_str())?;
-    push_judged(alloc, story, clock, expectations, &mut text)?;
+    push_judged(alloc, playback, clock, expectations, &mut text)?;
     Ok(text)
 }
 
 /// Adds what became of the expectations, behind an empty line, if there are any.
-fn push_judged<C: Clock>(
+fn push_judged<C: TimeFormat>(
     alloc: Global,
-    story: &Story<'_>,
+    playback: &Playback<'_>,
     clock: &C,
     expectations: &[Expectation],
     text: &mut String,
 ) -> Result<(), AllocError>
     ensures { OnOk result (string_bytes text.new
-        ≡ string_bytes text.old ++ judged story.now (C.times clock.now) expectations.now) }
+        ≡ string_bytes text.old ++ expectations_section playback.now (C.times clock.now) expectations.now) }
 {
     if expectations.is_empty() {
         return Ok(());
     }
-    let judgement = judgement_text(alloc, story, clock, expectations)?;
+    let judgement = expectations_text(alloc, playback, clock, expectations)?;
     text.push_str("\n")?;
     text.push_str(judgement.as_str())
 }

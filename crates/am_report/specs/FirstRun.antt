@@ -80,5 +80,5 @@ abbrev pub FirstIsLegal : Type 0
 FirstIsLegal = IsLegal config 1 history
 
 -- its report has these four lines
-abbrev pub FirstIsTold : Type 0
-FirstIsTold = report_text config reports history ≡ text
+abbrev pub FirstRunReportIs : Type 0
+FirstRunReportIs = report_text config reports history ≡ text

@@ -1,9 +1,9 @@
 //! A worked run: the definitions, run on it.
-ghost use Rattle.am_report.specs.FirstRun.{FirstIsLegal, FirstIsTold};
+ghost use Rattle.am_report.specs.FirstRun.{FirstIsLegal, FirstRunReportIs};
 
 /// The history of the first worked run is legal, and its report has the four lines that were worked
 /// out by hand. It does nothing: what it says is its contract.
-pub fn first_run_is_told()
+pub fn first_run_report_is()
     ensures legal { FirstIsLegal }
-    ensures told { FirstIsTold }
+    ensures told { FirstRunReportIs }
 {}

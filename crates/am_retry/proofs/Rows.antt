@@ -2,16 +2,16 @@
 use Rattle.std.proofs.Common.{◌≡◌, ℕ, false, List, [], ◌∷◌, map, refl}
 use Rattle.am_retry.specs.declared.outcome.Answer.TheVariants.{Done, Again}
 use Rattle.am_retry.specs.declared.outcome.Outcome.TheVariants.{Delivered, Expired, Starved}
-use Rattle.am_retry.specs.Attempts.{Told, wait_of, attempt_after, end_after}
+use Rattle.am_retry.specs.Attempts.{Response, wait_of, attempt_after, end_after}
 use Rattle.am_retry.specs.Outcome.{has_outcome, HasOutcome}
 
-abbrev again : ℕ → Told
+abbrev again : ℕ → Response
 again ended = record { answer = Again; ended = ended }
 
 waits : map wait_of (0 ∷ 1 ∷ 2 ∷ 3 ∷ 4 ∷ 12 ∷ 20 ∷ []) ≡ 500 ∷ 750 ∷ 1125 ∷ 1687 ∷ 2530 ∷ 60_000 ∷ 60_000 ∷ []
 waits = refl
 
-abbrev two_agains : List Told
+abbrev two_agains : List Response
 two_agains = again 0 ∷ again 500 ∷ []
 
 third_attempt : attempt_after 0 two_agains ≡ 1_250

@@ -7,71 +7,71 @@ use Rattle.am_retry.specs.declared.outcome.Outcome.{Outcome}
 use Rattle.am_retry.specs.declared.outcome.Outcome.TheVariants.{Expired, Starved}
 use Rattle.am_retry.specs.declared.retry.Step.{Step}
 use Rattle.am_retry.specs.declared.retry.Step.TheVariants.{Attempt, Over}
-use Rattle.am_retry.specs.Attempts.{Told, wait_of, end_of, attempt_after}
+use Rattle.am_retry.specs.Attempts.{Response, wait_of, end_of, attempt_after}
 use Rattle.am_retry.specs.Outcome.{is_done, is_never, all_again, are_in_time, asks_again, HasOutcome}
-use Rattle.am_retry.specs.Progress.{Progress, due, started, step_after, taken_at, taken_by, answered, StepIsOf, Stands, time_left_at, time_left, IsDue}
+use Rattle.am_retry.specs.Progress.{Progress, due, started, step_after, taken_at, taken_by, answered, StepIsOf, IsAfterResponses, time_left_at, time_left, IsDue}
 use Rattle.am_retry.proofs.Waits.{wait_of-least}
 use Rattle.am_retry.proofs.Fronts.{length-push, attempt_at-append, are_in_time-append, attempt_after-push, end_after-push, ends_with-push, all_again-push}
 
 -- an attempt after answers that let one follow is due or too late
-pub due_is : (start deadline : ℕ) (told : List Told) (at : ℕ) → asks_again start deadline told ≡ true → at ≡ attempt_after start told → StepIsOf start deadline told (due at deadline)
-due_is start deadline told at may same =
-    elim (nat_lt at deadline) as (λ b. nat_lt at deadline ≡ b → StepIsOf start deadline told (if b then Attempt at else Over Expired)) [
+pub due_is : (start deadline : ℕ) (responses : List Response) (at : ℕ) → asks_again start deadline responses ≡ true → at ≡ attempt_after start responses → StepIsOf start deadline responses (due at deadline)
+due_is start deadline responses at may same =
+    elim (nat_lt at deadline) as (λ b. nat_lt at deadline ≡ b → StepIsOf start deadline responses (if b then Attempt at else Over Expired)) [
       | true ↦ λ early. (and_from _ _ may (ap (λ (a : ℕ). nat_lt a deadline) (sym same) ∙ early), same)
       | false ↦ λ late.
           let after : deadline ≤ at = ltb-false at deadline late in
-          (and_from _ _ may (le-leb deadline (attempt_after start told) (omega arith)), λ q. cc)
+          (and_from _ _ may (le-leb deadline (attempt_after start responses) (omega arith)), λ q. cc)
     ] refl
 
-pub stands_started : (start deadline : ℕ) → Stands start deadline [] (started start deadline)
+pub stands_started : (start deadline : ℕ) → IsAfterResponses start deadline [] (started start deadline)
 stands_started start deadline = record { until = refl; attempts = refl; ended = refl; step = due_is start deadline [] start refl refl }
 
 -- the attempt that was due is in time, and so all are
-in_time-push : (start deadline : ℕ) (told : List Told) (t : Told) → HasOutcome start deadline told Starved → are_in_time start deadline (told ++ t ∷ []) (length (told ++ t ∷ [])) ≡ true
-in_time-push start deadline told t open_ =
-    ap (λ (n : ℕ). are_in_time start deadline (told ++ t ∷ []) n) (length-push told t)
+in_time-push : (start deadline : ℕ) (responses : List Response) (t : Response) → HasOutcome start deadline responses Starved → are_in_time start deadline (responses ++ t ∷ []) (length (responses ++ t ∷ [])) ≡ true
+in_time-push start deadline responses t open_ =
+    ap (λ (n : ℕ). are_in_time start deadline (responses ++ t ∷ []) n) (length-push responses t)
     ∙ and_from _ _
-    (are_in_time-append start deadline told (t ∷ []) (length told) (omega arith) ∙ (and_parts _ _ (and_parts _ _ open_).0).0)
-    (ap (λ (a : ℕ). nat_lt a deadline) (attempt_at-append start told (t ∷ []) (length told) (omega arith)) ∙ (and_parts _ _ open_).1)
+    (are_in_time-append start deadline responses (t ∷ []) (length responses) (omega arith) ∙ (and_parts _ _ (and_parts _ _ open_).0).0)
+    (ap (λ (a : ℕ). nat_lt a deadline) (attempt_at-append start responses (t ∷ []) (length responses) (omega arith)) ∙ (and_parts _ _ open_).1)
 
-again_so_far : (start deadline : ℕ) (told : List Told) → HasOutcome start deadline told Starved → all_again told ≡ true
-again_so_far start deadline told open_ = (and_parts _ _ (and_parts _ _ open_).0).1
+again_so_far : (start deadline : ℕ) (responses : List Response) → HasOutcome start deadline responses Starved → all_again responses ≡ true
+again_so_far start deadline responses open_ = (and_parts _ _ (and_parts _ _ open_).0).1
 
 -- what the answers and one more lead to
-step_more : (start deadline : ℕ) (told : List Told) (answer : Answer) (ended wait : ℕ) → wait ≡ wait_of (length told) → HasOutcome start deadline told Starved → StepIsOf start deadline (told ++ record { answer = answer; ended = ended } ∷ []) (step_after answer (end_of (attempt_after start told) ended) wait deadline)
-step_more start deadline told Done ended wait same open_ =
-    (and_from _ _ (in_time-push start deadline told _ open_) (ends_with-push is_done told _ (again_so_far start deadline told open_) refl), λ q. cc)
-step_more start deadline told Never ended wait same open_ =
-    (and_from _ _ (in_time-push start deadline told _ open_) (ends_with-push is_never told _ (again_so_far start deadline told open_) refl), λ q. cc)
-step_more start deadline told Again ended wait same open_ =
-    let t : Told = record { answer = Again; ended = ended } in
-    due_is start deadline (told ++ t ∷ []) _
-    (and_from _ _ (in_time-push start deadline told t open_) (all_again-push told t (again_so_far start deadline told open_) refl))
-    (ap (λ (w : ℕ). end_of (attempt_after start told) ended + w) same ∙ sym (attempt_after-push start told t))
+step_more : (start deadline : ℕ) (responses : List Response) (answer : Answer) (ended wait : ℕ) → wait ≡ wait_of (length responses) → HasOutcome start deadline responses Starved → StepIsOf start deadline (responses ++ record { answer = answer; ended = ended } ∷ []) (step_after answer (end_of (attempt_after start responses) ended) wait deadline)
+step_more start deadline responses Done ended wait same open_ =
+    (and_from _ _ (in_time-push start deadline responses _ open_) (ends_with-push is_done responses _ (again_so_far start deadline responses open_) refl), λ q. cc)
+step_more start deadline responses Never ended wait same open_ =
+    (and_from _ _ (in_time-push start deadline responses _ open_) (ends_with-push is_never responses _ (again_so_far start deadline responses open_) refl), λ q. cc)
+step_more start deadline responses Again ended wait same open_ =
+    let t : Response = record { answer = Again; ended = ended } in
+    due_is start deadline (responses ++ t ∷ []) _
+    (and_from _ _ (in_time-push start deadline responses t open_) (all_again-push responses t (again_so_far start deadline responses open_) refl))
+    (ap (λ (w : ℕ). end_of (attempt_after start responses) ended + w) same ∙ sym (attempt_after-push start responses t))
 
 -- where the machine stands after an answer to the attempt that is due
-pub stands_taken : (start deadline attempts ended at : ℕ) (told : List Told) (t : Told) → Stands start deadline told (record { deadline = deadline; attempts = attempts; ended = ended; step = Attempt at }) → Stands start deadline (told ++ t ∷ []) (taken_at at (record { deadline = deadline; attempts = attempts; ended = ended; step = Attempt at }) t.answer t.ended)
-stands_taken start deadline attempts ended at told t stands =
-    let moment : at ≡ attempt_after start told = stands.step.1 in
-    let count : attempts ≡ length told = stands.attempts in
-    let more = length-push told t in
+pub stands_taken : (start deadline attempts ended at : ℕ) (responses : List Response) (t : Response) → IsAfterResponses start deadline responses (record { deadline = deadline; attempts = attempts; ended = ended; step = Attempt at }) → IsAfterResponses start deadline (responses ++ t ∷ []) (taken_at at (record { deadline = deadline; attempts = attempts; ended = ended; step = Attempt at }) t.answer t.ended)
+stands_taken start deadline attempts ended at responses t stands =
+    let moment : at ≡ attempt_after start responses = stands.step.1 in
+    let count : attempts ≡ length responses = stands.attempts in
+    let more = length-push responses t in
     record {
       until = refl;
       attempts = omega arith;
-      ended = ap (λ (a : ℕ). end_of a t.ended) moment ∙ sym (end_after-push start told t);
-      step = subst (λ (a : ℕ). StepIsOf start deadline (told ++ t ∷ []) (step_after t.answer (end_of a t.ended) (wait_of attempts) deadline)) (sym moment) (step_more start deadline told t.answer t.ended (wait_of attempts) (ap wait_of count) stands.step.0);
+      ended = ap (λ (a : ℕ). end_of a t.ended) moment ∙ sym (end_after-push start responses t);
+      step = subst (λ (a : ℕ). StepIsOf start deadline (responses ++ t ∷ []) (step_after t.answer (end_of a t.ended) (wait_of attempts) deadline)) (sym moment) (step_more start deadline responses t.answer t.ended (wait_of attempts) (ap wait_of count) stands.step.0);
     }
 
 -- the same, where it is said that an attempt is due
-pub stands_more : (start deadline at : ℕ) (told : List Told) (p : Progress) (answer : Answer) (ended : ℕ) → p.step ≡ Attempt at → Stands start deadline told p → Stands start deadline (told ++ record { answer = answer; ended = ended } ∷ []) (answered p answer ended)
-stands_more start deadline at told p answer ended is stands =
-    let t : Told = record { answer = answer; ended = ended } in
-    let same : Stands start p.deadline told p = subst (λ (d : ℕ). Stands start d told p) (sym stands.until) stands in
-    let was : Stands start p.deadline told (record { deadline = p.deadline; attempts = p.attempts; ended = p.ended; step = Attempt at }) =
-    subst (λ (s : Step). Stands start p.deadline told (record { deadline = p.deadline; attempts = p.attempts; ended = p.ended; step = s })) is same in
-    let after : Stands start p.deadline (told ++ t ∷ []) (answered p answer ended) =
-    subst (λ (s : Step). Stands start p.deadline (told ++ t ∷ []) (taken_by s p answer ended)) (sym is) (stands_taken start p.deadline p.attempts p.ended at told t was) in
-    subst (λ (d : ℕ). Stands start d (told ++ t ∷ []) (answered p answer ended)) stands.until after
+pub stands_more : (start deadline at : ℕ) (responses : List Response) (p : Progress) (answer : Answer) (ended : ℕ) → p.step ≡ Attempt at → IsAfterResponses start deadline responses p → IsAfterResponses start deadline (responses ++ record { answer = answer; ended = ended } ∷ []) (answered p answer ended)
+stands_more start deadline at responses p answer ended is stands =
+    let t : Response = record { answer = answer; ended = ended } in
+    let same : IsAfterResponses start p.deadline responses p = subst (λ (d : ℕ). IsAfterResponses start d responses p) (sym stands.until) stands in
+    let was : IsAfterResponses start p.deadline responses (record { deadline = p.deadline; attempts = p.attempts; ended = p.ended; step = Attempt at }) =
+    subst (λ (s : Step). IsAfterResponses start p.deadline responses (record { deadline = p.deadline; attempts = p.attempts; ended = p.ended; step = s })) is same in
+    let after : IsAfterResponses start p.deadline (responses ++ t ∷ []) (answered p answer ended) =
+    subst (λ (s : Step). IsAfterResponses start p.deadline (responses ++ t ∷ []) (taken_by s p answer ended)) (sym is) (stands_taken start p.deadline p.attempts p.ended at responses t was) in
+    subst (λ (d : ℕ). IsAfterResponses start d (responses ++ t ∷ []) (answered p answer ended)) stands.until after
 
 -- where none is due, nothing changes
 pub answered-over : (p : Progress) (o : Outcome) (answer : Answer) (ended : ℕ) → p.step ≡ Over o → answered p answer ended ≡ p

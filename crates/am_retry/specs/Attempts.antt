@@ -4,13 +4,13 @@ use Rattle.std.specs.List.{enumerate_from}
 use Rattle.am_retry.specs.declared.outcome.Answer.{Answer}
 
 -- an answer to an attempt, and the end that was handed in with it
-pub record Told : Type 0 where
+pub record Response : Type 0 where
   pub answer : Answer
   pub ended : ℕ
 
 -- the answers, and one more
-abbrev pub one_more : List Told → Answer → ℕ → List Told
-one_more told answer ended = told ++ record { answer = answer; ended = ended } ∷ []
+abbrev pub one_more : List Response → Answer → ℕ → List Response
+one_more responses answer ended = responses ++ record { answer = answer; ended = ended } ∷ []
 
 -- 10^15 + 10^12: an attempt that begins no later ends no later
 abbrev pub latest : ℕ
@@ -27,26 +27,26 @@ abbrev pub end_of : ℕ → ℕ → ℕ
 end_of at ended = max at (min ended latest)
 
 -- the end handed in with the answer at a place, counted from 0
-abbrev pub handed_in : List Told → ℕ → ℕ
-handed_in told j = slice_index (map (λ t. t.ended) told) j
+abbrev pub handed_in : List Response → ℕ → ℕ
+handed_in responses j = slice_index (map (λ t. t.ended) responses) j
 
 -- the moment of the attempt that comes after the first j answers: the start, and after that the end of the attempt before and a wait
-abbrev pub attempt_at : ℕ → List Told → ℕ → ℕ
-attempt_at start told zero = start
-attempt_at start told (suc j) = end_of (attempt_at start told j) (handed_in told j) + wait_of j
+abbrev pub attempt_at : ℕ → List Response → ℕ → ℕ
+attempt_at start responses zero = start
+attempt_at start responses (suc j) = end_of (attempt_at start responses j) (handed_in responses j) + wait_of j
 
 -- the end of the attempts after the first j answers: that of the last one, or the start
-abbrev pub end_at : ℕ → List Told → ℕ → ℕ
-end_at start told zero = start
-end_at start told (suc j) = end_of (attempt_at start told j) (handed_in told j)
+abbrev pub end_at : ℕ → List Response → ℕ → ℕ
+end_at start responses zero = start
+end_at start responses (suc j) = end_of (attempt_at start responses j) (handed_in responses j)
 
 -- the moment of the attempt that comes after all the answers
-abbrev pub attempt_after : ℕ → List Told → ℕ
-attempt_after start told = attempt_at start told (length told)
+abbrev pub attempt_after : ℕ → List Response → ℕ
+attempt_after start responses = attempt_at start responses (length responses)
 
 -- the end of the attempts after all the answers
-abbrev pub end_after : ℕ → List Told → ℕ
-end_after start told = end_at start told (length told)
+abbrev pub end_after : ℕ → List Response → ℕ
+end_after start responses = end_at start responses (length responses)
 
 -- an attempt that was made: its number, from 1, its moment, its answer and the end that was handed in
 pub record Try : Type 0 where
@@ -56,9 +56,9 @@ pub record Try : Type 0 where
   pub ended : ℕ
 
 -- the attempt that an answer of the list is for, by the answer's place, counted from 0
-abbrev pub try_of : ℕ → List Told → ℕ × Told → Try
-try_of start told p = record { attempt = p.0 + 1; at = attempt_at start told p.0; answer = p.1.answer; ended = p.1.ended }
+abbrev pub try_of : ℕ → List Response → ℕ × Response → Try
+try_of start responses p = record { attempt = p.0 + 1; at = attempt_at start responses p.0; answer = p.1.answer; ended = p.1.ended }
 
 -- the attempts of a list of answers, in order
-abbrev pub tries_of : ℕ → List Told → List Try
-tries_of start told = map (try_of start told) (enumerate_from 0 told)
+abbrev pub tries_of : ℕ → List Response → List Try
+tries_of start responses = map (try_of start responses) (enumerate_from 0 responses)

@@ -3,16 +3,16 @@ use Rattle.std.specs.Prelude.{◌≡◌, ◌≢◌, ℕ, ◌+◌, ◌↔◌, Lis
 use Rattle.am_retry.specs.declared.outcome.Outcome.{Outcome}
 use Rattle.am_retry.specs.declared.outcome.Outcome.TheVariants.{Starved}
 use Rattle.am_retry.specs.declared.retry.Step.TheVariants.{Attempt, Over}
-use Rattle.am_retry.specs.Attempts.{Told, attempt_after, end_after, tries_of}
+use Rattle.am_retry.specs.Attempts.{Response, attempt_after, end_after, tries_of}
 use Rattle.am_retry.specs.Outcome.{HasOutcome}
 use Rattle.am_retry.specs.Progress.{run}
 use Rattle.am_retry.specs.declared.retry.TheConstants.{LATEST, FIRST_WAIT, LONGEST_WAIT}
 
 -- some front of the answers has this outcome, with so many attempts and this end
-pub record Concludes (start deadline : ℕ) (told : List Told) (outcome : Outcome) (attempts ended : ℕ) : Type 0 where
-  pub taken : List Told
-  pub rest : List Told
-  pub front : told ≡ taken ++ rest
+pub record Concludes (start deadline : ℕ) (responses : List Response) (outcome : Outcome) (attempts ended : ℕ) : Type 0 where
+  pub taken : List Response
+  pub rest : List Response
+  pub front : responses ≡ taken ++ rest
   pub has : HasOutcome start deadline taken outcome
   pub not_starved : outcome ≢ Starved
   pub attempts_are : attempts ≡ length taken
@@ -21,36 +21,36 @@ pub record Concludes (start deadline : ℕ) (told : List Told) (outcome : Outcom
 -- over with an outcome, so many attempts and an end, exactly when some front of the answers has this outcome, with these
 abbrev pub OverExactly : Type 0
 OverExactly =
-    (start deadline attempts ended : ℕ) (told : List Told) (outcome : Outcome)
-    → (run start deadline told ≡ record { deadline = deadline; attempts = attempts; ended = ended; step = Over outcome })
-    ↔ Concludes start deadline told outcome attempts ended
+    (start deadline attempts ended : ℕ) (responses : List Response) (outcome : Outcome)
+    → (run start deadline responses ≡ record { deadline = deadline; attempts = attempts; ended = ended; step = Over outcome })
+    ↔ Concludes start deadline responses outcome attempts ended
 
 -- the next attempt is due at a moment exactly when the answers as a whole let it follow, at this moment
 abbrev pub WaitsExactly : Type 0
 WaitsExactly =
-    (start deadline attempts ended at : ℕ) (told : List Told)
-    → (run start deadline told ≡ record { deadline = deadline; attempts = attempts; ended = ended; step = Attempt at })
-    ↔ (HasOutcome start deadline told Starved × (attempts ≡ length told) × (ended ≡ end_after start told) × (at ≡ attempt_after start told))
+    (start deadline attempts ended at : ℕ) (responses : List Response)
+    → (run start deadline responses ≡ record { deadline = deadline; attempts = attempts; ended = ended; step = Attempt at })
+    ↔ (HasOutcome start deadline responses Starved × (attempts ≡ length responses) × (ended ≡ end_after start responses) × (at ≡ attempt_after start responses))
 
 -- another attempt may follow exactly when no front of the answers has an outcome
 abbrev pub GoesOnExactly : Type 0
 GoesOnExactly =
-    (start deadline : ℕ) (told : List Told)
-    → HasOutcome start deadline told Starved
-    ↔ ((outcome : Outcome) (attempts ended : ℕ) → Concludes start deadline told outcome attempts ended → ⊥)
+    (start deadline : ℕ) (responses : List Response)
+    → HasOutcome start deadline responses Starved
+    ↔ ((outcome : Outcome) (attempts ended : ℕ) → Concludes start deadline responses outcome attempts ended → ⊥)
 
 -- no list of answers has two outcomes
 abbrev pub NeverBoth : Type 0
 NeverBoth =
-    (start deadline : ℕ) (told : List Told) (one other : Outcome)
-    → HasOutcome start deadline told one → HasOutcome start deadline told other → one ≡ other
+    (start deadline : ℕ) (responses : List Response) (one other : Outcome)
+    → HasOutcome start deadline responses one → HasOutcome start deadline responses other → one ≡ other
 
 -- one more answer is one more try, at the moment that was due
 abbrev pub OneMoreTry : Type 0
 OneMoreTry =
-    (start : ℕ) (told : List Told) (t : Told)
-    → tries_of start (told ++ t ∷ [])
-    ≡ tries_of start told ++ record { attempt = length told + 1; at = attempt_after start told; answer = t.answer; ended = t.ended } ∷ []
+    (start : ℕ) (responses : List Response) (t : Response)
+    → tries_of start (responses ++ t ∷ [])
+    ≡ tries_of start responses ++ record { attempt = length responses + 1; at = attempt_after start responses; answer = t.answer; ended = t.ended } ∷ []
 
 -- an end counts as 10^15 + 10^12 ms at most; the first wait is half a second, and the longest a minute
 abbrev pub LimitsAre : Type 0

@@ -5,7 +5,7 @@ use Rattle.am_retry.specs.declared.outcome.Answer.TheVariants.{Done, Again, Neve
 use Rattle.am_retry.specs.declared.outcome.Outcome.TheVariants.{Delivered, Refused, Expired, Starved}
 use Rattle.am_retry.specs.declared.retry.Step.{Step}
 use Rattle.am_retry.specs.declared.retry.Step.TheVariants.{Attempt, Over}
-use Rattle.am_retry.specs.Attempts.{Told, wait_of, end_of, attempt_after, end_after}
+use Rattle.am_retry.specs.Attempts.{Response, wait_of, end_of, attempt_after, end_after}
 use Rattle.am_retry.specs.Outcome.{HasOutcome}
 
 -- how far the attempts have come: the deadline, the number of answers taken, the last attempt's end or the start, and what comes next
@@ -49,25 +49,25 @@ abbrev pub answered : Progress → Answer → ℕ → Progress
 answered p answer ended = taken_by p.step p answer ended
 
 -- after a list of answers, one by one
-abbrev pub answered_all : Progress → List Told → Progress
+abbrev pub answered_all : Progress → List Response → Progress
 answered_all p [] = p
-answered_all p (t ∷ told) = answered_all (answered p t.answer t.ended) told
+answered_all p (t ∷ responses) = answered_all (answered p t.answer t.ended) responses
 
 -- the machine between a start and a deadline, after a list of answers
-abbrev pub run : ℕ → ℕ → List Told → Progress
-run start deadline told = answered_all (started start deadline) told
+abbrev pub run : ℕ → ℕ → List Response → Progress
+run start deadline responses = answered_all (started start deadline) responses
 
 -- what comes next is what follows from the answers as a whole: the next attempt, at its moment, or the outcome that they have
-abbrev pub StepIsOf : ℕ → ℕ → List Told → Step → Type 0
-StepIsOf start deadline told (Attempt at) = HasOutcome start deadline told Starved × (at ≡ attempt_after start told)
-StepIsOf start deadline told (Over outcome) = HasOutcome start deadline told outcome × (outcome ≢ Starved)
+abbrev pub StepIsOf : ℕ → ℕ → List Response → Step → Type 0
+StepIsOf start deadline responses (Attempt at) = HasOutcome start deadline responses Starved × (at ≡ attempt_after start responses)
+StepIsOf start deadline responses (Over outcome) = HasOutcome start deadline responses outcome × (outcome ≢ Starved)
 
 -- a machine that was started so took just these answers, and stands where they lead
-pub record Stands (start deadline : ℕ) (told : List Told) (p : Progress) : Type 0 where
+pub record IsAfterResponses (start deadline : ℕ) (responses : List Response) (p : Progress) : Type 0 where
   pub until : p.deadline ≡ deadline
-  pub attempts : p.attempts ≡ length told
-  pub ended : p.ended ≡ end_after start told
-  pub step : StepIsOf start deadline told p.step
+  pub attempts : p.attempts ≡ length responses
+  pub ended : p.ended ≡ end_after start responses
+  pub step : StepIsOf start deadline responses p.step
 
 -- how much time is left before the deadline when the next attempt is due, and none where all is over
 abbrev pub time_left_at : Step → ℕ → ℕ

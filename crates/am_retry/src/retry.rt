@@ -1,6 +1,6 @@
 ghost use Rattle.std.specs.Prelude.{◌≡◌, ℕ, ◌+◌, ◌*◌, ◌/◌, ◌<◌, ◌≤◌, min, List, [], ◌∷◌, ◌++◌};
-ghost use Rattle.am_retry.specs.Attempts.{Told, latest, one_more, tries_of};
-ghost use Rattle.am_retry.specs.Progress.{answered, due, started, time_left, Stands, StepIsOf};
+ghost use Rattle.am_retry.specs.Attempts.{Response, latest, one_more, tries_of};
+ghost use Rattle.am_retry.specs.Progress.{answered, due, started, time_left, IsAfterResponses, StepIsOf};
 ghost use Rattle.am_retry.specs.declared.retry.Step.TheVariants.{Attempt, Over};
 
 use crate::{Answer, Outcome};
@@ -66,7 +66,7 @@ impl Retry {
         requires now { now ≤ latest }
         requires deadline { deadline ≤ latest }
         ensures value { result ≡ started now deadline }
-        ensures stands { Stands now deadline [] result }
+        ensures stands { IsAfterResponses now deadline [] result }
     {
         Retry {
             deadline,
@@ -83,9 +83,9 @@ impl Retry {
         ensures in_time { (at : ℕ) → result ≡ Attempt at → at < self.now.deadline }
 
         // Whatever answers were taken: the next attempt is theirs, or the outcome is.
-        ensures stands { (start deadline : ℕ) (told : List Told)
-            → Stands start deadline told self.now
-            → StepIsOf start deadline told result }
+        ensures stands { (start deadline : ℕ) (responses : List Response)
+            → IsAfterResponses start deadline responses self.now
+            → StepIsOf start deadline responses result }
     {
         self.step
     }
@@ -114,17 +114,17 @@ impl Retry {
         ensures over { (outcome : Outcome) → self.old.step ≡ Over outcome → self.new ≡ self.old }
 
         // Whatever answers led to the attempt that is due, the machine stands after one more.
-        ensures stands { (start deadline at : ℕ) (told : List Told)
+        ensures stands { (start deadline at : ℕ) (responses : List Response)
             → self.old.step ≡ Attempt at
-            → Stands start deadline told self.old
-            → Stands start deadline (one_more told answer ended) self.new }
+            → IsAfterResponses start deadline responses self.old
+            → IsAfterResponses start deadline (one_more responses answer ended) self.new }
 
         // That is one more attempt made: the one that was due.
-        ensures tries { (start deadline at : ℕ) (told : List Told)
+        ensures tries { (start deadline at : ℕ) (responses : List Response)
             → self.old.step ≡ Attempt at
-            → Stands start deadline told self.old
-            → tries_of start (one_more told answer ended)
-            ≡ tries_of start told
+            → IsAfterResponses start deadline responses self.old
+            → tries_of start (one_more responses answer ended)
+            ≡ tries_of start responses
             ++ record { attempt = self.old.attempts + 1; at = at; answer = answer; ended = ended }
             ∷ [] }
 

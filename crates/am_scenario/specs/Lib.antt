@@ -1,2 +1,2 @@
 pub mod Scripts
-pub mod Told
+pub mod Decoding

@@ -14,7 +14,7 @@ mod script;
 
 pub use call::LaneCall;
 pub use read::read_scenario;
-pub use script::{Planned, Script};
+pub use script::{Script, ScriptedAnswer};
 
 /// How many lanes a phase may have.
 pub const MAX_LANES: usize = 15;

@@ -1,7 +1,7 @@
 //! Runs of whole scenarios, with faulty devices among them.
 use am_cli::device::{DeviceFault, Sink, Source};
-use am_cli::fault::Word;
-use am_cli::usage::Usage;
+use am_cli::fault::FaultKind;
+use am_cli::io_trace::IoTrace;
 use am_play::fault::RunFault;
 use am_play::run::run_scenario;
 use std::alloc::{AllocError, Global};
@@ -35,7 +35,7 @@ struct Pieces<'a> {
     left: &'a [u8],
     at_once: usize,
     good_reads: usize,
-    usage: Usage,
+    io_trace: IoTrace,
 }
 
 /// A sink that takes so many bytes at once, and fails after so many writes.
@@ -44,21 +44,21 @@ struct Paper {
     written: Vec<u8>,
     at_once: usize,
     good_writes: usize,
-    usage: Usage,
+    io_trace: IoTrace,
 }
 
 impl Source for Pieces<'_> {
-    ghost asked = { λ p. p.usage.asked };
+    ghost asked = { λ p. p.io_trace.asked };
 
-    ghost failed = { λ p. p.usage.failed };
+    ghost failed = { λ p. p.io_trace.failed };
 
-    ghost ended = { λ p. p.usage.ended };
+    ghost ended = { λ p. p.io_trace.ended };
 
-    ghost given = { λ p. p.usage.moved };
+    ghost given = { λ p. p.io_trace.moved };
 
     fn read(&mut self, buffer: &mut [u8]) -> Result<usize, DeviceFault> {
         if self.good_reads == 0 {
-            self.usage.add_failure();
+            self.io_trace.add_failure();
             return Err(DeviceFault);
         }
         self.good_reads -= 1;
@@ -66,20 +66,20 @@ impl Source for Pieces<'_> {
         buffer[..count].copy_from_slice(&self.left[..count]);
         self.left = &self.left[count..];
         if count == 0 && !buffer.is_empty() {
-            self.usage.add_end();
+            self.io_trace.add_end();
         } else {
-            self.usage.add_success(&buffer[..count]);
+            self.io_trace.add_success(&buffer[..count]);
         }
         Ok(count)
     }
 }
 
 impl Sink for Paper {
-    ghost asked = { λ p. p.usage.asked };
+    ghost asked = { λ p. p.io_trace.asked };
 
-    ghost failed = { λ p. p.usage.failed };
+    ghost failed = { λ p. p.io_trace.failed };
 
-    ghost taken = { λ p. p.usage.moved };
+    ghost taken = { λ p. p.io_trace.moved };
 
     fn write(&mut self, bytes: &[u8]) -> Result<usize, DeviceFault> {
         let count = self.at_once.min(bytes.len());
@@ -87,11 +87,11 @@ impl Sink for Paper {
             || count == 0
             || self.written.extend_from_slice(&bytes[..count]).is_err()
         {
-            self.usage.add_failure();
+            self.io_trace.add_failure();
             return Err(DeviceFault);
         }
         self.good_writes -= 1;
-        self.usage.add_success(&bytes[..count]);
+        self.io_trace.add_success(&bytes[..count]);
         Ok(count)
     }
 }
@@ -102,7 +102,7 @@ fn source_of(bytes: &[u8], at_once: usize, good_reads: usize) -> Pieces<'_> {
         left: bytes,
         at_once,
         good_reads,
-        usage: Usage::none(),
+        io_trace: IoTrace::none(),
     }
 }
 
@@ -112,7 +112,7 @@ fn sheet(alloc: Global, at_once: usize, good_writes: usize) -> Paper {
         written: Vec::new(alloc),
         at_once,
         good_writes,
-        usage: Usage::none(),
+        io_trace: IoTrace::none(),
     }
 }
 

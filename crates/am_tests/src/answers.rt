@@ -4,7 +4,7 @@ use crate::stage::{Answer, Stage};
 use am_alerts::alert::Alert;
 use am_alerts::labels::Labels;
 use am_board::board::Board;
-use am_board::outlook::{MutedAlert, Outlook};
+use am_board::preview::{MutedAlert, Preview};
 use am_board::record::Call;
 use am_mute::mute::MuteCause;
 use am_retry::Outcome;
@@ -51,7 +51,7 @@ fn of_flush(alloc: Global, stage: &Stage, told: Answer) -> Result<String, AllocE
         Answer::Recorded => String::from_str(alloc, "recorded"),
         Answer::Noted => String::from_str(alloc, "noted"),
         Answer::NotOpen => String::from_str(alloc, "NotOpen"),
-        Answer::Outlook(now) => outlook(alloc, stage.board(), now),
+        Answer::Preview(now) => preview(alloc, stage.board(), now),
         Answer::Rows => rows(alloc, stage.board()),
         Answer::Groups => groups(alloc, stage.board()),
         Answer::Summary => summary(alloc, stage.board()),
@@ -164,23 +164,23 @@ fn push_labels(text: &mut String, labels: &Labels) -> Result<(), AllocError> {
 }
 
 /// What a begin at a moment is to do.
-fn outlook(alloc: Global, board: &Board, now: u64) -> Result<String, AllocError> {
-    match board.outlook(alloc, now)? {
+fn preview(alloc: Global, board: &Board, now: u64) -> Result<String, AllocError> {
+    match board.preview(alloc, now)? {
         None => String::from_str(alloc, "nothing due"),
-        Some(outlook) => on_group(alloc, &outlook),
+        Some(preview) => on_group(alloc, &preview),
     }
 }
 
 /// The moment of a begin, its group, each alert that is muted, and the reason of each integration.
-fn on_group(alloc: Global, outlook: &Outlook) -> Result<String, AllocError> {
-    let (moment, route) = (outlook.moment, outlook.group.route);
+fn on_group(alloc: Global, preview: &Preview) -> Result<String, AllocError> {
+    let (moment, route) = (preview.moment, preview.group.route);
     let mut text = format!(in alloc; "at {moment} {route}:")?;
-    push_labels(&mut text, &outlook.group.labels)?;
-    for muted in outlook.muted.as_slice() {
+    push_labels(&mut text, &preview.group.labels)?;
+    for muted in preview.muted.as_slice() {
         push_muted(&mut text, muted)?;
     }
     text.push_str(":")?;
-    for reason in outlook.reasons.as_slice() {
+    for reason in preview.reasons.as_slice() {
         write!(text, " {reason:?}")?;
     }
     Ok(text)

@@ -45,7 +45,7 @@ pub enum Answer {
     Foreign(usize),
     Refused(Fault),
     /// What a begin at this moment is to do.
-    Outlook(u64),
+    Preview(u64),
     Rows,
     Groups,
     Summary,
@@ -93,7 +93,7 @@ impl Stage {
             "outcomes" => Ok(Answer::Outcomes(self.find(words.number()?)?)),
             "note" => self.note(alloc, &mut words),
             "finish" => self.finish(alloc, &mut words),
-            "outlook" => Ok(Answer::Outlook(words.number()?)),
+            "outlook" => Ok(Answer::Preview(words.number()?)),
             "rows" => Ok(Answer::Rows),
             "groups" => Ok(Answer::Groups),
             "summary" => Ok(Answer::Summary),

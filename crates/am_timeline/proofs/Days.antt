@@ -1,6 +1,6 @@
 -- The day so many days later.
 use Rattle.std.proofs.Common.{◌≡◌, ◌≤◌, ◌<◌, ◌+◌, ◌-◌, ℕ, suc, Bool, true, false, if◌then◌else◌, ap, arith}
-use Rattle.am_timeline.specs.Dated.{DayData, day_after, days_in_month, next_day}
+use Rattle.am_timeline.specs.UtcDates.{DayData, day_after, days_in_month, next_day}
 use Rattle.std.specs.Prelude.{nat_lt}
 
 -- one day is gone

@@ -3,8 +3,8 @@ use Rattle.std.proofs.Common.{refl}
 use Rattle.std.specs.Char.{encode_utf8}
 use Rattle.std.specs.Fmt.{digits}
 use Rattle.std.specs.Str.{chars}
-use Rattle.am_timeline.specs.Dated.{day_text, instant_text}
-use Rattle.am_timeline.specs.Times.{counted_text}
+use Rattle.am_timeline.specs.UtcDates.{day_text, instant_text}
+use Rattle.am_timeline.specs.TimeFormatData.{counted_text}
 use Rattle.am_timeline.specs.Rows.{MomentsAreCounted, MomentsAreDated, TextsAreShown}
 
 pub moments_are_counted : MomentsAreCounted

@@ -10,13 +10,13 @@ use Rattle.am_rehearsal.specs.declared.event.Event.{Event}
 use Rattle.am_timeline.specs.declared.expectation.Expectation.{Expectation}
 use Rattle.am_timeline.specs.declared.expectation.Wanted.{Wanted}
 use Rattle.am_timeline.specs.declared.expectation.Wanted.TheVariants.{NoNotice, Notice}
-use Rattle.am_timeline.specs.Story.{StoryData, SentData, is_delivered, sent_of}
+use Rattle.am_timeline.specs.Playback.{PlaybackData, SentData, is_delivered, sent_of}
 use Rattle.am_timeline.specs.Table.{is_for}
 
 -- whether a notice is one of those that an expectation speaks of: delivered, from the one moment to the other, by its receiver and its
 -- integration, if it names them
-abbrev pub is_meant : Config → Expectation → SentData → Bool
-is_meant config x s =
+abbrev pub is_in_scope : Config → Expectation → SentData → Bool
+is_in_scope config x s =
     is_delivered s.outcome && nat_le x.from s.report.ended && nat_le s.report.ended x.to
     && option_map_or (λ name. is_for config name s) x.receiver true
     && option_map_or (λ position. s.notice.integration == position) x.integration true
@@ -42,20 +42,20 @@ abbrev pub is_wanted : Option (List (List Label)) → Option (List (List Label))
 is_wanted firing resolved s = are_as_wanted firing s.notice.firing && are_as_wanted resolved s.notice.resolved
 
 -- whether the sending of a notice that is meant ended by this
-abbrev pub is_meant_by : StoryData → Expectation → Event → Bool
-is_meant_by story x event = option_map_or (is_meant story.config x) (sent_of story event) false
+abbrev pub ends_in_scope : PlaybackData → Expectation → Event → Bool
+ends_in_scope playback x event = option_map_or (is_in_scope playback.config x) (sent_of playback event) false
 
 -- and of one that is wanted
 abbrev pub is_wanted_by :
-    StoryData → Expectation → Option (List (List Label)) → Option (List (List Label)) → Event → Bool
-is_wanted_by story x firing resolved event =
-    option_map_or (λ s. is_meant story.config x s && is_wanted firing resolved s) (sent_of story event) false
+    PlaybackData → Expectation → Option (List (List Label)) → Option (List (List Label)) → Event → Bool
+is_wanted_by playback x firing resolved event =
+    option_map_or (λ s. is_in_scope playback.config x s && is_wanted firing resolved s) (sent_of playback event) false
 
 -- whether it came so: no notice that is meant, or one that tells what is wanted
-abbrev pub came_so : StoryData → Expectation → Wanted → Bool
-came_so story x NoNotice = not (list_any (is_meant_by story x) story.events)
-came_so story x (Notice firing resolved) = list_any (is_wanted_by story x firing resolved) story.events
+abbrev pub is_satisfied : PlaybackData → Expectation → Wanted → Bool
+is_satisfied playback x NoNotice = not (list_any (ends_in_scope playback x) playback.events)
+is_satisfied playback x (Notice firing resolved) = list_any (is_wanted_by playback x firing resolved) playback.events
 
 -- met: an expectation came so
-abbrev pub is_met : StoryData → Expectation → Bool
-is_met story x = came_so story x x.wanted
+abbrev pub is_met : PlaybackData → Expectation → Bool
+is_met playback x = is_satisfied playback x x.wanted

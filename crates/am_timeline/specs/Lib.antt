@@ -1,10 +1,10 @@
-pub mod Times
+pub mod TimeFormatData
 pub mod Shown
-pub mod Story
+pub mod Playback
 pub mod Timeline
 pub mod Notices
 pub mod Table
 pub mod Expectation
-pub mod Judgement
-pub mod Dated
+pub mod ExpectationReport
+pub mod UtcDates
 pub mod Rows

@@ -1,8 +1,8 @@
 -- Rows: texts that were worked out by hand.
 use Rattle.std.specs.Prelude.{◌≡◌, ◌∷◌, [], codes}
-use Rattle.am_timeline.specs.Dated.{StartData, dated_text}
+use Rattle.am_timeline.specs.UtcDates.{StartData, dated_text}
 use Rattle.am_timeline.specs.Shown.{text_shown}
-use Rattle.am_timeline.specs.Times.{column, counted, counted_text}
+use Rattle.am_timeline.specs.TimeFormatData.{column, counted, counted_text}
 
 -- moments counted from the start: the start itself, one with milliseconds, one with more than 99 hours, and one in its column
 abbrev pub MomentsAreCounted : Type 0

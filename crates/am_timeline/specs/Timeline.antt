@@ -11,8 +11,8 @@ use Rattle.am_retry.specs.declared.outcome.Outcome.{Outcome}
 use Rattle.am_retry.specs.declared.outcome.Outcome.TheVariants.{Delivered, Refused, Expired, Starved}
 use Rattle.am_model.specs.declared.config.Config.{Config}
 use Rattle.am_model.specs.declared.group.GroupName.{GroupName}
-use Rattle.am_model.specs.declared.outlook.MutedAlert.{MutedAlert}
-use Rattle.am_model.specs.declared.outlook.Outlook.{Outlook}
+use Rattle.am_model.specs.declared.preview.MutedAlert.{MutedAlert}
+use Rattle.am_model.specs.declared.preview.Preview.{Preview}
 use Rattle.am_model.specs.declared.reason.Reason.{Reason}
 use Rattle.am_model.specs.declared.reason.Reason.TheVariants.{FirstNotice, NewAlert, AllResolved, NewlyResolved, Repeat, NothingLeft}
 use Rattle.am_model.specs.declared.reason.Reason.TheVariants.{NothingFiring, NotYet}
@@ -22,26 +22,26 @@ use Rattle.am_model.specs.look_back.Reasons.{asks}
 use Rattle.am_model.specs.Notice.{NoticeData, is_nothing}
 use Rattle.am_rehearsal.specs.declared.event.Event.{Event}
 use Rattle.am_rehearsal.specs.declared.event.Event.TheVariants.{Begun, Sent}
-use Rattle.am_rehearsal.specs.declared.event.ToldBegin.{ToldBegin}
+use Rattle.am_rehearsal.specs.declared.event.PreviewedBegin.{PreviewedBegin}
 use Rattle.am_timeline.specs.Shown.{text_shown, set_shown, sets_shown}
-use Rattle.am_timeline.specs.Story.{StoryData, SentData, notices_at, notice_for, sent_of}
-use Rattle.am_timeline.specs.Times.{Times, column}
+use Rattle.am_timeline.specs.Playback.{PlaybackData, SentData, notices_at, notice_for, sent_of}
+use Rattle.am_timeline.specs.TimeFormatData.{TimeFormatData, column}
 
 -- the label set of an alert
 abbrev pub labels_of : AlertData → List Label
 labels_of a = a.labels
 
 -- the front of a line: the moment, and a word
-abbrev pub front_text : Times → ℕ → List ℕ → List ℕ
-front_text times at word = column times at ++ word
+abbrev pub time_text : TimeFormatData → ℕ → List ℕ → List ℕ
+time_text times at word = column times at ++ word
 
 -- a group: the name of its route and its group labels
 abbrev pub group_shown : Config → GroupName → List ℕ
 group_shown config name = (route_of config name).name ++ set_shown name.labels
 
 -- a group and its receiver
-abbrev pub way_shown : Config → GroupName → List ℕ
-way_shown config name = group_shown config name ++ codes " -> " ++ text_shown (route_of config name).receiver
+abbrev pub group_receiver_text : Config → GroupName → List ℕ
+group_receiver_text config name = group_shown config name ++ codes " -> " ++ text_shown (route_of config name).receiver
 
 -- an integration of a group's receiver: its kind, `/` and its position
 abbrev pub integration_shown : Config → GroupName → ℕ → List ℕ
@@ -50,7 +50,7 @@ integration_shown config name position =
 
 -- a group, its receiver and an integration of that
 abbrev pub target_shown : Config → GroupName → ℕ → List ℕ
-target_shown config name position = way_shown config name ++ codes " " ++ integration_shown config name position
+target_shown config name position = group_receiver_text config name ++ codes " " ++ integration_shown config name position
 
 -- why an integration is asked, or why not
 abbrev pub reason_words : Reason → List ℕ
@@ -64,7 +64,7 @@ reason_words NothingFiring = codes "nothing fires"
 reason_words (NotYet from) = codes "nothing new, repeat from "
 
 -- from when on a notice is repeated that isn't yet
-abbrev pub repeat_text : Times → Reason → List ℕ
+abbrev pub repeat_text : TimeFormatData → Reason → List ℕ
 repeat_text times FirstNotice = []
 repeat_text times NewAlert = []
 repeat_text times AllResolved = []
@@ -75,17 +75,17 @@ repeat_text times NothingFiring = []
 repeat_text times (NotYet from) = times.text from
 
 -- a reason
-abbrev pub reason_text : Times → Reason → List ℕ
+abbrev pub reason_text : TimeFormatData → Reason → List ℕ
 reason_text times reason = reason_words reason ++ repeat_text times reason
 
 -- behind how many attempts something came, and when they began
-abbrev pub attempts_text : Times → ℕ → ℕ → List ℕ
+abbrev pub attempts_text : TimeFormatData → ℕ → ℕ → List ℕ
 attempts_text times attempts since =
     codes " after " ++ decimal attempts ++ (if attempts == 1 then codes " attempt" else codes " attempts")
     ++ codes " since " ++ times.text since
 
 -- the same of a notice that was delivered: nothing where the first attempt did it
-abbrev pub retries_text : Times → ℕ → ℕ → List ℕ
+abbrev pub retries_text : TimeFormatData → ℕ → ℕ → List ℕ
 retries_text times attempts since = if attempts == 1 then [] else attempts_text times attempts since
 
 -- the alerts of a notice that fire, or that are resolved; nothing where there is none
@@ -94,40 +94,40 @@ alerts_text word [] = []
 alerts_text word (a ∷ alerts) = word ++ sets_shown labels_of (a ∷ alerts)
 
 -- that a notice was delivered
-abbrev pub delivered_text : Config → Times → SentData → List ℕ
+abbrev pub delivered_text : Config → TimeFormatData → SentData → List ℕ
 delivered_text config times s =
-    front_text times s.report.ended (codes "notice  ") ++ target_shown config s.notice.group s.notice.integration
-    ++ codes " delivered" ++ retries_text times s.report.attempts s.begin.outlook.moment
+    time_text times s.report.ended (codes "notice  ") ++ target_shown config s.notice.group s.notice.integration
+    ++ codes " delivered" ++ retries_text times s.report.attempts s.begin.preview.moment
 
 -- why a notice was sent, and what it told
-abbrev pub told_text : Times → Reason → NoticeData → List ℕ
-told_text times reason n =
+abbrev pub content_text : TimeFormatData → Reason → NoticeData → List ℕ
+content_text times reason n =
     codes ": " ++ reason_text times reason ++ alerts_text (codes "; firing ") n.firing ++ alerts_text (codes "; resolved ") n.resolved
     ++ codes "\n"
 
 -- a delivered notice
-abbrev pub delivered_line : Config → Times → SentData → Reason → List ℕ
-delivered_line config times s reason = delivered_text config times s ++ told_text times reason s.notice
+abbrev pub delivered_line : Config → TimeFormatData → SentData → Reason → List ℕ
+delivered_line config times s reason = delivered_text config times s ++ content_text times reason s.notice
 
 -- a notice that wasn't delivered: what it came to
-abbrev pub failed_line : Config → Times → SentData → List ℕ → List ℕ
+abbrev pub failed_line : Config → TimeFormatData → SentData → List ℕ → List ℕ
 failed_line config times s word =
-    front_text times s.report.ended (codes "failed  ") ++ target_shown config s.notice.group s.notice.integration
-    ++ word ++ attempts_text times s.report.attempts s.begin.outlook.moment ++ codes "\n"
+    time_text times s.report.ended (codes "failed  ") ++ target_shown config s.notice.group s.notice.integration
+    ++ word ++ attempts_text times s.report.attempts s.begin.preview.moment ++ codes "\n"
 
 -- a notice that was delivered, with the reason that was told of its integration; nothing where none was
-abbrev pub notice_line : Config → Times → SentData → List ℕ
+abbrev pub notice_line : Config → TimeFormatData → SentData → List ℕ
 notice_line config times s =
-    option_map_or (delivered_line config times s) (slice_get s.begin.outlook.reasons s.notice.integration) []
+    option_map_or (delivered_line config times s) (slice_get s.begin.preview.reasons s.notice.integration) []
 
 -- a notice whose sending came to its end
-abbrev pub sent_line_by : Outcome → Config → Times → SentData → List ℕ
+abbrev pub sent_line_by : Outcome → Config → TimeFormatData → SentData → List ℕ
 sent_line_by Delivered config times s = notice_line config times s
 sent_line_by Refused config times s = failed_line config times s (codes " refused")
 sent_line_by Expired config times s = failed_line config times s (codes " expired")
 sent_line_by Starved config times s = failed_line config times s (codes " starved")
 
-abbrev pub sent_line : Config → Times → SentData → List ℕ
+abbrev pub sent_line : Config → TimeFormatData → SentData → List ℕ
 sent_line config times s = sent_line_by s.outcome config times s
 
 -- how an alert is muted
@@ -136,64 +136,64 @@ cause_words (Silenced id until) = codes " silenced until "
 cause_words (Inhibited rule by) = codes " inhibited by "
 
 -- until when an alert is silenced, or on account of which alert it is inhibited, and by which rule
-abbrev pub cause_shown : Times → MuteCause → List ℕ
+abbrev pub cause_shown : TimeFormatData → MuteCause → List ℕ
 cause_shown times (Silenced id until) = times.text until
 cause_shown times (Inhibited rule by) = set_shown by ++ codes " (rule " ++ decimal rule ++ codes ")"
 
 -- why an alert is muted
-abbrev pub cause_text : Times → MuteCause → List ℕ
+abbrev pub cause_text : TimeFormatData → MuteCause → List ℕ
 cause_text times cause = cause_words cause ++ cause_shown times cause
 
 -- a muted alert, and why it is
-abbrev pub muted_alert_text : Times → MutedAlert → List ℕ
+abbrev pub muted_alert_text : TimeFormatData → MutedAlert → List ℕ
 muted_alert_text times m = set_shown m.labels ++ cause_text times m.cause
 
 -- muted alerts
-abbrev pub muted_text : Times → List MutedAlert → List ℕ
+abbrev pub muted_text : TimeFormatData → List MutedAlert → List ℕ
 muted_text times muted = join_by (muted_alert_text times) (codes "; ") muted
 
 -- a begin that some alerts of its group are muted at
-abbrev pub muted_line : Config → Times → Outlook → List ℕ
+abbrev pub muted_line : Config → TimeFormatData → Preview → List ℕ
 muted_line config times o =
     if length o.muted == 0 then []
-    else front_text times o.moment (codes "muted   ") ++ group_shown config o.group ++ codes ": " ++ muted_text times o.muted ++ codes "\n"
+    else time_text times o.moment (codes "muted   ") ++ group_shown config o.group ++ codes ": " ++ muted_text times o.muted ++ codes "\n"
 
 -- what is left of a group: no alerts, or muted ones
-abbrev pub left_text : Times → List MutedAlert → List ℕ
-left_text times muted = if length muted == 0 then codes "no alerts" else muted_text times muted
+abbrev pub nothing_left_text : TimeFormatData → List MutedAlert → List ℕ
+nothing_left_text times muted = if length muted == 0 then codes "no alerts" else muted_text times muted
 
 -- a begin at which nothing is left of its group
-abbrev pub left_line : Config → Times → Outlook → List ℕ
-left_line config times o =
-    front_text times o.moment (codes "quiet   ") ++ group_shown config o.group ++ codes ": " ++ left_text times o.muted ++ codes "\n"
+abbrev pub nothing_left_line : Config → TimeFormatData → Preview → List ℕ
+nothing_left_line config times o =
+    time_text times o.moment (codes "quiet   ") ++ group_shown config o.group ++ codes ": " ++ nothing_left_text times o.muted ++ codes "\n"
 
 -- a group's receiver that is told nothing, and why
-abbrev pub unasked_line : Config → Times → Outlook → List ℕ → List ℕ
-unasked_line config times o why =
-    front_text times o.moment (codes "quiet   ") ++ way_shown config o.group ++ codes ": " ++ why ++ codes "\n"
+abbrev pub no_integrations_line : Config → TimeFormatData → Preview → List ℕ → List ℕ
+no_integrations_line config times o why =
+    time_text times o.moment (codes "quiet   ") ++ group_receiver_text config o.group ++ codes ": " ++ why ++ codes "\n"
 
 -- an integration that is told nothing
-abbrev pub untold_text : Config → Times → Outlook → ℕ → List ℕ
-untold_text config times o position =
-    front_text times o.moment (codes "quiet   ") ++ target_shown config o.group position ++ codes ": "
+abbrev pub not_sent_text : Config → TimeFormatData → Preview → ℕ → List ℕ
+not_sent_text config times o position =
+    time_text times o.moment (codes "quiet   ") ++ target_shown config o.group position ++ codes ": "
 
 -- the same, and why
-abbrev pub untold_line : Config → Times → Outlook → ℕ → List ℕ → List ℕ
-untold_line config times o position why = untold_text config times o position ++ why ++ codes "\n"
+abbrev pub not_sent_line : Config → TimeFormatData → Preview → ℕ → List ℕ → List ℕ
+not_sent_line config times o position why = not_sent_text config times o position ++ why ++ codes "\n"
 
 -- whether an integration is asked though there is nothing to send
 abbrev pub is_sent_nothing : List NoticeData → ℕ → Bool
 is_sent_nothing notices position = option_map_or is_nothing (notice_for position notices) false
 
 -- an integration at a begin: nothing where there is something to send
-abbrev pub quiet_line : Config → Times → Outlook → List NoticeData → ℕ → Reason → List ℕ
+abbrev pub quiet_line : Config → TimeFormatData → Preview → List NoticeData → ℕ → Reason → List ℕ
 quiet_line config times o notices position reason =
     if asks reason
-    then (if is_sent_nothing notices position then untold_line config times o position (codes "all resolved, which it isn't sent") else [])
-    else untold_line config times o position (reason_text times reason)
+    then (if is_sent_nothing notices position then not_sent_line config times o position (codes "all resolved, which it isn't sent") else [])
+    else not_sent_line config times o position (reason_text times reason)
 
 -- the integrations from a position on, at a begin
-abbrev pub quiet_lines : Config → Times → Outlook → List NoticeData → ℕ → List Reason → List ℕ
+abbrev pub quiet_lines : Config → TimeFormatData → Preview → List NoticeData → ℕ → List Reason → List ℕ
 quiet_lines config times o notices position [] = []
 quiet_lines config times o notices position (reason ∷ reasons) =
     quiet_line config times o notices position reason ++ quiet_lines config times o notices (position + 1) reasons
@@ -214,24 +214,24 @@ abbrev pub nothing_left : List Reason → Bool
 nothing_left reasons = not (length reasons == 0) && list_all is_left reasons
 
 -- the integrations at a begin at which something is left, or of which there is none
-abbrev pub asked_lines : Config → Times → Outlook → List NoticeData → List ℕ
+abbrev pub asked_lines : Config → TimeFormatData → Preview → List NoticeData → List ℕ
 asked_lines config times o notices =
-    if length o.reasons == 0 then unasked_line config times o (codes "no integrations")
+    if length o.reasons == 0 then no_integrations_line config times o (codes "no integrations")
     else quiet_lines config times o notices 0 o.reasons
 
 -- a begin: which alerts are muted, and who is told nothing
-abbrev pub begun_lines : StoryData → Times → ToldBegin → List ℕ
-begun_lines story times begin =
-    if nothing_left begin.outlook.reasons then left_line story.config times begin.outlook
-    else muted_line story.config times begin.outlook
-    ++ asked_lines story.config times begin.outlook (notices_at story.history begin.place)
+abbrev pub begun_lines : PlaybackData → TimeFormatData → PreviewedBegin → List ℕ
+begun_lines playback times begin =
+    if nothing_left begin.preview.reasons then nothing_left_line playback.config times begin.preview
+    else muted_line playback.config times begin.preview
+    ++ asked_lines playback.config times begin.preview (notices_at playback.history begin.place)
 
 -- the lines on an event
-abbrev pub event_lines : StoryData → Times → Event → List ℕ
-event_lines story times (Begun begin) = option_map_or (begun_lines story times) (slice_get story.begins begin) []
-event_lines story times (Sent begin report) =
-    option_map_or (sent_line story.config times) (sent_of story (Sent begin report)) []
+abbrev pub event_lines : PlaybackData → TimeFormatData → Event → List ℕ
+event_lines playback times (Begun begin) = option_map_or (begun_lines playback times) (slice_get playback.begins begin) []
+event_lines playback times (Sent begin report) =
+    option_map_or (sent_line playback.config times) (sent_of playback (Sent begin report)) []
 
 -- timeline: the lines on all events
-abbrev pub timeline_text : StoryData → Times → List ℕ
-timeline_text story times = flat_map (event_lines story times) story.events
+abbrev pub timeline_text : PlaybackData → TimeFormatData → List ℕ
+timeline_text playback times = flat_map (event_lines playback times) playback.events

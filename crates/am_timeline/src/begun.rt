@@ -1,37 +1,37 @@
 //! The lines on begins: which alerts are muted, and who is told nothing.
 ghost use Rattle.std.specs.Prelude.{◌≡◌, ◌++◌, OnOk, string_bytes};
 ghost use Rattle.std.specs.List.{list_all};
-ghost use Rattle.am_timeline.specs.Timeline.{asked_lines, begun_lines, is_left, is_sent_nothing, left_line, left_text, muted_line};
-ghost use Rattle.am_timeline.specs.Timeline.{nothing_left, quiet_line, quiet_lines, reason_text, unasked_line, untold_line, untold_text};
+ghost use Rattle.am_timeline.specs.Timeline.{asked_lines, begun_lines, is_left, is_sent_nothing, nothing_left_line, nothing_left_text, muted_line};
+ghost use Rattle.am_timeline.specs.Timeline.{nothing_left, quiet_line, quiet_lines, reason_text, no_integrations_line, not_sent_line, not_sent_text};
 
-use crate::clock::Clock;
-use crate::groups::{push_group, push_target, push_way};
-use crate::line::{push_front, push_reason};
+use crate::clock::TimeFormat;
+use crate::groups::{push_group, push_group_receiver, push_target};
+use crate::line::{push_reason, push_time};
 use crate::muted::push_muted;
-use crate::story::{Story, notice_for, notices_at};
+use crate::playback::{Playback, notice_for, notices_at};
 use am_board::config::Config;
 use am_board::notice::Notice;
-use am_board::outlook::{MutedAlert, Outlook};
+use am_board::preview::{MutedAlert, Preview};
 use am_board::reason::Reason;
-use am_rehearsal::event::ToldBegin;
+use am_rehearsal::event::PreviewedBegin;
 use std::alloc::AllocError;
 
 /// Adds the lines on a begin: which alerts are muted, and who is told nothing.
-pub(crate) fn push_begun<C: Clock>(
-    story: &Story,
+pub(crate) fn push_begun<C: TimeFormat>(
+    playback: &Playback,
     clock: &C,
-    begin: &ToldBegin,
+    begin: &PreviewedBegin,
     out: &mut String,
 ) -> Result<(), AllocError>
     ensures { OnOk result (string_bytes out.new
-        ≡ string_bytes out.old ++ begun_lines story.now (C.times clock.now) begin.now) }
+        ≡ string_bytes out.old ++ begun_lines playback.now (C.times clock.now) begin.now) }
 {
-    if nothing_left(begin.outlook.reasons.as_slice()) {
-        return push_left(story.config, clock, &begin.outlook, out);
+    if nothing_left(begin.preview.reasons.as_slice()) {
+        return push_left(playback.config, clock, &begin.preview, out);
     }
-    push_muted_line(story.config, clock, &begin.outlook, out)?;
-    let notices = notices_at(story.history, begin.place);
-    push_asked(story.config, clock, &begin.outlook, notices, out)
+    push_muted_line(playback.config, clock, &begin.preview, out)?;
+    let notices = notices_at(playback.history, begin.place);
+    push_asked(playback.config, clock, &begin.preview, notices, out)
 }
 
 /// Whether nothing is left of a group, as the reasons of its receiver's integrations say.
@@ -57,29 +57,29 @@ fn is_left(reason: &Reason) -> bool
 }
 
 /// Adds the line on a begin at which nothing is left of its group.
-fn push_left<C: Clock>(
+fn push_left<C: TimeFormat>(
     config: &Config,
     clock: &C,
-    outlook: &Outlook,
+    preview: &Preview,
     out: &mut String,
 ) -> Result<(), AllocError>
     ensures { OnOk result (string_bytes out.new
-        ≡ string_bytes out.old ++ left_line config.now (C.times clock.now) outlook.now) }
+        ≡ string_bytes out.old ++ nothing_left_line config.now (C.times clock.now) preview.now) }
 {
-    push_front(clock, outlook.moment, "quiet   ", out)?;
-    push_group(config, &outlook.group, out)?;
+    push_time(clock, preview.moment, "quiet   ", out)?;
+    push_group(config, &preview.group, out)?;
     out.push_str(": ")?;
-    push_muted_or_none(clock, outlook.muted.as_slice(), out)?;
+    push_muted_or_none(clock, preview.muted.as_slice(), out)?;
     out.push_str("\n")
 }
 
-fn push_muted_or_none<C: Clock>(
+fn push_muted_or_none<C: TimeFormat>(
     clock: &C,
     muted: &[MutedAlert],
     out: &mut String,
 ) -> Result<(), AllocError>
     ensures { OnOk result (string_bytes out.new
-        ≡ string_bytes out.old ++ left_text (C.times clock.now) muted.now) }
+        ≡ string_bytes out.old ++ nothing_left_text (C.times clock.now) muted.now) }
 {
     if muted.len() == 0 {
         return out.push_str("no alerts");
@@ -88,125 +88,125 @@ fn push_muted_or_none<C: Clock>(
 }
 
 /// Adds the line on the muted alerts of a begin, if there are any.
-fn push_muted_line<C: Clock>(
+fn push_muted_line<C: TimeFormat>(
     config: &Config,
     clock: &C,
-    outlook: &Outlook,
+    preview: &Preview,
     out: &mut String,
 ) -> Result<(), AllocError>
     ensures { OnOk result (string_bytes out.new
-        ≡ string_bytes out.old ++ muted_line config.now (C.times clock.now) outlook.now) }
+        ≡ string_bytes out.old ++ muted_line config.now (C.times clock.now) preview.now) }
 {
-    if outlook.muted.len() == 0 {
+    if preview.muted.len() == 0 {
         return Ok(());
     }
-    push_front(clock, outlook.moment, "muted   ", out)?;
-    push_group(config, &outlook.group, out)?;
+    push_time(clock, preview.moment, "muted   ", out)?;
+    push_group(config, &preview.group, out)?;
     out.push_str(": ")?;
-    push_muted(clock, outlook.muted.as_slice(), out)?;
+    push_muted(clock, preview.muted.as_slice(), out)?;
     out.push_str("\n")
 }
 
 /// Adds the lines on the integrations at a begin.
-fn push_asked<C: Clock>(
+fn push_asked<C: TimeFormat>(
     config: &Config,
     clock: &C,
-    outlook: &Outlook,
+    preview: &Preview,
     notices: &[Notice],
     out: &mut String,
 ) -> Result<(), AllocError>
     ensures { OnOk result (string_bytes out.new
-        ≡ string_bytes out.old ++ asked_lines config.now (C.times clock.now) outlook.now notices.now) }
+        ≡ string_bytes out.old ++ asked_lines config.now (C.times clock.now) preview.now notices.now) }
 {
-    if outlook.reasons.len() == 0 {
-        return push_unasked(config, clock, outlook, "no integrations", out);
+    if preview.reasons.len() == 0 {
+        return push_unasked(config, clock, preview, "no integrations", out);
     }
-    push_quiet_lines(config, clock, outlook, notices, out)
+    push_quiet_lines(config, clock, preview, notices, out)
 }
 
-fn push_quiet_lines<C: Clock>(
+fn push_quiet_lines<C: TimeFormat>(
     config: &Config,
     clock: &C,
-    outlook: &Outlook,
+    preview: &Preview,
     notices: &[Notice],
     out: &mut String,
 ) -> Result<(), AllocError>
     ensures { OnOk result (string_bytes out.new ≡ string_bytes out.old
-        ++ quiet_lines config.now (C.times clock.now) outlook.now notices.now 0 outlook.now.reasons) }
+        ++ quiet_lines config.now (C.times clock.now) preview.now notices.now 0 preview.now.reasons) }
 {
-    for (position, reason) in outlook.reasons.as_slice().iter().enumerate() {
-        push_quiet(config, clock, outlook, notices, position, reason, out)?;
+    for (position, reason) in preview.reasons.as_slice().iter().enumerate() {
+        push_quiet(config, clock, preview, notices, position, reason, out)?;
     }
     Ok(())
 }
 
 /// Adds the line on an integration at a begin; nothing where there is something to send.
-fn push_quiet<C: Clock>(
+fn push_quiet<C: TimeFormat>(
     config: &Config,
     clock: &C,
-    outlook: &Outlook,
+    preview: &Preview,
     notices: &[Notice],
     position: usize,
     reason: &Reason,
     out: &mut String,
 ) -> Result<(), AllocError>
     ensures { OnOk result (string_bytes out.new ≡ string_bytes out.old
-        ++ quiet_line config.now (C.times clock.now) outlook.now notices.now position reason.now) }
+        ++ quiet_line config.now (C.times clock.now) preview.now notices.now position reason.now) }
 {
     if !reason.asks() {
-        return push_not_asked(config, clock, outlook, position, reason, out);
+        return push_not_asked(config, clock, preview, position, reason, out);
     }
     if is_sent_nothing(notices, position) {
         let why = "all resolved, which it isn't sent";
-        return push_untold(config, clock, outlook, position, why, out);
+        return push_untold(config, clock, preview, position, why, out);
     }
     Ok(())
 }
 
-fn push_not_asked<C: Clock>(
+fn push_not_asked<C: TimeFormat>(
     config: &Config,
     clock: &C,
-    outlook: &Outlook,
+    preview: &Preview,
     position: usize,
     reason: &Reason,
     out: &mut String,
 ) -> Result<(), AllocError>
     ensures { OnOk result (string_bytes out.new ≡ string_bytes out.old
-        ++ untold_line config.now (C.times clock.now) outlook.now position (reason_text (C.times clock.now) reason.now)) }
+        ++ not_sent_line config.now (C.times clock.now) preview.now position (reason_text (C.times clock.now) reason.now)) }
 {
-    push_untold_front(config, clock, outlook, position, out)?;
+    push_untold_front(config, clock, preview, position, out)?;
     push_reason(clock, reason, out)?;
     out.push_str("\n")
 }
 
-fn push_untold<C: Clock>(
+fn push_untold<C: TimeFormat>(
     config: &Config,
     clock: &C,
-    outlook: &Outlook,
+    preview: &Preview,
     position: usize,
     why: &str,
     out: &mut String,
 ) -> Result<(), AllocError>
     ensures { OnOk result (string_bytes out.new ≡ string_bytes out.old
-        ++ untold_line config.now (C.times clock.now) outlook.now position why.now) }
+        ++ not_sent_line config.now (C.times clock.now) preview.now position why.now) }
 {
-    push_untold_front(config, clock, outlook, position, out)?;
+    push_untold_front(config, clock, preview, position, out)?;
     out.push_str(why)?;
     out.push_str("\n")
 }
 
-fn push_untold_front<C: Clock>(
+fn push_untold_front<C: TimeFormat>(
     config: &Config,
     clock: &C,
-    outlook: &Outlook,
+    preview: &Preview,
     position: usize,
     out: &mut String,
 ) -> Result<(), AllocError>
     ensures { OnOk result (string_bytes out.new ≡ string_bytes out.old
-        ++ untold_text config.now (C.times clock.now) outlook.now position) }
+        ++ not_sent_text config.now (C.times clock.now) preview.now position) }
 {
-    push_front(clock, outlook.moment, "quiet   ", out)?;
-    push_target(config, &outlook.group, position, out)?;
+    push_time(clock, preview.moment, "quiet   ", out)?;
+    push_target(config, &preview.group, position, out)?;
     out.push_str(": ")
 }
 
@@ -221,18 +221,18 @@ pub(crate) fn is_sent_nothing(notices: &[Notice], position: usize) -> bool
 }
 
 /// Adds the line on a group's receiver that is told nothing, and why.
-fn push_unasked<C: Clock>(
+fn push_unasked<C: TimeFormat>(
     config: &Config,
     clock: &C,
-    outlook: &Outlook,
+    preview: &Preview,
     why: &str,
     out: &mut String,
 ) -> Result<(), AllocError>
     ensures { OnOk result (string_bytes out.new
-        ≡ string_bytes out.old ++ unasked_line config.now (C.times clock.now) outlook.now why.now) }
+        ≡ string_bytes out.old ++ no_integrations_line config.now (C.times clock.now) preview.now why.now) }
 {
-    push_front(clock, outlook.moment, "quiet   ", out)?;
-    push_way(config, &outlook.group, out)?;
+    push_time(clock, preview.moment, "quiet   ", out)?;
+    push_group_receiver(config, &preview.group, out)?;
     out.push_str(": ")?;
     out.push_str(why)?;
     out.push_str("\n")

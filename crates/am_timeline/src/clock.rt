@@ -1,15 +1,15 @@
 //! How moments are shown.
 ghost use Rattle.std.specs.Prelude.{◌≡◌, ◌++◌, ◌<◌, ◌≤◌, OnOk, codes, decimal, replicate, string_bytes};
-ghost use Rattle.am_timeline.specs.Times.{column, counted, counted_text, fraction_text, three_digits, two_digits};
+ghost use Rattle.am_timeline.specs.TimeFormatData.{column, counted, counted_text, fraction_text, three_digits, two_digits};
 
 use std::alloc::AllocError;
 
 /// Shows moments, which are in milliseconds from the start of a rehearsal.
-pub trait Clock {
+pub trait TimeFormat {
     ghost use Rattle.std.specs.Prelude.{◌≡◌, ◌++◌, OnOk, string_bytes};
-    ghost use Rattle.am_timeline.specs.Times.{Times};
+    ghost use Rattle.am_timeline.specs.TimeFormatData.{TimeFormatData};
 
-    ghost times: { Self → Times };
+    ghost times: { Self → TimeFormatData };
 
     /// Adds the text of a moment.
     fn push_moment(&self, at: u64, out: &mut String) -> Result<(), AllocError>
@@ -23,9 +23,9 @@ pub trait Clock {
 /// Shows moments as they are counted from the start: `00:05:30`, or `00:05:30.001`, with as many hours
 /// as there are.
 #[derive(Clone, Copy, Debug, Drop)]
-pub struct Counted;
+pub struct Elapsed;
 
-impl Clock for Counted {
+impl TimeFormat for Elapsed {
     ghost times = { λ _. counted };
 
     fn push_moment(&self, at: u64, out: &mut String) -> Result<(), AllocError> {
@@ -37,7 +37,7 @@ impl Clock for Counted {
     }
 }
 
-#[tactic(auto, unfolding(crate::specs::Times::counted_text))]
+#[tactic(auto, unfolding(crate::specs::TimeFormatData::counted_text))]
 pub(crate) fn push_counted(at: u64, out: &mut String) -> Result<(), AllocError>
     ensures { OnOk result (string_bytes out.new ≡ string_bytes out.old ++ counted_text at) }
 {
@@ -85,7 +85,11 @@ pub(crate) fn push_number(number: u64, out: &mut String) -> Result<(), AllocErro
 }
 
 /// Adds a moment in its column.
-pub(crate) fn push_column<C: Clock>(clock: &C, at: u64, out: &mut String) -> Result<(), AllocError>
+pub(crate) fn push_column<C: TimeFormat>(
+    clock: &C,
+    at: u64,
+    out: &mut String,
+) -> Result<(), AllocError>
     ensures { OnOk result (string_bytes out.new ≡ string_bytes out.old ++ column (C.times clock.now) at) }
 {
     let start = out.len();

@@ -1,9 +1,9 @@
 //! Moments as dates with times of day, in UTC.
 ghost use Rattle.std.specs.Prelude.{◌≡◌, ◌+◌, ◌*◌, ◌^◌, ◌<◌, ◌≤◌, ◌++◌, ◌/◌, IfSome, OnOk, string_bytes};
-ghost use Rattle.am_timeline.specs.Dated.{day_after, day_at, day_text, days_in_month, four_digits, is_leap_year, next_day};
-ghost use Rattle.am_timeline.specs.Dated.{IsReadFrom, IsStartAt, behind_midnight, dated, instant_text, time_at};
+ghost use Rattle.am_timeline.specs.UtcDates.{day_after, day_at, day_text, days_in_month, four_digits, is_leap_year, next_day};
+ghost use Rattle.am_timeline.specs.UtcDates.{IsReadFrom, IsStartAt, behind_midnight, dated, instant_text, time_at};
 
-use crate::clock::{Clock, push_counted, push_three_digits, push_two_digits};
+use crate::clock::{TimeFormat, push_counted, push_three_digits, push_two_digits};
 use jiff::Timestamp;
 use jiff::civil::DateTime;
 use jiff::tz::Offset;
@@ -19,15 +19,15 @@ const LAST_YEAR: u64 = 9_999;
 /// Shows moments by their dates, as `2026-11-23T00:00:30Z` or `2026-11-23T00:00:30.345Z` (RFC 3339, in
 /// UTC).
 #[derive(Debug, Drop)]
-pub struct Dated {
+pub struct UtcDates {
     day: Day,
     /// How many milliseconds of that day are over at the start.
     milliseconds: u64,
 }
 
-impl Model for Dated {
+impl Model for UtcDates {
     ghost use Rattle.std.specs.Prelude.{◌<◌, ◌≤◌};
-    ghost use Rattle.am_timeline.specs.Dated.{StartData};
+    ghost use Rattle.am_timeline.specs.UtcDates.{StartData};
 
     ghost Value = { StartData };
 
@@ -45,25 +45,25 @@ struct Day {
 }
 
 impl Model for Day {
-    ghost use Rattle.am_timeline.specs.Dated.{DayData};
+    ghost use Rattle.am_timeline.specs.UtcDates.{DayData};
 
     ghost Value = { DayData };
 
     ghost view = { λ d. record { year = d.year; month = d.month; day = d.day } };
 }
 
-impl Dated {
+impl UtcDates {
     /// Reads when a rehearsal starts, as `2026-11-23T00:00:00Z` or `2026-11-23T01:00:00+01:00` (RFC 3339);
     /// what is less than a millisecond doesn't count. None where it isn't a moment of the years 0 to 9999
     /// of UTC.
-    pub fn read(text: &str) -> Option<Dated>
+    pub fn read(text: &str) -> Option<UtcDates>
         ensures { IfSome result (IsReadFrom text.now) }
     {
         let start = text.parse::<Timestamp>().ok()?;
-        Dated::from_utc(Offset::UTC.to_datetime(start))
+        UtcDates::from_utc(Offset::UTC.to_datetime(start))
     }
 
-    fn from_utc(start: DateTime) -> Option<Dated>
+    fn from_utc(start: DateTime) -> Option<UtcDates>
         ensures { IfSome result (IsStartAt start) }
     {
         let year = u64::try_from(start.year()).ok()?;
@@ -74,7 +74,7 @@ impl Dated {
             return None;
         }
         let day = Day { year, month, day };
-        Some(Dated { day, milliseconds })
+        Some(UtcDates { day, milliseconds })
     }
 
     /// The day of a moment.
@@ -174,7 +174,7 @@ fn is_leap_year(year: u64) -> bool
     year % 4 == 0 && (year % 100 != 0 || year % 400 == 0)
 }
 
-impl Clock for Dated {
+impl TimeFormat for UtcDates {
     ghost times = { dated };
 
     fn push_moment(&self, at: u64, out: &mut String) -> Result<(), AllocError> {
@@ -187,7 +187,7 @@ impl Clock for Dated {
     }
 }
 
-#[tactic(auto, unfolding(crate::specs::Dated::instant_text))]
+#[tactic(auto, unfolding(crate::specs::UtcDates::instant_text))]
 fn push_instant(day: &Day, time: u64, out: &mut String) -> Result<(), AllocError>
     ensures { OnOk result (string_bytes out.new ≡ string_bytes out.old ++ instant_text day.now time) }
 {
@@ -197,7 +197,7 @@ fn push_instant(day: &Day, time: u64, out: &mut String) -> Result<(), AllocError
     out.push_str("Z")
 }
 
-#[tactic(auto, unfolding(crate::specs::Dated::day_text))]
+#[tactic(auto, unfolding(crate::specs::UtcDates::day_text))]
 fn push_day(day: &Day, out: &mut String) -> Result<(), AllocError>
     ensures { OnOk result (string_bytes out.new ≡ string_bytes out.old ++ day_text day.now) }
 {

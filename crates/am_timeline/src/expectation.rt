@@ -2,12 +2,12 @@
 ghost use Rattle.std.specs.Prelude.{◌≡◌, ◌==◌, option_copied, true};
 ghost use Rattle.std.specs.List.{list_all, list_any};
 ghost use Rattle.std.specs.Option.{option_map_or};
-ghost use Rattle.am_timeline.specs.Expectation.{are_as_wanted, came_so, has_set, have_just, is_listed, is_meant, is_meant_by, is_met};
+ghost use Rattle.am_timeline.specs.Expectation.{are_as_wanted, is_satisfied, has_set, have_just, is_listed, is_in_scope, ends_in_scope, is_met};
 ghost use Rattle.am_timeline.specs.Expectation.{is_wanted, is_wanted_by};
 ghost use Rattle.am_timeline.specs.Table.{is_for};
 
+use crate::playback::Playback;
 use crate::sent::{Sent, sent_of};
-use crate::story::Story;
 use crate::table::is_for;
 use am_alerts::alert::Alert;
 use am_alerts::labels::Labels;
@@ -46,23 +46,23 @@ pub enum Wanted {
 
 impl Expectation {
     /// Whether it came so in a rehearsal.
-    pub fn is_met(&self, story: &Story) -> bool
-        ensures { result ≡ is_met story.now self.now }
+    pub fn is_met(&self, playback: &Playback) -> bool
+        ensures { result ≡ is_met playback.now self.now }
     {
         match &self.wanted {
-            Wanted::NoNotice => !self.has_meant(story),
+            Wanted::NoNotice => !self.has_in_scope(playback),
             Wanted::Notice { firing, resolved } => {
-                self.has_wanted(story, firing.as_ref(), resolved.as_ref())
+                self.has_wanted(playback, firing.as_ref(), resolved.as_ref())
             }
         }
     }
 
     /// Whether there is a notice that is meant.
-    pub(crate) fn has_meant(&self, story: &Story) -> bool
-        ensures { result ≡ list_any (is_meant_by story.now self.now) story.now.events }
+    pub(crate) fn has_in_scope(&self, playback: &Playback) -> bool
+        ensures { result ≡ list_any (ends_in_scope playback.now self.now) playback.now.events }
     {
-        for event in story.events {
-            if self.is_meant_by(story, event) {
+        for event in playback.events {
+            if self.ends_in_scope(playback, event) {
                 return true;
             }
         }
@@ -72,15 +72,15 @@ impl Expectation {
     /// Whether there is one that tells what is wanted.
     fn has_wanted(
         &self,
-        story: &Story,
+        playback: &Playback,
         firing: Option<&Sequence<Labels>>,
         resolved: Option<&Sequence<Labels>>,
     ) -> bool
-        ensures { result ≡ list_any (is_wanted_by story.now self.now
-            (option_copied firing.entry) (option_copied resolved.entry)) story.now.events }
+        ensures { result ≡ list_any (is_wanted_by playback.now self.now
+            (option_copied firing.entry) (option_copied resolved.entry)) playback.now.events }
     {
-        for event in story.events {
-            if self.is_wanted_by(story, firing, resolved, event) {
+        for event in playback.events {
+            if self.is_wanted_by(playback, firing, resolved, event) {
                 return true;
             }
         }
@@ -88,37 +88,37 @@ impl Expectation {
     }
 
     /// Whether the sending of a notice that is meant ended by this.
-    fn is_meant_by(&self, story: &Story, event: &Event) -> bool
-        ensures { result ≡ is_meant_by story.now self.now event.now }
+    fn ends_in_scope(&self, playback: &Playback, event: &Event) -> bool
+        ensures { result ≡ ends_in_scope playback.now self.now event.now }
     {
-        match sent_of(story, event) {
+        match sent_of(playback, event) {
             None => false,
-            Some(sent) => self.is_meant(story.config, &sent),
+            Some(sent) => self.is_in_scope(playback.config, &sent),
         }
     }
 
     /// Whether the sending of one that tells what is wanted did.
     fn is_wanted_by(
         &self,
-        story: &Story,
+        playback: &Playback,
         firing: Option<&Sequence<Labels>>,
         resolved: Option<&Sequence<Labels>>,
         event: &Event,
     ) -> bool
-        ensures { result ≡ is_wanted_by story.now self.now
+        ensures { result ≡ is_wanted_by playback.now self.now
             (option_copied firing.entry) (option_copied resolved.entry) event.now }
     {
-        match sent_of(story, event) {
+        match sent_of(playback, event) {
             None => false,
             Some(sent) => {
-                self.is_meant(story.config, &sent) && is_wanted(firing, resolved, &sent)
+                self.is_in_scope(playback.config, &sent) && is_wanted(firing, resolved, &sent)
             }
         }
     }
 
     /// Whether it speaks of a notice.
-    pub(crate) fn is_meant(&self, config: &Config, sent: &Sent) -> bool
-        ensures { result ≡ is_meant config.now self.now sent.now }
+    pub(crate) fn is_in_scope(&self, config: &Config, sent: &Sent) -> bool
+        ensures { result ≡ is_in_scope config.now self.now sent.now }
     {
         sent.is_delivered()
             && self.from <= sent.report.ended

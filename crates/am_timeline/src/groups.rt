@@ -1,7 +1,7 @@
 //! Groups, and whom they are for.
 ghost use Rattle.std.specs.Prelude.{◌≡◌, ◌++◌, OnOk, string_bytes};
 ghost use Rattle.am_model.specs.Config.{kind_at};
-ghost use Rattle.am_timeline.specs.Timeline.{group_shown, integration_shown, target_shown, way_shown};
+ghost use Rattle.am_timeline.specs.Timeline.{group_shown, integration_shown, target_shown, group_receiver_text};
 
 use crate::clock::push_number;
 use crate::shown::{push_set, push_text};
@@ -19,18 +19,18 @@ pub(crate) fn push_target(
     ensures { OnOk result (string_bytes out.new
         ≡ string_bytes out.old ++ target_shown config.now group.now position) }
 {
-    push_way(config, group, out)?;
+    push_group_receiver(config, group, out)?;
     out.push_str(" ")?;
     push_integration(config, group, position, out)
 }
 
 /// Adds a group and its receiver.
-pub(crate) fn push_way(
+pub(crate) fn push_group_receiver(
     config: &Config,
     group: &GroupName,
     out: &mut String,
 ) -> Result<(), AllocError>
-    ensures { OnOk result (string_bytes out.new ≡ string_bytes out.old ++ way_shown config.now group.now) }
+    ensures { OnOk result (string_bytes out.new ≡ string_bytes out.old ++ group_receiver_text config.now group.now) }
 {
     push_group(config, group, out)?;
     out.push_str(" -> ")?;

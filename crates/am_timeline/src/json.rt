@@ -2,15 +2,15 @@
 mod object;
 
 use crate::begun::{is_sent_nothing, nothing_left};
-use crate::clock::Clock;
+use crate::clock::TimeFormat;
 use crate::line::reason_words;
+use crate::playback::{Playback, notices_at};
 use crate::sent::{Sent, sent_of};
-use crate::story::{Story, notices_at};
 use am_board::config::Config;
 use am_board::notice::Notice;
-use am_board::outlook::Outlook;
+use am_board::preview::Preview;
 use am_board::reason::Reason;
-use am_rehearsal::event::{Event, ToldBegin};
+use am_rehearsal::event::{Event, PreviewedBegin};
 use am_retry::Outcome;
 use object::{Object, muted_list, sets_of};
 use std::alloc::{AllocError, Global};
@@ -23,34 +23,38 @@ use std::alloc::{AllocError, Global};
 /// `receiver`, `integration` (as `hook/0`), `outcome`, `attempts`, `since` (milliseconds), `reason`,
 /// `from` (milliseconds), `firing` and `resolved` (lists of label sets) and `muted` (a list of objects
 /// with `labels`, `cause`, and `until` or `by` and `rule`).
-pub fn json_text<C: Clock>(alloc: Global, story: &Story, clock: &C) -> Result<String, AllocError> {
+pub fn json_text<C: TimeFormat>(
+    alloc: Global,
+    playback: &Playback,
+    clock: &C,
+) -> Result<String, AllocError> {
     let mut out = String::new(alloc);
-    for event in story.events {
-        push_event(alloc, story, clock, event, &mut out)?;
+    for event in playback.events {
+        push_event(alloc, playback, clock, event, &mut out)?;
     }
     Ok(out)
 }
 
-fn push_event<C: Clock>(
+fn push_event<C: TimeFormat>(
     alloc: Global,
-    story: &Story,
+    playback: &Playback,
     clock: &C,
     event: &Event,
     out: &mut String,
 ) -> Result<(), AllocError> {
     match event {
-        Event::Begun { begin } => match story.begins.get(*begin) {
+        Event::Begun { begin } => match playback.begins.get(*begin) {
             None => Ok(()),
-            Some(begin) => push_begun(alloc, story, clock, begin, out),
+            Some(begin) => push_begun(alloc, playback, clock, begin, out),
         },
-        Event::Sent { .. } => match sent_of(story, event) {
+        Event::Sent { .. } => match sent_of(playback, event) {
             None => Ok(()),
-            Some(sent) => push_sent(alloc, story.config, clock, &sent, out),
+            Some(sent) => push_sent(alloc, playback.config, clock, &sent, out),
         },
     }
 }
 
-fn push_sent<C: Clock>(
+fn push_sent<C: TimeFormat>(
     alloc: Global,
     config: &Config,
     clock: &C,
@@ -64,7 +68,7 @@ fn push_sent<C: Clock>(
     object.push_line(out)
 }
 
-fn push_notice<C: Clock>(
+fn push_notice<C: TimeFormat>(
     alloc: Global,
     config: &Config,
     clock: &C,
@@ -72,7 +76,7 @@ fn push_notice<C: Clock>(
     out: &mut String,
 ) -> Result<(), AllocError> {
     let notice = sent.notice;
-    let reasons = sent.begin.outlook.reasons.as_slice();
+    let reasons = sent.begin.preview.reasons.as_slice();
     let Some(reason) = reasons.get(notice.integration as usize) else {
         return Ok(());
     };
@@ -84,7 +88,7 @@ fn push_notice<C: Clock>(
 }
 
 /// What is told of every notice whose sending came to its end.
-fn sent_object<C: Clock>(
+fn sent_object<C: TimeFormat>(
     alloc: Global,
     config: &Config,
     clock: &C,
@@ -97,7 +101,7 @@ fn sent_object<C: Clock>(
     object.put_integration(config, &notice.group, notice.integration as usize)?;
     object.put_text("outcome", outcome_word(sent.outcome))?;
     object.put_number("attempts", sent.report.attempts)?;
-    object.put_number("since", sent.begin.outlook.moment)?;
+    object.put_number("since", sent.begin.preview.moment)?;
     Ok(object)
 }
 
@@ -120,93 +124,93 @@ fn put_reason(reason: &Reason, object: &mut Object) -> Result<(), AllocError> {
     }
 }
 
-fn push_begun<C: Clock>(
+fn push_begun<C: TimeFormat>(
     alloc: Global,
-    story: &Story,
+    playback: &Playback,
     clock: &C,
-    begin: &ToldBegin,
+    begin: &PreviewedBegin,
     out: &mut String,
 ) -> Result<(), AllocError> {
-    let outlook = &begin.outlook;
-    if nothing_left(outlook.reasons.as_slice()) {
-        return push_left(alloc, story.config, clock, outlook, out);
+    let preview = &begin.preview;
+    if nothing_left(preview.reasons.as_slice()) {
+        return push_left(alloc, playback.config, clock, preview, out);
     }
-    push_muted(alloc, story.config, clock, outlook, out)?;
-    if outlook.reasons.len() == 0 {
-        return push_unasked(alloc, story.config, clock, outlook, out);
+    push_muted(alloc, playback.config, clock, preview, out)?;
+    if preview.reasons.len() == 0 {
+        return push_unasked(alloc, playback.config, clock, preview, out);
     }
-    let notices = notices_at(story.history, begin.place);
-    push_quiet_lines(alloc, story.config, clock, outlook, notices, out)
+    let notices = notices_at(playback.history, begin.place);
+    push_quiet_lines(alloc, playback.config, clock, preview, notices, out)
 }
 
-fn push_left<C: Clock>(
+fn push_left<C: TimeFormat>(
     alloc: Global,
     config: &Config,
     clock: &C,
-    outlook: &Outlook,
+    preview: &Preview,
     out: &mut String,
 ) -> Result<(), AllocError> {
-    let mut object = begun_object(alloc, config, clock, "quiet", outlook)?;
+    let mut object = begun_object(alloc, config, clock, "quiet", preview)?;
     object.put_text("reason", reason_words(&Reason::NothingLeft))?;
-    object.put("muted", muted_list(alloc, outlook.muted.as_slice())?)?;
+    object.put("muted", muted_list(alloc, preview.muted.as_slice())?)?;
     object.push_line(out)
 }
 
-fn push_muted<C: Clock>(
+fn push_muted<C: TimeFormat>(
     alloc: Global,
     config: &Config,
     clock: &C,
-    outlook: &Outlook,
+    preview: &Preview,
     out: &mut String,
 ) -> Result<(), AllocError> {
-    if outlook.muted.len() == 0 {
+    if preview.muted.len() == 0 {
         return Ok(());
     }
-    let mut object = begun_object(alloc, config, clock, "muted", outlook)?;
-    object.put("muted", muted_list(alloc, outlook.muted.as_slice())?)?;
+    let mut object = begun_object(alloc, config, clock, "muted", preview)?;
+    object.put("muted", muted_list(alloc, preview.muted.as_slice())?)?;
     object.push_line(out)
 }
 
-fn push_unasked<C: Clock>(
+fn push_unasked<C: TimeFormat>(
     alloc: Global,
     config: &Config,
     clock: &C,
-    outlook: &Outlook,
+    preview: &Preview,
     out: &mut String,
 ) -> Result<(), AllocError> {
-    let mut object = begun_object(alloc, config, clock, "quiet", outlook)?;
-    object.put_receiver(config, &outlook.group)?;
+    let mut object = begun_object(alloc, config, clock, "quiet", preview)?;
+    object.put_receiver(config, &preview.group)?;
     object.put_text("reason", "no integrations")?;
     object.push_line(out)
 }
 
-fn push_quiet_lines<C: Clock>(
+fn push_quiet_lines<C: TimeFormat>(
     alloc: Global,
     config: &Config,
     clock: &C,
-    outlook: &Outlook,
+    preview: &Preview,
     notices: &[Notice],
     out: &mut String,
 ) -> Result<(), AllocError> {
-    for (position, reason) in outlook.reasons.as_slice().iter().enumerate() {
+    for (position, reason) in preview.reasons.as_slice().iter().enumerate() {
         if !reason.asks() || is_sent_nothing(notices, position) {
-            push_quiet(alloc, config, clock, outlook, position, reason, out)?;
+            push_quiet(alloc, config, clock, preview, position, reason, out)?;
         }
     }
     Ok(())
 }
 
-fn push_quiet<C: Clock>(
+fn push_quiet<C: TimeFormat>(
     alloc: Global,
     config: &Config,
     clock: &C,
-    outlook: &Outlook,
+    preview: &Preview,
     position: usize,
     reason: &Reason,
     out: &mut String,
 ) -> Result<(), AllocError> {
-    let mut object = begun_object(alloc, config, clock, "quiet", outlook)?;
-    object.put_integration(config, &outlook.group, position)?;
+    let mut object = begun_object(alloc, config, clock, "quiet", preview)?;
+    object.put_integration(config, &preview.group, position)?;
     if reason.asks() {
         object.put_text("reason", "all resolved, which it isn't sent")?;
     } else {
@@ -215,12 +219,12 @@ fn push_quiet<C: Clock>(
     object.push_line(out)
 }
 
-fn begun_object<C: Clock>(
+fn begun_object<C: TimeFormat>(
     alloc: Global,
     config: &Config,
     clock: &C,
     event: &str,
-    outlook: &Outlook,
+    preview: &Preview,
 ) -> Result<Object, AllocError> {
-    Object::new(alloc, config, clock, event, outlook.moment, &outlook.group)
+    Object::new(alloc, config, clock, event, preview.moment, &preview.group)
 }

@@ -1,26 +1,26 @@
 //! The parts of lines.
 ghost use Rattle.std.specs.Prelude.{◌≡◌, ◌++◌, OnOk, string_bytes};
-ghost use Rattle.am_timeline.specs.Timeline.{attempts_text, front_text, reason_text, reason_words, repeat_text, retries_text};
+ghost use Rattle.am_timeline.specs.Timeline.{attempts_text, time_text, reason_text, reason_words, repeat_text, retries_text};
 
-use crate::clock::{Clock, push_column, push_number};
+use crate::clock::{TimeFormat, push_column, push_number};
 use am_board::reason::Reason;
 use std::alloc::AllocError;
 
 /// Adds the front of a line: a moment and a word.
-pub(crate) fn push_front<C: Clock>(
+pub(crate) fn push_time<C: TimeFormat>(
     clock: &C,
     at: u64,
     word: &str,
     out: &mut String,
 ) -> Result<(), AllocError>
     ensures { OnOk result (string_bytes out.new
-        ≡ string_bytes out.old ++ front_text (C.times clock.now) at word.now) }
+        ≡ string_bytes out.old ++ time_text (C.times clock.now) at word.now) }
 {
     push_column(clock, at, out)?;
     out.push_str(word)
 }
 
-pub(crate) fn push_retries<C: Clock>(
+pub(crate) fn push_retries<C: TimeFormat>(
     clock: &C,
     attempts: u64,
     since: u64,
@@ -35,7 +35,7 @@ pub(crate) fn push_retries<C: Clock>(
     push_attempts(clock, attempts, since, out)
 }
 
-pub(crate) fn push_attempts<C: Clock>(
+pub(crate) fn push_attempts<C: TimeFormat>(
     clock: &C,
     attempts: u64,
     since: u64,
@@ -55,7 +55,7 @@ pub(crate) fn push_attempts<C: Clock>(
     clock.push_moment(since, out)
 }
 
-pub(crate) fn push_reason<C: Clock>(
+pub(crate) fn push_reason<C: TimeFormat>(
     clock: &C,
     reason: &Reason,
     out: &mut String,
@@ -83,7 +83,11 @@ pub(crate) fn reason_words(reason: &Reason) -> &'static str
 }
 
 /// Adds from when on a notice is repeated that isn't yet.
-fn push_repeat<C: Clock>(clock: &C, reason: &Reason, out: &mut String) -> Result<(), AllocError>
+fn push_repeat<C: TimeFormat>(
+    clock: &C,
+    reason: &Reason,
+    out: &mut String,
+) -> Result<(), AllocError>
     ensures { OnOk result (string_bytes out.new
         ≡ string_bytes out.old ++ repeat_text (C.times clock.now) reason.now) }
 {

@@ -4,15 +4,15 @@ ghost use Rattle.std.specs.List.{flat_map};
 ghost use Rattle.am_timeline.specs.Timeline.{cause_shown, cause_text, cause_words, muted_alert_text, muted_text};
 ghost use Rattle.am_timeline.specs.Shown.{set_shown};
 
-use crate::clock::{Clock, push_number};
+use crate::clock::{TimeFormat, push_number};
 use crate::shown::push_set;
 use am_alerts::labels::Labels;
-use am_board::outlook::MutedAlert;
+use am_board::preview::MutedAlert;
 use am_mute::mute::MuteCause;
 use std::alloc::AllocError;
 
 /// Adds muted alerts, each with why it is.
-pub(crate) fn push_muted<C: Clock>(
+pub(crate) fn push_muted<C: TimeFormat>(
     clock: &C,
     muted: &[MutedAlert],
     out: &mut String,
@@ -28,7 +28,7 @@ pub(crate) fn push_muted<C: Clock>(
     }
 }
 
-fn push_more_muted<C: Clock>(
+fn push_more_muted<C: TimeFormat>(
     clock: &C,
     muted: &[MutedAlert],
     out: &mut String,
@@ -43,7 +43,7 @@ fn push_more_muted<C: Clock>(
     Ok(())
 }
 
-fn push_muted_alert<C: Clock>(
+fn push_muted_alert<C: TimeFormat>(
     clock: &C,
     alert: &MutedAlert,
     out: &mut String,
@@ -55,7 +55,11 @@ fn push_muted_alert<C: Clock>(
     push_cause(clock, &alert.cause, out)
 }
 
-fn push_cause<C: Clock>(clock: &C, cause: &MuteCause, out: &mut String) -> Result<(), AllocError>
+fn push_cause<C: TimeFormat>(
+    clock: &C,
+    cause: &MuteCause,
+    out: &mut String,
+) -> Result<(), AllocError>
     ensures { OnOk result (string_bytes out.new ≡ string_bytes out.old ++ cause_text (C.times clock.now) cause.now) }
 {
     out.push_str(cause_words(cause))?;
@@ -63,7 +67,11 @@ fn push_cause<C: Clock>(clock: &C, cause: &MuteCause, out: &mut String) -> Resul
 }
 
 /// Adds until when an alert is silenced, or on account of which alert it is inhibited.
-fn push_muting<C: Clock>(clock: &C, cause: &MuteCause, out: &mut String) -> Result<(), AllocError>
+fn push_muting<C: TimeFormat>(
+    clock: &C,
+    cause: &MuteCause,
+    out: &mut String,
+) -> Result<(), AllocError>
     ensures { OnOk result (string_bytes out.new ≡ string_bytes out.old ++ cause_shown (C.times clock.now) cause.now) }
 {
     match cause {

@@ -1,12 +1,12 @@
 //! The notices whose sending came to an end.
 ghost use Rattle.std.specs.Prelude.{◌≡◌};
-ghost use Rattle.am_timeline.specs.Story.{is_delivered, outcome_after, sent_by, sent_of};
+ghost use Rattle.am_timeline.specs.Playback.{is_delivered, outcome_after, sent_by, sent_of};
 
-use crate::story::{Story, later_than, notice_for, notices_at};
+use crate::playback::{Playback, later_than, notice_for, notices_at};
 use am_board::notice::{Notice, Report};
 use am_board::record::Record;
 use am_model::outcome::{outcome_of, outcomes_in};
-use am_rehearsal::event::{Event, ToldBegin};
+use am_rehearsal::event::{Event, PreviewedBegin};
 use am_retry::Outcome;
 use std::marker::Model;
 
@@ -14,7 +14,7 @@ use std::marker::Model;
 #[derive(Drop)]
 pub(crate) struct Sent<'s> {
     /// The begin of its flush.
-    pub(crate) begin: &'s ToldBegin,
+    pub(crate) begin: &'s PreviewedBegin,
     pub(crate) notice: &'s Notice,
     /// What it came to, as the finish of its flush says.
     pub(crate) outcome: Outcome,
@@ -22,7 +22,7 @@ pub(crate) struct Sent<'s> {
 }
 
 impl<'s> Model for Sent<'s> {
-    ghost use Rattle.am_timeline.specs.Story.{SentData};
+    ghost use Rattle.am_timeline.specs.Playback.{SentData};
 
     ghost Value = { SentData };
 
@@ -48,20 +48,20 @@ impl<'s> Sent<'s> {
 }
 
 /// The notice whose sending came to its end by this, if there is one.
-pub(crate) fn sent_of<'s>(story: &Story<'s>, event: &Event) -> Option<Sent<'s>>
-    ensures { result ≡ sent_of story.now event.now }
+pub(crate) fn sent_of<'s>(playback: &Playback<'s>, event: &Event) -> Option<Sent<'s>>
+    ensures { result ≡ sent_of playback.now event.now }
 {
     match event {
         Event::Begun { begin: _ } => None,
-        Event::Sent { begin, report } => match story.begins.get(*begin) {
+        Event::Sent { begin, report } => match playback.begins.get(*begin) {
             None => None,
-            Some(begin) => sent_by(story.history, *report, begin),
+            Some(begin) => sent_by(playback.history, *report, begin),
         },
     }
 }
 
 /// The notice of a begin that a report is on, if there is one.
-fn sent_by<'s>(history: &'s [Record], report: Report, begin: &'s ToldBegin) -> Option<Sent<'s>>
+fn sent_by<'s>(history: &'s [Record], report: Report, begin: &'s PreviewedBegin) -> Option<Sent<'s>>
     ensures { result ≡ sent_by history.now report begin.now }
 {
     let notice = notice_for(

@@ -4,67 +4,76 @@ ghost use Rattle.std.specs.List.{flat_map};
 ghost use Rattle.am_timeline.specs.Table.{count_text, counts_text, delivers, end_of, end_text, ends_text, fails, is_for, receiver_line};
 ghost use Rattle.am_timeline.specs.Table.{table_text};
 
-use crate::clock::{Clock, push_number};
+use crate::clock::{TimeFormat, push_number};
+use crate::playback::Playback;
 use crate::sent::{Sent, sent_of};
 use crate::shown::push_text;
-use crate::story::Story;
 use am_board::config::{Config, Receiver};
 use am_rehearsal::event::Event;
 use std::alloc::{AllocError, Global};
 
 /// An empty line, and a line for each receiver, in the configuration's order: how many notices it got,
 /// how many failed, and when it got the first and the last.
-pub fn table_text<C: Clock>(alloc: Global, story: &Story, clock: &C) -> Result<String, AllocError>
-    ensures { IfOk result (λ text. string_bytes text ≡ table_text story.now (C.times clock.now)) }
+pub fn table_text<C: TimeFormat>(
+    alloc: Global,
+    playback: &Playback,
+    clock: &C,
+) -> Result<String, AllocError>
+    ensures { IfOk result (λ text. string_bytes text ≡ table_text playback.now (C.times clock.now)) }
 {
     let mut out = String::new(alloc);
     out.push_str("\n")?;
-    push_receivers(story, clock, story.config.receivers.as_slice(), &mut out)?;
+    push_receivers(
+        playback,
+        clock,
+        playback.config.receivers.as_slice(),
+        &mut out,
+    )?;
     Ok(out)
 }
 
-fn push_receivers<C: Clock>(
-    story: &Story,
+fn push_receivers<C: TimeFormat>(
+    playback: &Playback,
     clock: &C,
     receivers: &[Receiver],
     out: &mut String,
 ) -> Result<(), AllocError>
     ensures { OnOk result (string_bytes out.new ≡ string_bytes out.old
-        ++ flat_map (receiver_line story.now (C.times clock.now)) receivers.now) }
+        ++ flat_map (receiver_line playback.now (C.times clock.now)) receivers.now) }
 {
     for receiver in receivers {
-        push_receiver(story, clock, receiver, out)?;
+        push_receiver(playback, clock, receiver, out)?;
     }
     Ok(())
 }
 
 #[tactic(auto, unfolding(crate::specs::Table::receiver_line))]
-fn push_receiver<C: Clock>(
-    story: &Story,
+fn push_receiver<C: TimeFormat>(
+    playback: &Playback,
     clock: &C,
     receiver: &Receiver,
     out: &mut String,
 ) -> Result<(), AllocError>
     ensures { OnOk result (string_bytes out.new ≡ string_bytes out.old
-        ++ receiver_line story.now (C.times clock.now) receiver.now) }
+        ++ receiver_line playback.now (C.times clock.now) receiver.now) }
 {
     let name = receiver.name.as_str();
     out.push_str("receiver ")?;
     push_text(name, out)?;
     out.push_str(": ")?;
-    push_counts(story, name, out)?;
-    push_ends(story, clock, name, out)?;
+    push_counts(playback, name, out)?;
+    push_ends(playback, clock, name, out)?;
     out.push_str("\n")
 }
 
 /// Adds how many notices a receiver got, and how many failed.
 #[tactic(auto, unfolding(crate::specs::Table::counts_text))]
-fn push_counts(story: &Story, name: &str, out: &mut String) -> Result<(), AllocError>
-    ensures { OnOk result (string_bytes out.new ≡ string_bytes out.old ++ counts_text story.now name.now) }
+fn push_counts(playback: &Playback, name: &str, out: &mut String) -> Result<(), AllocError>
+    ensures { OnOk result (string_bytes out.new ≡ string_bytes out.old ++ counts_text playback.now name.now) }
 {
-    push_count(count_delivered(story, name), " notice", out)?;
+    push_count(count_delivered(playback, name), " notice", out)?;
     out.push_str(", ")?;
-    push_count(count_failed(story, name), " failure", out)
+    push_count(count_failed(playback, name), " failure", out)
 }
 
 fn push_count(count: usize, word: &str, out: &mut String) -> Result<(), AllocError>
@@ -78,24 +87,24 @@ fn push_count(count: usize, word: &str, out: &mut String) -> Result<(), AllocErr
     Ok(())
 }
 
-fn count_delivered(story: &Story, name: &str) -> usize
-    ensures { result ≡ count_by (delivers story.now name.now) story.now.events }
+fn count_delivered(playback: &Playback, name: &str) -> usize
+    ensures { result ≡ count_by (delivers playback.now name.now) playback.now.events }
 {
     let mut count: usize = 0;
-    for event in story.events {
-        if delivers(story, name, event) {
+    for event in playback.events {
+        if delivers(playback, name, event) {
             count += 1;
         }
     }
     count
 }
 
-fn count_failed(story: &Story, name: &str) -> usize
-    ensures { result ≡ count_by (fails story.now name.now) story.now.events }
+fn count_failed(playback: &Playback, name: &str) -> usize
+    ensures { result ≡ count_by (fails playback.now name.now) playback.now.events }
 {
     let mut count: usize = 0;
-    for event in story.events {
-        if fails(story, name, event) {
+    for event in playback.events {
+        if fails(playback, name, event) {
             count += 1;
         }
     }
@@ -103,22 +112,22 @@ fn count_failed(story: &Story, name: &str) -> usize
 }
 
 /// Whether a notice for the receiver of this name was delivered by this.
-fn delivers(story: &Story, name: &str, event: &Event) -> bool
-    ensures { result ≡ delivers story.now name.now event.now }
+fn delivers(playback: &Playback, name: &str, event: &Event) -> bool
+    ensures { result ≡ delivers playback.now name.now event.now }
 {
-    match sent_of(story, event) {
+    match sent_of(playback, event) {
         None => false,
-        Some(sent) => is_for(story.config, name, &sent) && sent.is_delivered(),
+        Some(sent) => is_for(playback.config, name, &sent) && sent.is_delivered(),
     }
 }
 
 /// Whether the sending of a notice for the receiver of this name failed by this.
-fn fails(story: &Story, name: &str, event: &Event) -> bool
-    ensures { result ≡ fails story.now name.now event.now }
+fn fails(playback: &Playback, name: &str, event: &Event) -> bool
+    ensures { result ≡ fails playback.now name.now event.now }
 {
-    match sent_of(story, event) {
+    match sent_of(playback, event) {
         None => false,
-        Some(sent) => is_for(story.config, name, &sent) && !sent.is_delivered(),
+        Some(sent) => is_for(playback.config, name, &sent) && !sent.is_delivered(),
     }
 }
 
@@ -132,42 +141,46 @@ pub(crate) fn is_for(config: &Config, name: &str, sent: &Sent) -> bool
 
 /// Adds when a receiver got its first notice, and when its last.
 #[tactic(auto, unfolding(crate::specs::Table::ends_text))]
-fn push_ends<C: Clock>(
-    story: &Story,
+fn push_ends<C: TimeFormat>(
+    playback: &Playback,
     clock: &C,
     name: &str,
     out: &mut String,
 ) -> Result<(), AllocError>
     ensures { OnOk result (string_bytes out.new
-        ≡ string_bytes out.old ++ ends_text story.now (C.times clock.now) name.now) }
+        ≡ string_bytes out.old ++ ends_text playback.now (C.times clock.now) name.now) }
 {
     out.push_str(", first ")?;
-    push_end(clock, first_delivered(story, name), out)?;
+    push_end(clock, first_delivered(playback, name), out)?;
     out.push_str(", last ")?;
-    push_end(clock, last_delivered(story, name), out)
+    push_end(clock, last_delivered(playback, name), out)
 }
 
-fn first_delivered<'s>(story: &Story<'s>, name: &str) -> Option<&'s Event>
-    ensures { option_copied result ≡ find (delivers story.now name.now) story.now.events }
+fn first_delivered<'s>(playback: &Playback<'s>, name: &str) -> Option<&'s Event>
+    ensures { option_copied result ≡ find (delivers playback.now name.now) playback.now.events }
 {
-    story
+    playback
         .events
         .iter()
-        .find(|event| delivers(story, name, *event))
+        .find(|event| delivers(playback, name, *event))
 }
 
-fn last_delivered<'s>(story: &Story<'s>, name: &str) -> Option<&'s Event>
-    ensures { option_copied result ≡ find (delivers story.now name.now) (reverse story.now.events) }
+fn last_delivered<'s>(playback: &Playback<'s>, name: &str) -> Option<&'s Event>
+    ensures { option_copied result ≡ find (delivers playback.now name.now) (reverse playback.now.events) }
 {
-    story
+    playback
         .events
         .iter()
         .rev()
-        .find(|event| delivers(story, name, *event))
+        .find(|event| delivers(playback, name, *event))
 }
 
 /// Adds the moment of an event, `none` where there is none.
-fn push_end<C: Clock>(clock: &C, event: Option<&Event>, out: &mut String) -> Result<(), AllocError>
+fn push_end<C: TimeFormat>(
+    clock: &C,
+    event: Option<&Event>,
+    out: &mut String,
+) -> Result<(), AllocError>
     ensures { OnOk result (string_bytes out.new
         ≡ string_bytes out.old ++ end_text (C.times clock.now) (option_copied event.entry)) }
 {

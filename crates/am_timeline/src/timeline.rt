@@ -1,15 +1,15 @@
 //! What happened in a rehearsal, a line for each event.
 ghost use Rattle.std.specs.Prelude.{◌≡◌, ◌++◌, IfOk, OnOk, string_bytes};
 ghost use Rattle.am_timeline.specs.Timeline.{delivered_line, delivered_text, event_lines, failed_line, notice_line, sent_line};
-ghost use Rattle.am_timeline.specs.Timeline.{timeline_text, told_text};
+ghost use Rattle.am_timeline.specs.Timeline.{timeline_text, content_text};
 
 use crate::alerts::push_alerts;
 use crate::begun::push_begun;
-use crate::clock::Clock;
+use crate::clock::TimeFormat;
 use crate::groups::push_target;
-use crate::line::{push_attempts, push_front, push_reason, push_retries};
+use crate::line::{push_attempts, push_reason, push_retries, push_time};
+use crate::playback::Playback;
 use crate::sent::{Sent, sent_of};
-use crate::story::Story;
 use am_board::config::Config;
 use am_board::notice::Notice;
 use am_board::reason::Reason;
@@ -21,44 +21,44 @@ use std::alloc::{AllocError, Global};
 ///
 /// A notice has the reason that was told of its integration before its begin was made, and what it
 /// came to as the finish of its flush says.
-pub fn timeline_text<C: Clock>(
+pub fn timeline_text<C: TimeFormat>(
     alloc: Global,
-    story: &Story,
+    playback: &Playback,
     clock: &C,
 ) -> Result<String, AllocError>
-    ensures { IfOk result (λ text. string_bytes text ≡ timeline_text story.now (C.times clock.now)) }
+    ensures { IfOk result (λ text. string_bytes text ≡ timeline_text playback.now (C.times clock.now)) }
 {
     let mut out = String::new(alloc);
-    for event in story.events {
-        push_event(story, clock, event, &mut out)?;
+    for event in playback.events {
+        push_event(playback, clock, event, &mut out)?;
     }
     Ok(out)
 }
 
 /// Adds the lines on an event.
-fn push_event<C: Clock>(
-    story: &Story,
+fn push_event<C: TimeFormat>(
+    playback: &Playback,
     clock: &C,
     event: &Event,
     out: &mut String,
 ) -> Result<(), AllocError>
     ensures { OnOk result (string_bytes out.new
-        ≡ string_bytes out.old ++ event_lines story.now (C.times clock.now) event.now) }
+        ≡ string_bytes out.old ++ event_lines playback.now (C.times clock.now) event.now) }
 {
     match event {
-        Event::Begun { begin } => match story.begins.get(*begin) {
+        Event::Begun { begin } => match playback.begins.get(*begin) {
             None => Ok(()),
-            Some(begin) => push_begun(story, clock, begin, out),
+            Some(begin) => push_begun(playback, clock, begin, out),
         },
-        Event::Sent { .. } => match sent_of(story, event) {
+        Event::Sent { .. } => match sent_of(playback, event) {
             None => Ok(()),
-            Some(sent) => push_sent(story.config, clock, &sent, out),
+            Some(sent) => push_sent(playback.config, clock, &sent, out),
         },
     }
 }
 
 /// Adds the line on a notice whose sending came to its end.
-fn push_sent<C: Clock>(
+fn push_sent<C: TimeFormat>(
     config: &Config,
     clock: &C,
     sent: &Sent,
@@ -77,7 +77,7 @@ fn push_sent<C: Clock>(
 
 /// Adds the line on a notice that was delivered, with the reason that was told of its integration;
 /// nothing where none was.
-pub(crate) fn push_notice<C: Clock>(
+pub(crate) fn push_notice<C: TimeFormat>(
     config: &Config,
     clock: &C,
     sent: &Sent,
@@ -87,14 +87,14 @@ pub(crate) fn push_notice<C: Clock>(
         ≡ string_bytes out.old ++ notice_line config.now (C.times clock.now) sent.now) }
 {
     let notice = sent.notice;
-    let reasons = sent.begin.outlook.reasons.as_slice();
+    let reasons = sent.begin.preview.reasons.as_slice();
     match reasons.get(notice.integration as usize) {
         None => Ok(()),
         Some(reason) => push_delivered(config, clock, sent, reason, out),
     }
 }
 
-fn push_delivered<C: Clock>(
+fn push_delivered<C: TimeFormat>(
     config: &Config,
     clock: &C,
     sent: &Sent,
@@ -109,7 +109,7 @@ fn push_delivered<C: Clock>(
 }
 
 /// Adds that a notice was delivered.
-fn push_delivery<C: Clock>(
+fn push_delivery<C: TimeFormat>(
     config: &Config,
     clock: &C,
     sent: &Sent,
@@ -119,21 +119,21 @@ fn push_delivery<C: Clock>(
         ≡ string_bytes out.old ++ delivered_text config.now (C.times clock.now) sent.now) }
 {
     let notice = sent.notice;
-    push_front(clock, sent.report.ended, "notice  ", out)?;
+    push_time(clock, sent.report.ended, "notice  ", out)?;
     push_target(config, &notice.group, notice.integration as usize, out)?;
     out.push_str(" delivered")?;
-    push_retries(clock, sent.report.attempts, sent.begin.outlook.moment, out)
+    push_retries(clock, sent.report.attempts, sent.begin.preview.moment, out)
 }
 
 /// Adds why a notice was sent, and what it told.
-fn push_told<C: Clock>(
+fn push_told<C: TimeFormat>(
     clock: &C,
     reason: &Reason,
     notice: &Notice,
     out: &mut String,
 ) -> Result<(), AllocError>
     ensures { OnOk result (string_bytes out.new
-        ≡ string_bytes out.old ++ told_text (C.times clock.now) reason.now notice.now) }
+        ≡ string_bytes out.old ++ content_text (C.times clock.now) reason.now notice.now) }
 {
     out.push_str(": ")?;
     push_reason(clock, reason, out)?;
@@ -142,7 +142,7 @@ fn push_told<C: Clock>(
     out.push_str("\n")
 }
 
-fn push_failed<C: Clock>(
+fn push_failed<C: TimeFormat>(
     config: &Config,
     clock: &C,
     sent: &Sent,
@@ -153,9 +153,9 @@ fn push_failed<C: Clock>(
         ≡ string_bytes out.old ++ failed_line config.now (C.times clock.now) sent.now word.now) }
 {
     let notice = sent.notice;
-    push_front(clock, sent.report.ended, "failed  ", out)?;
+    push_time(clock, sent.report.ended, "failed  ", out)?;
     push_target(config, &notice.group, notice.integration as usize, out)?;
     out.push_str(word)?;
-    push_attempts(clock, sent.report.attempts, sent.begin.outlook.moment, out)?;
+    push_attempts(clock, sent.report.attempts, sent.begin.preview.moment, out)?;
     out.push_str("\n")
 }

@@ -7,9 +7,9 @@ use Rattle.am_alerts.specs.declared.limits.TheConstants.{MAX_CHILDREN, MAX_MATCH
 use Rattle.am_alerts.specs.declared.route.Child.{Child}
 use Rattle.am_alerts.specs.declared.route.Route.{Route}
 use Rattle.am_alerts.specs.declared.matcher.MatcherParts.{MatcherParts}
-use Rattle.am_tree.specs.Flat.{cause_where, causes, refusals_from, laid, entry, held_after}
-use Rattle.am_tree.specs.Forest.{Forest, bare, grow, settled, routes_below}
-use Rattle.am_tree.specs.Open.{goes_past, is_needed, is_opened}
+use Rattle.am_tree.specs.Flat.{cause_where, causes, refusals_from, flattened, entry, held_after}
+use Rattle.am_tree.specs.RouteForest.{RouteForest, no_routes, route_then, with_inherited, routes_below}
+use Rattle.am_tree.specs.FallThrough.{continues_past, must_be_excluded, may_fall_through}
 use Rattle.am_tree.specs.declared.flat.Entry.{Entry}
 use Rattle.am_tree.specs.declared.tree.Cause.{Cause}
 use Rattle.am_tree.specs.declared.tree.Refusal.{Refusal}
@@ -33,7 +33,7 @@ no_cause true number cause e = absurd (cons-none _ [] e)
 no_cause false number cause e = refl
 
 -- an entry that is refused for nothing
-no_causes : (number : ℕ) (e : Entry) → causes number e ≡ [] → (nat_eq number (MAX_CHILDREN + 1) ≡ false) × (e.unsaid ≡ false) × (nat_lt MAX_MATCHERS (length e.child.matchers) ≡ false)
+no_causes : (number : ℕ) (e : Entry) → causes number e ≡ [] → (nat_eq number (MAX_CHILDREN + 1) ≡ false) × (e.not_excludable ≡ false) × (nat_lt MAX_MATCHERS (length e.child.matchers) ≡ false)
 no_causes number e none =
     let first = none-left _ _ none in
     (no_cause _ number _ (none-left _ _ first), no_cause _ number _ (none-right _ _ first), no_cause _ number _ (none-right _ _ none))
@@ -62,11 +62,11 @@ routes-split : (es : List Entry) (e : Entry) (fs : List Entry) → map (λ c. c.
 routes-split [] e fs = refl
 routes-split (x ∷ es) e fs = ap (λ rs. x.child.route ∷ rs) (routes-split es e fs)
 
-pub told : (f : Forest) (lower past_above : Bool) (held : List MatcherParts) (above : Route) → map (λ c. c.route) (children (laid lower past_above held above f)) ≡ routes_below above f
-told bare lower past_above held above = refl
-told (grow r below after) lower past_above held above =
-    let past = goes_past past_above r in
-    let opened = is_opened past_above r below in
-    routes-split (laid true past (held ++ r.matchers) (settled above r) below) (entry past (is_needed lower opened r after) held above r below) (laid lower past_above (held_after opened held r) above after)
-    ∙ ap (λ rs. rs ++ settled above r ∷ map (λ c. c.route) (children (laid lower past_above (held_after opened held r) above after))) (told below true past (held ++ r.matchers) (settled above r))
-    ∙ ap (λ rs. routes_below (settled above r) below ++ settled above r ∷ rs) (told after lower past_above (held_after opened held r) above)
+pub told : (f : RouteForest) (lower past_above : Bool) (held : List MatcherParts) (above : Route) → map (λ c. c.route) (children (flattened lower past_above held above f)) ≡ routes_below above f
+told no_routes lower past_above held above = refl
+told (route_then r below after) lower past_above held above =
+    let past = continues_past past_above r in
+    let opened = may_fall_through past_above r below in
+    routes-split (flattened true past (held ++ r.matchers) (with_inherited above r) below) (entry past (must_be_excluded lower opened r after) held above r below) (flattened lower past_above (held_after opened held r) above after)
+    ∙ ap (λ rs. rs ++ with_inherited above r ∷ map (λ c. c.route) (children (flattened lower past_above (held_after opened held r) above after))) (told below true past (held ++ r.matchers) (with_inherited above r))
+    ∙ ap (λ rs. routes_below (with_inherited above r) below ++ with_inherited above r ∷ rs) (told after lower past_above (held_after opened held r) above)

@@ -3,7 +3,7 @@ use Rattle.std.proofs.Common.{◌≡◌, ℕ, Bool, true, false, not, ◌&&◌, 
 use Rattle.std.specs.Prelude.{if◌then◌else◌}
 use Rattle.std.proofs.lemmas.Bool.{false≢true}
 use Rattle.std.proofs.lemmas.List.{append_assoc, append-nil}
-use Rattle.am_tree.specs.Forest.{or_self}
+use Rattle.am_tree.specs.RouteForest.{or_self}
 use Rattle.am_tree.proofs.Negations.{is_empty}
 
 -- held: the matchers above match; matched: the route's own do; on: it has `continue`; found: what is found below it; later: what is found

@@ -6,43 +6,43 @@ use Rattle.am_alerts.specs.declared.limits.TheConstants.{MAX_CHILDREN, MAX_MATCH
 use Rattle.am_alerts.specs.declared.matcher.MatcherParts.{MatcherParts}
 use Rattle.am_alerts.specs.declared.route.Child.{Child}
 use Rattle.am_alerts.specs.declared.route.Route.{Route}
-use Rattle.am_tree.specs.Flat.{children_of_tree, flat_of, refusals_of_tree}
-use Rattle.am_tree.specs.Forest.{Forest, bare, grow, count, forest, routes_in_tree, routes_of_tree, rule_of, settled}
-use Rattle.am_tree.specs.Negation.{lone}
-use Rattle.am_tree.specs.Open.{are_closed, goes_past, is_grown, is_opened}
+use Rattle.am_tree.specs.Flat.{children_of_tree, flat_tree_of, refusals_of_tree}
+use Rattle.am_tree.specs.RouteForest.{RouteForest, no_routes, route_then, count, forest, routes_in_tree, routes_of_tree, rule_of, with_inherited}
+use Rattle.am_tree.specs.Negation.{sole_matcher}
+use Rattle.am_tree.specs.FallThrough.{have_no_continue, continues_past, is_grown, may_fall_through}
 use Rattle.am_tree.specs.declared.tree.Cause.TheVariants.{Continue}
 use Rattle.am_tree.specs.declared.tree.Node.TheViews.{out-Node}
-use Rattle.am_tree.specs.declared.tree.Rule.{Rule}
+use Rattle.am_tree.specs.declared.tree.RouteSpec.{RouteSpec}
 use Rattle.am_tree.specs.declared.tree.Tree.{Tree}
 
 -- whether `continue` stands at most on the first routes of a forest, and of these on such as have no routes below them
-abbrev pub continues_on_top : Forest → Bool
-continues_on_top bare = true
-continues_on_top (grow r below after) =
-    (if r.goes_on then not (is_grown below) else are_closed below) && continues_on_top after
+abbrev pub continues_on_top : RouteForest → Bool
+continues_on_top no_routes = true
+continues_on_top (route_then r below after) =
+    (if r.goes_on then not (is_grown below) else have_no_continue below) && continues_on_top after
 
 -- whether each route of a forest, at any depth, has exactly one matcher
-abbrev pub have_one_matcher : Forest → Bool
-have_one_matcher bare = true
-have_one_matcher (grow r below after) = is_some (lone r.matchers) && have_one_matcher below && have_one_matcher after
+abbrev pub have_one_matcher : RouteForest → Bool
+have_one_matcher no_routes = true
+have_one_matcher (route_then r below after) = is_some (sole_matcher r.matchers) && have_one_matcher below && have_one_matcher after
 
 -- whether each open route of a forest, at any depth, has exactly one matcher
-abbrev pub open_have_one_matcher : Bool → Forest → Bool
-open_have_one_matcher past_above bare = true
-open_have_one_matcher past_above (grow r below after) =
-    (not (is_opened past_above r below) || is_some (lone r.matchers))
-    && open_have_one_matcher (goes_past past_above r) below
+abbrev pub open_have_one_matcher : Bool → RouteForest → Bool
+open_have_one_matcher past_above no_routes = true
+open_have_one_matcher past_above (route_then r below after) =
+    (not (may_fall_through past_above r below) || is_some (sole_matcher r.matchers))
+    && open_have_one_matcher (continues_past past_above r) below
     && open_have_one_matcher past_above after
 
 -- a route as a child that leaves out nothing: it asks for the matchers above it and its own
-abbrev pub plain_child : List MatcherParts → Route → Rule → Child
-plain_child held above r = record { route = settled above r; matchers = held ++ r.matchers; goes_on = r.goes_on }
+abbrev pub plain_child : List MatcherParts → Route → RouteSpec → Child
+plain_child held above r = record { route = with_inherited above r; matchers = held ++ r.matchers; goes_on = r.goes_on }
 
 -- the routes of a forest as such children, in the order of their numbers
-abbrev pub plain_children : List MatcherParts → Route → Forest → List Child
-plain_children held above bare = []
-plain_children held above (grow r below after) =
-    plain_children (held ++ r.matchers) (settled above r) below
+abbrev pub plain_children : List MatcherParts → Route → RouteForest → List Child
+plain_children held above no_routes = []
+plain_children held above (route_then r below after) =
+    plain_children (held ++ r.matchers) (with_inherited above r) below
     ++ plain_child held above r ∷ plain_children held above after
 
 -- all routes of a tree as such children
@@ -55,7 +55,7 @@ WhereUnrefused Holds = (tree : Tree) → refusals_of_tree tree ≡ [] → Holds 
 
 -- this holds of each tree no route of which has `continue`, at any depth
 abbrev pub WithoutContinue : (Tree → Type 0) → Type 0
-WithoutContinue Holds = (tree : Tree) → are_closed (forest tree.routes.items) ≡ true → Holds tree
+WithoutContinue Holds = (tree : Tree) → have_no_continue (forest tree.routes.items) ≡ true → Holds tree
 
 -- this holds of each tree with `continue` at most on routes right below the root, and of these on such as have none below them
 abbrev pub WithContinueOnTop : (Tree → Type 0) → Type 0
@@ -74,12 +74,12 @@ abbrev pub WithOneMatcherWhereOpen : (Tree → Type 0) → Type 0
 WithOneMatcherWhereOpen Holds = (tree : Tree) → open_have_one_matcher false (forest tree.routes.items) ≡ true → Holds tree
 
 -- the flat routes of each label set are the tree's
-abbrev pub FindsTheSame : Tree → Type 0
-FindsTheSame tree = (labels : List Label) → routes_of (flat_of tree) labels ≡ routes_of_tree tree labels
+abbrev pub MatchesSameRoutes : Tree → Type 0
+MatchesSameRoutes tree = (labels : List Label) → routes_of (flat_tree_of tree) labels ≡ routes_of_tree tree labels
 
 -- the flat routes are those of the tree, with their options
-abbrev pub SaysTheSame : Tree → Type 0
-SaysTheSame tree = routes_in (flat_of tree) ≡ routes_in_tree tree
+abbrev pub HasSameOptions : Tree → Type 0
+HasSameOptions tree = routes_in (flat_tree_of tree) ≡ routes_in_tree tree
 
 -- there is room for the flat routes, and for the matchers of each
 abbrev pub HasRoom : Tree → Type 0

@@ -1,5 +1,5 @@
 pub mod Flat
-pub mod Forest
+pub mod RouteForest
 pub mod Laws
 pub mod Negation
-pub mod Open
+pub mod FallThrough

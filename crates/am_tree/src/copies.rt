@@ -1,8 +1,8 @@
 //! Copies of what routes are made of.
 ghost use Rattle.std.specs.Prelude.{◌≡◌, ◌++◌, IfOk};
-ghost use Rattle.am_tree.specs.Forest.{settled};
+ghost use Rattle.am_tree.specs.RouteForest.{with_inherited};
 
-use crate::tree::Rule;
+use crate::tree::RouteSpec;
 use am_alerts::matcher::{Matcher, MatcherParts};
 use am_alerts::route::{GroupBy, Route};
 use std::alloc::{AllocError, Global};
@@ -45,8 +45,12 @@ fn copy_group_by(alloc: Global, group_by: &GroupBy) -> Result<GroupBy, AllocErro
 }
 
 /// The route of a rule below a route that says everything.
-pub(crate) fn settled(alloc: Global, above: &Route, rule: &Rule) -> Result<Route, AllocError>
-    ensures { IfOk result (λ route. route ≡ settled above.now rule.now) }
+pub(crate) fn with_inherited(
+    alloc: Global,
+    above: &Route,
+    rule: &RouteSpec,
+) -> Result<Route, AllocError>
+    ensures { IfOk result (λ route. route ≡ with_inherited above.now rule.now) }
 {
     let options = &rule.options;
     let receiver = options.receiver.as_ref().unwrap_or(&above.receiver);

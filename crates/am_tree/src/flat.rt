@@ -1,12 +1,12 @@
 //! How a tree of routes is laid flat.
 ghost use Rattle.std.specs.Prelude.{◌≡◌, ◌++◌, IfOk};
-ghost use Rattle.am_tree.specs.Flat.{laid, laid_route};
-ghost use Rattle.am_tree.specs.Forest.{below_of, forest, rule_of};
+ghost use Rattle.am_tree.specs.Flat.{flattened, flattened_route};
+ghost use Rattle.am_tree.specs.RouteForest.{below_of, forest, rule_of};
 
-use crate::copies::{push_copies, push_parts, settled};
+use crate::copies::{push_copies, push_parts, with_inherited};
 use crate::draft::Draft;
-use crate::negation::{lone, push_negation, push_negations};
-use crate::open::is_opened;
+use crate::negation::{push_negation, push_negations, sole_matcher};
+use crate::open::may_fall_through;
 use crate::tree::Node;
 use am_alerts::matcher::MatcherParts;
 use am_alerts::route::Route;
@@ -18,7 +18,7 @@ pub(crate) struct Entry {
     pub(crate) child: Draft,
     /// Whether another route has to leave out what this one matches, and no list of matchers says
     /// that.
-    pub(crate) unsaid: bool,
+    pub(crate) not_excludable: bool,
 }
 
 /// Lays these routes at the end of a list, below a route that says everything, for the label sets
@@ -36,12 +36,12 @@ pub(crate) fn lay(
     nodes: &[Node],
 ) -> Result<(), AllocError>
     ensures { IfOk result (λ _. list.new.items
-        ≡ list.old.items ++ laid lower past_above held.now above.now (forest nodes.now)) }
+        ≡ list.old.items ++ flattened lower past_above held.now above.now (forest nodes.now)) }
 {
     let mut prefix = Vec::new(alloc);
     push_copies(alloc, &mut prefix, held)?;
     for (i, node) in nodes.iter().enumerate() {
-        let opened = is_opened(past_above, node);
+        let opened = may_fall_through(past_above, node);
         let ends = opened && !node.rule.goes_on;
         let needed = if lower {
             opened
@@ -70,9 +70,9 @@ fn lay_node(
     node: &Node,
 ) -> Result<(), AllocError>
     ensures { IfOk result (λ _. list.new.items ≡ list.old.items
-        ++ laid_route past needed prefix.now above.now (rule_of node.now) (below_of node.now)) }
+        ++ flattened_route past needed prefix.now above.now (rule_of node.now) (below_of node.now)) }
 {
-    let route = settled(alloc, above, &node.rule)?;
+    let route = with_inherited(alloc, above, &node.rule)?;
     let mut held = Vec::new(alloc);
     push_copies(alloc, &mut held, prefix)?;
     push_parts(alloc, &mut held, node.rule.matchers.as_slice())?;
@@ -80,7 +80,10 @@ fn lay_node(
     lay(alloc, list, &route, held.as_slice(), true, past, nodes)?;
     push_negations(alloc, &mut held, past, nodes)?;
     let child = Draft::new(route, held, past);
-    let unsaid = needed && lone(node.rule.matchers.as_slice()).is_none();
-    list.push(Entry { child, unsaid })?;
+    let not_excludable = needed && sole_matcher(node.rule.matchers.as_slice()).is_none();
+    list.push(Entry {
+        child,
+        not_excludable,
+    })?;
     Ok(())
 }

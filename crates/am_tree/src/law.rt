@@ -1,5 +1,5 @@
 //! Laws of what is laid flat, and of trees no route of which has to leave out what another matches.
-ghost use Rattle.am_tree.specs.Laws.{WhereUnrefused, FindsTheSame, SaysTheSame, HasRoom};
+ghost use Rattle.am_tree.specs.Laws.{WhereUnrefused, MatchesSameRoutes, HasSameOptions, HasRoom};
 ghost use Rattle.am_tree.specs.Laws.{WithoutContinue, WithContinueOnTop};
 ghost use Rattle.am_tree.specs.Laws.{WithOneMatcherEach, WithOneMatcherWhereOpen};
 ghost use Rattle.am_tree.specs.Laws.{IsNeverRefusedForContinue, IsLaidPlain, NeedsOnlyRoom};
@@ -9,8 +9,8 @@ ghost use Rattle.am_tree.specs.Laws.{OfOneLevel, IsItsOwnList, NeedsOnlyItsOwnRo
 /// finds, its routes are the tree's, each with the options of the nearest route that says them, and
 /// they are within the limits. So a tree that has no such list is refused.
 pub fn unrefused_trees_are_found_flat()
-    ensures finds { WhereUnrefused FindsTheSame }
-    ensures says { WhereUnrefused SaysTheSame }
+    ensures finds { WhereUnrefused MatchesSameRoutes }
+    ensures says { WhereUnrefused HasSameOptions }
     ensures room { WhereUnrefused HasRoom }
 {}
 

@@ -1,9 +1,9 @@
 //! Matchers that leave out what others match.
 ghost use Rattle.std.specs.Prelude.{◌≡◌, ◌++◌, IfOk, option_copied};
-ghost use Rattle.am_tree.specs.Forest.{forest};
-ghost use Rattle.am_tree.specs.Negation.{NegatedIsExact, lone, negated, negation, negations, opposite};
+ghost use Rattle.am_tree.specs.RouteForest.{forest};
+ghost use Rattle.am_tree.specs.Negation.{NegatedIsExact, sole_matcher, negated, negation, negations, opposite};
 
-use crate::open::is_opened;
+use crate::open::may_fall_through;
 use crate::tree::Node;
 use am_alerts::matcher::{Matcher, MatcherParts, Operator};
 use std::alloc::{AllocError, Global};
@@ -25,7 +25,7 @@ pub(crate) fn push_negations(
         (λ _. list.new.items ≡ list.old.items ++ negations past_above (forest nodes.now)) }
 {
     for node in nodes {
-        if is_opened(past_above, node) {
+        if may_fall_through(past_above, node) {
             push_negation(alloc, list, node.rule.matchers.as_slice())?;
         }
     }
@@ -41,15 +41,15 @@ pub(crate) fn push_negation(
     ensures { IfOk result
         (λ _. list.new.items ≡ list.old.items ++ negation matchers.now) }
 {
-    if let Some(matcher) = lone(matchers) {
+    if let Some(matcher) = sole_matcher(matchers) {
         list.push(negated(alloc, matcher)?)?;
     }
     Ok(())
 }
 
 /// The matcher that is alone in its list.
-pub(crate) fn lone(matchers: &[Matcher]) -> Option<&Matcher>
-    ensures { option_copied result ≡ lone matchers.now }
+pub(crate) fn sole_matcher(matchers: &[Matcher]) -> Option<&Matcher>
+    ensures { option_copied result ≡ sole_matcher matchers.now }
 {
     match matchers {
         [matcher] => Some(matcher),

@@ -30,7 +30,7 @@ fn push_causes(refusals: &mut Vec<Refusal>, route: usize, entry: &Entry) -> Resu
         route,
         Cause::TooManyRoutes,
     )?;
-    push_if(refusals, entry.unsaid, route, Cause::Continue)?;
+    push_if(refusals, entry.not_excludable, route, Cause::Continue)?;
     let crowded = entry.child.matcher_count() > MAX_MATCHERS;
     push_if(refusals, crowded, route, Cause::TooManyMatchers)
 }

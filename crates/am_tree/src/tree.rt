@@ -2,8 +2,8 @@
 ghost use Rattle.std.specs.Prelude.{◌≡◌, ◌⊎◌, ◌<◌, ◌≤◌, All, IfErr, IfOk, List, [], Some, length, map};
 ghost use Rattle.am_alerts.specs.RoutingTree.{matching_from, route_fault, routes_in, routes_of};
 ghost use Rattle.am_alerts.specs.declared.labels.Label.{Label};
-ghost use Rattle.am_tree.specs.Flat.{children_of_tree, flat_of, refusals_of_tree};
-ghost use Rattle.am_tree.specs.Forest.{forest, matching, routes_below, routes_in_tree, routes_of_tree};
+ghost use Rattle.am_tree.specs.Flat.{children_of_tree, flat_tree_of, refusals_of_tree};
+ghost use Rattle.am_tree.specs.RouteForest.{forest, matching, routes_below, routes_in_tree, routes_of_tree};
 
 use crate::flat::{Entry, lay};
 use crate::refusals::refusals_of;
@@ -28,7 +28,7 @@ pub struct Options {
 
 /// A route below the root, but for the routes below it.
 #[derive(Debug, Drop)]
-pub struct Rule {
+pub struct RouteSpec {
     pub name: Text,
     pub options: Options,
     pub matchers: Sequence<Matcher>,
@@ -39,7 +39,7 @@ pub struct Rule {
 /// A route below the root, with the routes right below it in their order.
 #[derive(Drop)]
 pub struct Node {
-    pub rule: Rule,
+    pub rule: RouteSpec,
     pub routes: Vec<Node>,
 }
 
@@ -99,7 +99,7 @@ impl Tree {
     /// 1 on, is the tree's route n. `Refused`: some routes can't be laid flat, all of which are told
     /// in the order of their numbers, with the causes of one in the order of `Cause`. `NoMemory`:
     /// out of memory, also to build a pattern a second time.
-    pub fn lay_flat(&self, alloc: Global) -> Result<Vec<Child>, FlatFault>
+    pub fn flatten(&self, alloc: Global) -> Result<Vec<Child>, FlatFault>
         ensures value { IfOk result (λ children. children.items ≡ children_of_tree self.now) }
         ensures same { IfOk result (λ children. (labels : List Label) →
             matching_from 1 children.items labels
@@ -131,10 +131,10 @@ impl Tree {
         Ok(children_of(alloc, entries)?)
     }
 
-    /// The routes of this tree as a root and its children. Refused as `lay_flat` does, and then
+    /// The routes of this tree as a root and its children. Refused as `flatten` does, and then
     /// `Unfit`, as `Routes::new` does.
     pub fn into_routes(self, alloc: Global) -> Result<Routes, FlatFault>
-        ensures value { IfOk result (λ routes. routes ≡ flat_of self) }
+        ensures value { IfOk result (λ routes. routes ≡ flat_tree_of self) }
         ensures same { IfOk result (λ routes. (labels : List Label) →
             routes_of routes labels ≡ routes_of_tree self labels) }
         ensures told { IfOk result (λ routes. routes_in routes ≡ routes_in_tree self) }
@@ -142,9 +142,9 @@ impl Tree {
             ⊎ ((fault ≡ FlatFault.Refused (refusals_of_tree self))
             × (0 < length (refusals_of_tree self)))
             ⊎ ((cause : RouteFault) × (fault ≡ FlatFault.Unfit cause)
-            × (route_fault (flat_of self) ≡ Some cause))) }
+            × (route_fault (flat_tree_of self) ≡ Some cause))) }
     {
-        let children = self.lay_flat(alloc)?;
+        let children = self.flatten(alloc)?;
         match Routes::new(self.root, children) {
             Ok(routes) => Ok(routes),
             Err(cause) => Err(FlatFault::Unfit(cause)),

@@ -19,17 +19,17 @@ use Rattle.am_model.specs.Begin.{asked_of, taken}
 use Rattle.am_model.specs.Causes.{is_full, asks_some, opens_by, begin_cause}
 use Rattle.am_model.specs.Records.{entry}
 use Rattle.am_board.specs.History.{reply_of, IsFresh}
-use Rattle.am_board.specs.Kept.{state_of, group_state, flush_state}
+use Rattle.am_board.specs.Refinement.{state_of, group_state, flush_state}
 use Rattle.am_board.specs.Beginning.{IsPlan, first_of, IsChosen, IsEnd}
 use Rattle.am_model.specs.State.{moment}
-use Rattle.am_board.specs.Step.{Accepts, Stays, IsAnswer}
+use Rattle.am_board.specs.Step.{AppliesCall, LeavesUnchanged, IsAnswer}
 
 -- what a begin is to answer where this is the first cause other than memory
 abbrev pub IsTold : Config → ℕ → ℕ → ℕ → kept.State → kept.State → Option Fault → Result Begun Fault → Type 0
 IsTold config id pass now old new cause result =
     MatchResult result
-    (λ begun. (cause ≡ None) × Accepts config id (entry pass (Begin now) (reply_of begun)) old new × IsFresh id begun)
-    (λ fault. IsAnswer cause fault × Stays config old new)
+    (λ begun. (cause ≡ None) × AppliesCall config id (entry pass (Begin now) (reply_of begun)) old new × IsFresh id begun)
+    (λ fault. IsAnswer cause fault × LeavesUnchanged config old new)
 
 -- only memory can be wanting
 pub told : (config : Config) (id pass now : ℕ) (old new : kept.State) (cause : Option Fault) (result : Result Begun Fault) → cause ≡ None

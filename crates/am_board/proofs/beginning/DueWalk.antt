@@ -15,7 +15,7 @@ use Rattle.am_model.specs.State.{FlushState, GroupState, is_flushing}
 use Rattle.am_model.proofs.lists.Distinct.{all_to}
 use Rattle.am_board.specs.Beginning.{may_take, first_of}
 use Rattle.am_board.specs.Due.{has_key, key_cmp, key_of, IsCurrent, IsFree}
-use Rattle.am_board.specs.Kept.{group_state}
+use Rattle.am_board.specs.Refinement.{group_state}
 use Rattle.am_board.specs.declared.due.DueKey.{DueKey}
 use Rattle.am_board.specs.declared.group.Group.{Group}
 use Rattle.am_board.proofs.keeping.DueKeys.{key_cmp_total, key-is}

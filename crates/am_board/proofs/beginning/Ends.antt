@@ -24,13 +24,13 @@ use Rattle.am_model.specs.Configured.{route_of}
 use Rattle.am_board.specs.Group.{names_of, AreRouted}
 use Rattle.am_model.specs.Records.{entry}
 use Rattle.am_model.specs.Insert.{same_group}
-use Rattle.am_board.specs.Kept.{state_of, group_state, flush_state, IsPrepared}
+use Rattle.am_board.specs.Refinement.{state_of, group_state, flush_state, IsPrepared}
 use Rattle.am_board.specs.LogRows.{log_rows}
 use Rattle.am_model.specs.Lists.{changed_where}
 use Rattle.am_board.specs.Beginning.{IsPlannedFlush, IsChosen}
 use Rattle.am_model.specs.Replay.{reply, after}
 use Rattle.am_model.specs.State.{GroupState, FlushState, State, is_named, same_name}
-use Rattle.am_board.specs.Step.{IsGood, Accepts}
+use Rattle.am_board.specs.Step.{StateInvariant, AppliesCall}
 use Rattle.am_board.proofs.keeping.GroupNames.{names_set}
 use Rattle.am_model.proofs.lists.Alone.{changed_where-like}
 use Rattle.am_model.proofs.states.Alike.{same_name_equiv}
@@ -56,10 +56,10 @@ prepared_kept config log more keeps fs all i f h =
       kept_for = one.kept_for;
       asked = λ k a less.
           let two = one.asked k a less in
-          record { group = two.group; known = keeps _ two.known; told = two.told };
+          record { group = two.group; known = keeps _ two.known; sets = two.sets };
     }
 
-module _ (config : Config) (id : ℕ) (old : kept.State) (chosen : ChosenGroup) (g : Group) (good : IsGood config old) (takes : IsChosen config old chosen g) where
+module _ (config : Config) (id : ℕ) (old : kept.State) (chosen : ChosenGroup) (g : Group) (good : StateInvariant config old) (takes : IsChosen config old chosen g) where
   -- what is told, and the state after, by what is asked
   told_taking : reply config id (state_of old) (Begin chosen.now) ≡ Some (reply_asking config id (state_of old) chosen.t (group_state g) (asked_of config (state_of old) chosen.t (group_state g)))
   told_taking =
@@ -113,7 +113,7 @@ module _ (config : Config) (id : ℕ) (old : kept.State) (chosen : ChosenGroup) 
       → new.history.items ≡ old.history.items ++ entry chosen.pass (Begin chosen.now) (Quiet recorded removed) ∷ []
       → vec_len new.history ≡ vec_len old.history + 1
       → vec_len new.history + vec_len old.flushes ≤ vec_capacity new.history
-      → Accepts config id (entry chosen.pass (Begin chosen.now) (Quiet name removed)) old new
+      → AppliesCall config id (entry chosen.pass (Begin chosen.now) (Quiet name removed)) old new
   accepts_quiet h name recorded removed new none left named recorded_named gone put is history records room =
       let named_as_before : h.name ≡ g.name = ap (λ (x : GroupState). x.name) left in
       let groups = ap (map group_state) put ∙ groups_after (λ x. without_resolved chosen.t (begun_group config chosen.t x)) h left in
@@ -150,7 +150,7 @@ module _ (config : Config) (id : ℕ) (old : kept.State) (chosen : ChosenGroup) 
       → new.history.items ≡ old.history.items ++ entry chosen.pass (Begin chosen.now) (Flush o.number o.recorded_group o.deadline o.recorded_notices) ∷ []
       → vec_len new.history ≡ vec_len old.history + 1
       → vec_len new.history + vec_len new.flushes ≤ vec_capacity new.history
-      → Accepts config id (entry chosen.pass (Begin chosen.now) (Flush o.number o.group o.deadline o.notices.items)) old new
+      → AppliesCall config id (entry chosen.pass (Begin chosen.now) (Flush o.number o.group o.deadline o.notices.items)) old new
   accepts_flush h o new some planned marked put is rows keeps asked flushes history records room =
       let all_asked = asked_of config (state_of old) chosen.t (group_state g) in
       let named_as_before : h.name ≡ g.name = ap (λ (x : GroupState). x.name) marked in
@@ -163,7 +163,7 @@ module _ (config : Config) (id : ℕ) (old : kept.State) (chosen : ChosenGroup) 
         kept_for = planned.kept_for ∙ ap (λ n. min config.retention (2 * (route_of config n).repeat_interval)) (sym of_group);
         asked = λ k a less.
             let spare = planned.spare k a less in
-            record { group = spare.group; known = asked k a less spare.group; told = spare.told };
+            record { group = spare.group; known = asked k a less spare.group; sets = spare.sets };
       } in
       record {
         told =

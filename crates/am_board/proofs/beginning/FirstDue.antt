@@ -5,7 +5,7 @@ use Rattle.std.specs.Option.{option_map}
 use Rattle.std.proofs.Math.Seq.{drop-cons}
 use Rattle.std.proofs.lemmas.List.{get_or_default}
 use Rattle.am_model.specs.Begin.{due_cmp}
-use Rattle.am_board.specs.Kept.{group_state, flush_state}
+use Rattle.am_board.specs.Refinement.{group_state, flush_state}
 use Rattle.am_model.specs.Lists.{lesser, least}
 use Rattle.am_model.specs.State.{GroupState, FlushState, same_name, is_flushing}
 use Rattle.am_board.specs.Beginning.{may_take, first_of, IsFirst}

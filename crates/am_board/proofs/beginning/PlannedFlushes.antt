@@ -10,11 +10,11 @@ use Rattle.am_alerts.specs.declared.labels.Label.{Label}
 use Rattle.am_alerts.specs.declared.limits.TheConstants.{MAX_DURATION, MAX_MOMENT}
 use Rattle.am_alerts.specs.declared.route.Route.{Route}
 use Rattle.am_board.specs.declared.dedup.Update.{Update}
-use Rattle.am_model.specs.declared.notice.TheConstants.{LEAST_TIME}
+use Rattle.am_model.specs.declared.notice.TheConstants.{MIN_FLUSH_TIMEOUT}
 use Rattle.am_model.specs.declared.config.Config.{Config}
 use Rattle.am_model.specs.declared.config.Integration.{Integration}
 use Rattle.am_board.specs.declared.flush.OpenFlush.{OpenFlush}
-use Rattle.am_board.specs.declared.flush.ToldSets.{ToldSets}
+use Rattle.am_board.specs.declared.flush.AlertSets.{AlertSets}
 use Rattle.am_board.specs.declared.unmuted.Unmuted.{Unmuted}
 use Rattle.am_board.specs.declared.group.Group.{Group}
 use Rattle.am_model.specs.declared.group.GroupName.{GroupName}
@@ -22,7 +22,7 @@ use Rattle.am_board.specs.declared.group.Member.{Member}
 use Rattle.am_model.specs.Begin.{deadline_of, firing_of, flush_asking, label_sets, leaving_of, notice_for, resolved_of}
 use Rattle.am_board.specs.Beginning.{IsFlushAsking, IsUnmuted, asked_for_update, update_of, leaving_member, notice_of_update, IsSpare}
 use Rattle.am_model.specs.Insert.{same_member}
-use Rattle.am_board.specs.Kept.{asked_state_of, flush_state, group_state, member_state, stamped}
+use Rattle.am_board.specs.Refinement.{asked_state_of, flush_state, group_state, member_state, stamped}
 use Rattle.am_model.specs.State.{AskedState, FlushState, GroupState, MemberState, Stamped, State}
 
 -- two maps in turn
@@ -77,22 +77,22 @@ module _ (config : Config) (s : State) (t : ℕ) (g : Group) (unmuted : Unmuted)
         let number : f.number ≡ s.next_number = h.number in
         let group : f.group ≡ g.name = h.group in
         let all : map asked_state_of f.asked.items ≡ (flush_asking config s t (group_state g) asked).asked = asked-are in
-        let firing : f.told.firing ≡ label_sets (firing_of config s t (group_state g)) = ap (λ (x : ToldSets). x.firing) h.told ∙ ap label_sets is.firing in
-        let resolved : f.told.resolved ≡ label_sets (resolved_of config s t (group_state g)) = ap (λ (x : ToldSets). x.resolved) h.told ∙ ap label_sets is.resolved in
+        let firing : f.sets.firing ≡ label_sets (firing_of config s t (group_state g)) = ap (λ (x : AlertSets). x.firing) h.sets ∙ ap label_sets is.firing in
+        let resolved : f.sets.resolved ≡ label_sets (resolved_of config s t (group_state g)) = ap (λ (x : AlertSets). x.resolved) h.sets ∙ ap label_sets is.resolved in
         let leaving : map stamped f.leaving.items ≡ leaving_of t (group_state g) = ap (map stamped) h.leaving ∙ leaving-same t g.members.items in
-        ap (λ n. flush_with n f.group (map asked_state_of f.asked.items) f.told.firing f.told.resolved (map stamped f.leaving.items)) number
-        ∙ (ap (λ n. flush_with s.next_number n (map asked_state_of f.asked.items) f.told.firing f.told.resolved (map stamped f.leaving.items)) group
-        ∙ (ap (λ l. flush_with s.next_number g.name l f.told.firing f.told.resolved (map stamped f.leaving.items)) all
-        ∙ (ap (λ l. flush_with s.next_number g.name (flush_asking config s t (group_state g) asked).asked l f.told.resolved (map stamped f.leaving.items)) firing
+        ap (λ n. flush_with n f.group (map asked_state_of f.asked.items) f.sets.firing f.sets.resolved (map stamped f.leaving.items)) number
+        ∙ (ap (λ n. flush_with s.next_number n (map asked_state_of f.asked.items) f.sets.firing f.sets.resolved (map stamped f.leaving.items)) group
+        ∙ (ap (λ l. flush_with s.next_number g.name l f.sets.firing f.sets.resolved (map stamped f.leaving.items)) all
+        ∙ (ap (λ l. flush_with s.next_number g.name (flush_asking config s t (group_state g) asked).asked l f.sets.resolved (map stamped f.leaving.items)) firing
         ∙ (ap (λ l. flush_with s.next_number g.name (flush_asking config s t (group_state g) asked).asked (label_sets (firing_of config s t (group_state g))) l (map stamped f.leaving.items)) resolved
         ∙ ap (λ l. flush_with s.next_number g.name (flush_asking config s t (group_state g) asked).asked (label_sets (firing_of config s t (group_state g))) (label_sets (resolved_of config s t (group_state g))) l) leaving))))
 
     -- what its integrations' log rows are to hold is there
     pub all-spare : All (IsSpare f) f.asked.items
-    all-spare = subst (All (IsSpare f)) (sym h.asked) (All-map (IsSpare f) (asked_for_update g.name unmuted) updates (λ k d less. record { group = sym h.group; told = sym h.told }))
+    all-spare = subst (All (IsSpare f)) (sym h.asked) (All-map (IsSpare f) (asked_for_update g.name unmuted) updates (λ k d less. record { group = sym h.group; sets = sym h.sets }))
 
 -- no sum of a flush's moment and its interval is cut
-pub deadline-is : (r : Route) (t least deadline : ℕ) → IsTrue (has_good_intervals r) → t ≤ MAX_MOMENT → least ≡ max r.group_interval LEAST_TIME → deadline ≡ min (t + least) (2 ^ 64 - 1) → deadline ≡ t + max r.group_interval LEAST_TIME
+pub deadline-is : (r : Route) (t least deadline : ℕ) → IsTrue (has_good_intervals r) → t ≤ MAX_MOMENT → least ≡ max r.group_interval MIN_FLUSH_TIMEOUT → deadline ≡ min (t + least) (2 ^ 64 - 1) → deadline ≡ t + max r.group_interval MIN_FLUSH_TIMEOUT
 deadline-is r t least deadline good before least_is is =
     let few : r.group_interval ≤ MAX_DURATION = grind (arith, nat_tests) in
     omega arith

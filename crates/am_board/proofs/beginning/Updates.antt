@@ -17,12 +17,12 @@ use Rattle.am_model.specs.declared.config.Config.{Config}
 use Rattle.am_model.specs.declared.config.Integration.{Integration}
 use Rattle.am_model.specs.declared.config.Receiver.{Receiver}
 use Rattle.am_model.specs.declared.config.TheConstants.{MAX_INTEGRATIONS}
-use Rattle.am_board.specs.declared.flush.ToldSets.{ToldSets}
+use Rattle.am_board.specs.declared.flush.AlertSets.{AlertSets}
 use Rattle.am_board.specs.declared.unmuted.Unmuted.{Unmuted}
 use Rattle.am_model.specs.declared.group.GroupName.{GroupName}
 use Rattle.am_model.specs.Begin.{asked_about, asked_of, entry_of, label_sets, needs, resolved_of}
 use Rattle.am_model.specs.Configured.{HaveFewIntegrations, integrations_named, integrations_of, route_of}
-use Rattle.am_board.specs.Beginning.{IsUnmuted, update_of, needs_told, told_of}
+use Rattle.am_board.specs.Beginning.{IsUnmuted, update_of, needs_update_for, alert_sets_of}
 use Rattle.am_board.specs.LogRows.{log_rows}
 use Rattle.am_model.specs.State.{GroupState, State, same_name}
 use Rattle.am_board.proofs.keeping.LogRows.{entry_of-log_rows}
@@ -59,14 +59,14 @@ module _ (test : ℕ × Integration → Bool) (integrations : List Integration) 
   asked-same e = sym (append-nil asked) ∙ (ap (λ b. asked ++ map update_of (cond b ((i, integration) ∷ []) [])) (sym e) ∙ sym more)
 
 -- the test of an integration, by the row under its key
-pub needs_told-key : (eq : GroupName → GroupName → Bool) → ((a b : GroupName) → eq a b ≡ same_name a b) → (log : Slots GroupName (List Label)) (key : LogKey GroupName) (name : GroupName) (told : ToldSets) (i : ℕ) (one : Integration) (repeat t : ℕ) (logged : Option (LogRow (List Label))) (firing resolved : List (List Label)) (answer : Bool)
-    → HasDistinctKeys eq log → key.group ≡ name → key.integration ≡ i → logged ≡ row_of eq log key → firing ≡ told.firing → resolved ≡ told.resolved
-    → answer ≡ needed same_label_set logged firing resolved one.send_resolved repeat t → needs_told (log_rows log) name told repeat t (i, one) ≡ answer
-needs_told-key eq same log key name told i one repeat t logged firing resolved answer apart group integration row fire over told_is =
+pub needs_update_for-key : (eq : GroupName → GroupName → Bool) → ((a b : GroupName) → eq a b ≡ same_name a b) → (log : Slots GroupName (List Label)) (key : LogKey GroupName) (name : GroupName) (sets : AlertSets) (i : ℕ) (one : Integration) (repeat t : ℕ) (logged : Option (LogRow (List Label))) (firing resolved : List (List Label)) (answer : Bool)
+    → HasDistinctKeys eq log → key.group ≡ name → key.integration ≡ i → logged ≡ row_of eq log key → firing ≡ sets.firing → resolved ≡ sets.resolved
+    → answer ≡ needed same_label_set logged firing resolved one.send_resolved repeat t → needs_update_for (log_rows log) name sets repeat t (i, one) ≡ answer
+needs_update_for-key eq same log key name sets i one repeat t logged firing resolved answer apart group integration row fire over told_is =
     let entry : entry_of (log_rows log) name i ≡ logged =
     ap (λ n. entry_of (log_rows log) n i) (sym group) ∙ (ap (entry_of (log_rows log) key.group) (sym integration) ∙ (entry_of-log_rows eq same log key.group key.integration apart ∙ sym row)) in
-    ap (λ r. needed same_label_set r told.firing told.resolved one.send_resolved repeat t) entry
-    ∙ (ap (λ l. needed same_label_set logged l told.resolved one.send_resolved repeat t) (sym fire)
+    ap (λ r. needed same_label_set r sets.firing sets.resolved one.send_resolved repeat t) entry
+    ∙ (ap (λ l. needed same_label_set logged l sets.resolved one.send_resolved repeat t) (sym fire)
     ∙ (ap (λ l. needed same_label_set logged firing l one.send_resolved repeat t) (sym over) ∙ sym told_is))
 
 -- there are as few integrations of a name as each receiver has
@@ -119,13 +119,13 @@ module _ (config : Config) (s : State) (t : ℕ) (name : GroupName) (text : List
       ap (λ l. filter test (enumerate_from 0 l)) (ap (λ n. integrations_named n config.receivers) (sym named) ∙ named-none text config.receivers none)
 
   -- those of the receiver's integrations are asked that need an update
-  pub about-receiver : (r : Receiver) (integrations : List Integration) (told : ToldSets) (repeat : ℕ) → Some r ≡ find (λ r. bytes_eq r.name text) config.receivers → integrations ≡ r.integrations → repeat ≡ (route_of config name).repeat_interval
-      → filter (needs_told s.rows name told repeat t) (enumerate_from 0 integrations) ≡ filter (needs config s t name told.firing told.resolved) (integrations_of config name)
-  about-receiver r integrations told repeat there ways_are repeat_is =
+  pub about-receiver : (r : Receiver) (integrations : List Integration) (sets : AlertSets) (repeat : ℕ) → Some r ≡ find (λ r. bytes_eq r.name text) config.receivers → integrations ≡ r.integrations → repeat ≡ (route_of config name).repeat_interval
+      → filter (needs_update_for s.rows name sets repeat t) (enumerate_from 0 integrations) ≡ filter (needs config s t name sets.firing sets.resolved) (integrations_of config name)
+  about-receiver r integrations sets repeat there ways_are repeat_is =
       let are : integrations ≡ integrations_named (route_of config name).receiver config.receivers =
       ways_are ∙ (named-some text config.receivers r there ∙ ap (λ n. integrations_named n config.receivers) named) in
-      ap (λ n. filter (needs_told s.rows name told n t) (enumerate_from 0 integrations)) repeat_is
-      ∙ ap (λ l. filter (needs config s t name told.firing told.resolved) (enumerate_from 0 l)) are
+      ap (λ n. filter (needs_update_for s.rows name sets n t) (enumerate_from 0 integrations)) repeat_is
+      ∙ ap (λ l. filter (needs config s t name sets.firing sets.resolved) (enumerate_from 0 l)) are
 
 -- who is asked by a group in which this is unmuted
 module _ (config : Config) (s : State) (t : ℕ) (g : GroupState) (unmuted : Unmuted) (is : IsUnmuted config s t g unmuted) (empty : Bool) (is_empty-is : empty ≡ (is_empty unmuted.firing && is_empty unmuted.resolved)) where
@@ -142,9 +142,9 @@ module _ (config : Config) (s : State) (t : ℕ) (g : GroupState) (unmuted : Unm
   nothing-asks e = about ∙ ap (λ b. cond b [] (filter (needs config s t g.name (label_sets unmuted.firing) (label_sets unmuted.resolved)) (integrations_of config g.name))) e
 
   -- else those that need an update
-  pub something-asks : (told : ToldSets) → empty ≡ false → told ≡ told_of unmuted → filter (needs config s t g.name told.firing told.resolved) (integrations_of config g.name) ≡ asked_of config s t g
-  something-asks told e told_is =
-      ap (λ (x : ToldSets). filter (needs config s t g.name x.firing x.resolved) (integrations_of config g.name)) told_is
+  pub something-asks : (sets : AlertSets) → empty ≡ false → sets ≡ alert_sets_of unmuted → filter (needs config s t g.name sets.firing sets.resolved) (integrations_of config g.name) ≡ asked_of config s t g
+  something-asks sets e told_is =
+      ap (λ (x : AlertSets). filter (needs config s t g.name x.firing x.resolved) (integrations_of config g.name)) told_is
       ∙ sym (about ∙ ap (λ b. cond b [] (filter (needs config s t g.name (label_sets unmuted.firing) (label_sets unmuted.resolved)) (integrations_of config g.name))) e)
 
 -- where no integration needs an update, nobody is asked

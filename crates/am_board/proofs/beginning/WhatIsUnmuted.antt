@@ -14,7 +14,7 @@ use Rattle.am_board.specs.declared.group.Member.{Member}
 use Rattle.am_model.specs.Begin.{alert_cmp, copied, copy_of, label_sets}
 use Rattle.am_board.specs.Beginning.{AreUnmuted, AreRising, IsUnmuted, copy_among, firing_among, resolved_among}
 use Rattle.am_model.specs.Insert.{same_alert, same_member}
-use Rattle.am_board.specs.Kept.{group_state, member_state}
+use Rattle.am_board.specs.Refinement.{group_state, member_state}
 use Rattle.am_board.specs.Order.{member_cmp}
 use Rattle.am_model.specs.Lists.{in_order, without}
 use Rattle.am_model.specs.State.{GroupState, MemberState, State}

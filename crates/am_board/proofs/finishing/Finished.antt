@@ -8,12 +8,12 @@ use Rattle.am_retry.specs.declared.outcome.Outcome.{Outcome}
 use Rattle.am_model.specs.Finish.{leaves_by, finished_group, finished, after_finish_of, rows_after}
 use Rattle.am_board.specs.Group.{names_of}
 use Rattle.am_model.specs.Records.{entry}
-use Rattle.am_board.specs.Kept.{IsPrepared, Agrees, flush_state, group_state, state_of}
+use Rattle.am_board.specs.Refinement.{IsPrepared, EqualUpToRowOrder, flush_state, group_state, state_of}
 use Rattle.am_board.specs.LogRows.{log_rows}
 use Rattle.am_model.specs.Lists.{without, changed_where}
 use Rattle.am_board.specs.Finishing.{logged_of, rows_with, KnowTheSame}
 use Rattle.am_model.specs.State.{is_named, members_in, moment, flush_numbered}
-use Rattle.am_board.specs.Step.{IsGood, Accepts}
+use Rattle.am_board.specs.Step.{StateInvariant, AppliesCall}
 use Rattle.am_model.specs.declared.config.Config.{Config}
 use Rattle.am_board.specs.declared.flush.OpenFlush.{OpenFlush}
 use Rattle.am_model.specs.declared.record.Call.TheVariants.{Finish}
@@ -43,7 +43,7 @@ pub record IsFinished (config : Config) (old new : kept.State) (o : OpenFlush) (
   pub records : vec_len new.history ≡ vec_len old.history + 1
   pub room : vec_capacity new.history ≡ vec_capacity old.history
 
-module _ (config : Config) (id : ℕ) (old new : kept.State) (f : ℕ) (o : OpenFlush) (within : f < length old.flushes.items) (is : o ≡ get_or old.flushes.items f o) (good : IsGood config old) (pass now : ℕ) (outcomes : List (ℕ × Outcome)) (result : Finished) where
+module _ (config : Config) (id : ℕ) (old new : kept.State) (f : ℕ) (o : OpenFlush) (within : f < length old.flushes.items) (is : o ≡ get_or old.flushes.items f o) (good : StateInvariant config old) (pass now : ℕ) (outcomes : List (ℕ × Outcome)) (result : Finished) where
   abbrev r : Record
   r = entry pass (Finish now o.number outcomes) (replies.Finished result)
 
@@ -55,7 +55,7 @@ module _ (config : Config) (id : ℕ) (old new : kept.State) (f : ℕ) (o : Open
       ap (option_map (λ g. replies.Finished (finished (state_of old) outcomes g))) found
       ∙ (λ i. Some (replies.Finished (record { logged = sym done.logged i; removed = sym done.removed i })))
 
-  state : IsFinished config old new o f now outcomes result r → Agrees (state_of new) (after_finish_of config (state_of old) (moment (state_of old) now) outcomes (Some (flush_state o)))
+  state : IsFinished config old new o f now outcomes result r → EqualUpToRowOrder (state_of new) (after_finish_of config (state_of old) (moment (state_of old) now) outcomes (Some (flush_state o)))
   state done =
       let ready = open-prepared config old f o within is good in
       let flushes : map flush_state new.flushes.items ≡ without (λ g. g.number == o.number) (map flush_state old.flushes.items) =
@@ -75,11 +75,11 @@ module _ (config : Config) (id : ℕ) (old new : kept.State) (f : ℕ) (o : Open
         };
       }
 
-  pub finish-accepted : IsFinished config old new o f now outcomes result r → Accepts config id r old new
+  pub finish-accepted : IsFinished config old new o f now outcomes result r → AppliesCall config id r old new
   finish-accepted done =
       record {
         told = told done;
-        state = subst (λ g. Agrees (state_of new) (after_finish_of config (state_of old) (moment (state_of old) now) outcomes g)) (sym found) (state done);
+        state = subst (λ g. EqualUpToRowOrder (state_of new) (after_finish_of config (state_of old) (moment (state_of old) now) outcomes g)) (sym found) (state done);
         routed = subst (λ names. All (λ n. n.route ≤ length config.routes.children) names) (sym done.names) good.routed;
         prepared = subst (All (IsPrepared config new.log)) (sym done.flushes) (All-remove (IsPrepared config new.log) old.flushes.items f (all_prepared config old.log new.log old.flushes.items done.keys good.prepared));
         history = done.history;

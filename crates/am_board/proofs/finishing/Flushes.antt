@@ -8,11 +8,11 @@ use Rattle.am_alerts.specs.declared.labels.Label.{Label}
 use Rattle.am_nflog.specs.Log.{Slots}
 use Rattle.am_retry.specs.declared.outcome.Outcome.{Outcome}
 use Rattle.am_model.specs.Finish.{row_at, rows_after, log_with}
-use Rattle.am_board.specs.Kept.{IsAsked, IsPrepared, flush_state}
+use Rattle.am_board.specs.Refinement.{IsAsked, IsPrepared, flush_state}
 use Rattle.am_model.specs.Laws.{same_number}
 use Rattle.am_board.specs.Finishing.{row_for, logged_of, rows_with, KnowTheSame}
 use Rattle.am_model.specs.State.{FlushState, flush_numbered}
-use Rattle.am_board.specs.Step.{IsGood}
+use Rattle.am_board.specs.Step.{StateInvariant}
 use Rattle.am_model.specs.declared.config.Config.{Config}
 use Rattle.am_board.specs.declared.flush.OpenFlush.{OpenFlush}
 use Rattle.am_model.specs.declared.group.GroupName.{GroupName}
@@ -23,7 +23,7 @@ use Rattle.am_board.proofs.finishing.Logging.{asked-of}
 use Rattle.am_model.proofs.states.Alike.{same_number_equiv}
 
 -- the flush at a place is the one of its number
-module _ (config : Config) (s : kept.State) (f : ℕ) (o : OpenFlush) (within : f < length s.flushes.items) (is : o ≡ get_or s.flushes.items f o) (good : IsGood config s) where
+module _ (config : Config) (s : kept.State) (f : ℕ) (o : OpenFlush) (within : f < length s.flushes.items) (is : o ≡ get_or s.flushes.items f o) (good : StateInvariant config s) where
   pub at_place : get_or (map flush_state s.flushes.items) f (flush_state o) ≡ flush_state o
   at_place = get_or-map flush_state s.flushes.items f o (flush_state o) within ∙ ap flush_state (sym is)
 
@@ -42,7 +42,7 @@ module _ (config : Config) (s : kept.State) (f : ℕ) (o : OpenFlush) (within : 
 -- the rows of a prepared flush are those of the definitions
 module _ (config : Config) (log : Slots GroupName (List Label)) (o : OpenFlush) (ready : IsPrepared config log o) (t : ℕ) where
   pub row_for-prepared : (integration : ℕ) → row_for o t integration ≡ row_at config t (flush_state o) integration
-  row_for-prepared integration = ap (λ k. record { group = o.group; integration = integration; moment = t; expiry = t + k; firing = o.told.firing; resolved = o.told.resolved }) ready.kept_for
+  row_for-prepared integration = ap (λ k. record { group = o.group; integration = integration; moment = t; expiry = t + k; firing = o.sets.firing; resolved = o.sets.resolved }) ready.kept_for
 
   pub rows_with-prepared : (outcomes : List (ℕ × Outcome)) (rows : List RowView) → rows_with o t outcomes o.asked.items rows ≡ rows_after config t outcomes (flush_state o) rows
   rows_with-prepared outcomes rows = ap (λ (row : ℕ → RowView). fold (λ log a. log_with (row a.integration) log) rows (logged_of outcomes o.asked.items)) (λ i integration. row_for-prepared integration i)

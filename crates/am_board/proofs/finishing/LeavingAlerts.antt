@@ -18,7 +18,7 @@ use Rattle.am_model.proofs.lists.Alone.{IsAlone, all-never, alone-distinct, chan
 use Rattle.am_model.proofs.lists.Distinct.{all_from, all_to, all-passes, all-weaker}
 use Rattle.am_board.specs.Finishing.{marked, stands_as}
 use Rattle.am_board.specs.Keyed.{AreKeyed}
-use Rattle.am_board.specs.Kept.{member_state, stamped}
+use Rattle.am_board.specs.Refinement.{member_state, stamped}
 use Rattle.am_board.specs.Members.{labels_of, AreMembers}
 use Rattle.am_board.specs.declared.flush.LeavingAlert.{LeavingAlert}
 use Rattle.am_board.specs.declared.group.Member.{Member}

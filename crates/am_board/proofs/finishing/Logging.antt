@@ -12,7 +12,7 @@ use Rattle.am_alerts.specs.declared.labels.Label.{Label}
 use Rattle.am_nflog.specs.Log.{Slots}
 use Rattle.am_retry.specs.declared.outcome.Outcome.{Outcome}
 use Rattle.am_model.specs.Finish.{has_succeeded, log_with}
-use Rattle.am_board.specs.Kept.{IsAsked, asked_state_of}
+use Rattle.am_board.specs.Refinement.{IsAsked, asked_state_of}
 use Rattle.am_board.specs.Finishing.{row_for, logged_of, rows_with, KnowTheSame}
 use Rattle.am_board.specs.declared.flush.Asked.{Asked}
 use Rattle.am_board.specs.declared.flush.OpenFlush.{OpenFlush}
@@ -59,4 +59,4 @@ module _ (outcomes : List (ℕ × Outcome)) where
 
 -- what is asked of one log is asked of another that knows the same keys
 pub asked-of : (log new : Slots GroupName (List Label)) (f : OpenFlush) (a : Asked) → KnowTheSame new log → IsAsked log f a → IsAsked new f a
-asked-of log new f a same asked = record { group = asked.group; known = subst IsTrue (sym (same a.key)) asked.known; told = asked.told }
+asked-of log new f a same asked = record { group = asked.group; known = subst IsTrue (sym (same a.key)) asked.known; sets = asked.sets }

@@ -12,7 +12,7 @@ use Rattle.am_retry.specs.declared.outcome.Outcome.{Outcome}
 use Rattle.am_model.specs.Finish.{has_succeeded, all_succeeded}
 use Rattle.am_model.specs.Insert.{same_group}
 use Rattle.am_board.specs.Finishing.{leaves_where, without_leaving}
-use Rattle.am_board.specs.Kept.{asked_state_of, member_state, group_state, flush_state}
+use Rattle.am_board.specs.Refinement.{asked_state_of, member_state, group_state, flush_state}
 use Rattle.am_model.specs.Lists.{changed_where}
 use Rattle.am_model.specs.State.{MemberState, GroupState, same_name, is_named, members_in}
 use Rattle.am_board.specs.declared.flush.LeavingAlert.{LeavingAlert}

@@ -14,7 +14,7 @@ use Rattle.am_board.specs.declared.group.Group.{Group}
 use Rattle.am_board.specs.declared.insert.Placement.{Placement}
 use Rattle.am_board.specs.Group.{names_of, AddsAtMost}
 use Rattle.am_board.specs.Inserting.{place_in, IsFound, AreFound, AreApart, target_of}
-use Rattle.am_board.specs.Kept.{group_state}
+use Rattle.am_board.specs.Refinement.{group_state}
 use Rattle.am_model.specs.declared.config.Config.{Config}
 use Rattle.am_model.specs.declared.group.GroupName.{GroupName}
 use Rattle.am_model.specs.Insert.{name_in, names_for, same_group}

@@ -19,10 +19,10 @@ use Rattle.am_board.specs.declared.state.State as kept
 use Rattle.am_model.specs.Causes.{insert_cause, is_full, is_name_too_many, makes_too_many}
 use Rattle.am_model.specs.Insert.{names_for, same_alert, inserted, after_insert}
 use Rattle.am_board.specs.Group.{AreRouted}
-use Rattle.am_board.specs.Kept.{state_of, group_state, IsPrepared}
+use Rattle.am_board.specs.Refinement.{state_of, group_state, IsPrepared}
 use Rattle.am_board.specs.Inserting.{IsReservedState, IsPlacementOf, IsFound, place_in, target_of, stamped_alert}
 use Rattle.am_model.specs.State.{State, moment, has_group, is_named, same_name}
-use Rattle.am_board.specs.Step.{IsGood, Stays, IsAnswer}
+use Rattle.am_board.specs.Step.{StateInvariant, LeavesUnchanged, IsAnswer}
 use Rattle.am_model.proofs.lists.Distinct.{all_to, all-weaker}
 use Rattle.am_model.proofs.lists.Places.{none_any, position-map, count_told, count_alike}
 use Rattle.std.proofs.lemmas.Bool.{and_right}
@@ -108,7 +108,7 @@ names_placed ps ts names same e = told ps ∙ (ap (map (λ (t : Target). t.name)
     told (q ∷ qs) = ap (λ ns. q.name ∷ ns) (told qs)
 
 -- a state that holds what it held stays
-pub stays_reserved : (config : Config) (old new : kept.State) → IsGood config old → IsReservedState old new → Stays config old new
+pub stays_reserved : (config : Config) (old new : kept.State) → StateInvariant config old → IsReservedState old new → LeavesUnchanged config old new
 stays_reserved config old new good kept =
     let logged : All (IsPrepared config new.log) old.flushes.items = subst (λ log. All (IsPrepared config log) old.flushes.items) (sym kept.log) good.prepared in
     record {

@@ -10,8 +10,8 @@ use Rattle.am_board.specs.declared.insert.Target.{Target}
 use Rattle.am_model.specs.Insert.{same_group, wait_of, new_group, group_with, put_into_group}
 use Rattle.am_board.specs.declared.group.Member.{Member}
 use Rattle.am_board.specs.Inserting.{place_in}
-use Rattle.am_board.specs.Kept.{member_state, group_state}
-use Rattle.am_model.specs.Lists.{put_in}
+use Rattle.am_board.specs.Refinement.{member_state, group_state}
+use Rattle.am_model.specs.Lists.{upsert}
 use Rattle.am_model.specs.State.{MemberState, GroupState, is_named}
 use Rattle.am_model.proofs.lists.Alone.{find-position, find-no_position}
 use Rattle.am_model.proofs.lists.Places.{put_map_at, put_map_new, position-map}
@@ -42,17 +42,17 @@ module _ (config : Config) (t : ℕ) (m : MemberState) where
   pub put_group_at : (gs : List Group) (i : ℕ) (old new : Group) (name : GroupName) → place_in name gs ≡ Some i → i < length gs → old ≡ get_or gs i old → old.name ≡ name → group_state new ≡ group_with config t m (group_state old) → map group_state (set gs i new) ≡ put_into_group config t m (map group_state gs) name
   put_group_at gs i old new name at within is named e =
       let same : new.name ≡ name = ap (λ (g : GroupState). g.name) e ∙ named in
-      let given = ap (λ (o : Option GroupState). put_in same_group (group_with config t m (unwrap_or o (new_group config t name))) (map group_state gs)) (find_kept gs i old name at within is) in
+      let given = ap (λ (o : Option GroupState). upsert same_group (group_with config t m (unwrap_or o (new_group config t name))) (map group_state gs)) (find_kept gs i old name at within is) in
       put_map_at group_state same_group new gs i (subst (λ n. place_in n gs ≡ Some i) (sym same) at)
-      ∙ (ap (λ (g : GroupState). put_in same_group g (map group_state gs)) e ∙ sym given)
+      ∙ (ap (λ (g : GroupState). upsert same_group g (map group_state gs)) e ∙ sym given)
 
   -- where there is none, a new one with the member in it is added
   pub put_group_new : (gs : List Group) (new : Group) (name : GroupName) → place_in name gs ≡ None → group_state new ≡ group_with config t m (new_group config t name) → map group_state (gs ++ new ∷ []) ≡ put_into_group config t m (map group_state gs) name
   put_group_new gs new name at e =
       let same : new.name ≡ name = ap (λ (g : GroupState). g.name) e in
-      let given = ap (λ (o : Option GroupState). put_in same_group (group_with config t m (unwrap_or o (new_group config t name))) (map group_state gs)) (find_no_kept gs name at) in
+      let given = ap (λ (o : Option GroupState). upsert same_group (group_with config t m (unwrap_or o (new_group config t name))) (map group_state gs)) (find_no_kept gs name at) in
       put_map_new group_state same_group new gs (subst (λ n. place_in n gs ≡ None) (sym same) at)
-      ∙ (ap (λ (g : GroupState). put_in same_group g (map group_state gs)) e ∙ sym given)
+      ∙ (ap (λ (g : GroupState). upsert same_group g (map group_state gs)) e ∙ sym given)
 
 -- the names so far, with one more
 pub names_more : (f : ℕ → GroupName) (ps : List Target) (p : Target) (routes : List ℕ) (i : ℕ) → i < length routes → map (λ x. x.name) ps ≡ map f (take i routes) → p.name ≡ f (get_or routes i 0) → map (λ x. x.name) (ps ++ p ∷ []) ≡ map f (take (i + 1) routes)

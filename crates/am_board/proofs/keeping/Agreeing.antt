@@ -12,14 +12,14 @@ use Rattle.am_mute.specs.Silence.{SilenceData}
 use Rattle.am_nflog.specs.Members.{is_empty}
 use Rattle.am_nflog.specs.Needed.{needed}
 use Rattle.am_retry.specs.declared.outcome.Outcome.{Outcome}
-use Rattle.am_model.proofs.lists.Words.{IsDistinct-put_in}
+use Rattle.am_model.proofs.lists.Words.{IsDistinct-upsert}
 use Rattle.am_model.specs.Begin.{entry_of, asked_about, asked_of, firing_of, resolved_of, label_sets, reply_asking, reply_taking, after_asking, after_taking, taken, next_due}
 use Rattle.am_model.specs.Causes.{insert_cause, silence_cause, begin_cause, maintain_cause, note_cause, asks_some, opens_by, is_full}
 use Rattle.am_model.specs.Configured.{route_of, integrations_of}
 use Rattle.am_model.specs.Ticket.{TicketData}
 use Rattle.am_model.specs.Finish.{same_key, log_with, row_at, rows_after, logged_by, after_finish_of}
 use Rattle.am_model.specs.Laws.{IsConsistent, IsHeld}
-use Rattle.am_model.specs.look_back.Outlook.{muted_of, outlook_at}
+use Rattle.am_model.specs.look_back.Preview.{muted_of, preview_at}
 use Rattle.am_model.specs.look_back.Reasons.{reason_told}
 use Rattle.am_model.specs.Note.{may_note, after_note, after_note_of}
 use Rattle.am_model.specs.Replay.{reply, after_call}
@@ -34,8 +34,8 @@ use Rattle.am_model.specs.declared.record.Call.{Call}
 use Rattle.am_model.specs.declared.record.Call.TheVariants.{Insert, Silence, Begin, Finish, Maintain, Note}
 use Rattle.am_model.specs.declared.record.Reply.TheVariants as reply_is
 use Rattle.am_model.specs.declared.views.RowView.{RowView}
-use Rattle.am_board.specs.Kept.{Agrees}
-use Rattle.am_model.proofs.lists.Exchanges.{put_in-permutation, count_by-permutation, without-permutation, IsDistinct-permutation}
+use Rattle.am_board.specs.Refinement.{EqualUpToRowOrder}
+use Rattle.am_model.proofs.lists.Exchanges.{upsert-permutation, count_by-permutation, without-permutation, IsDistinct-permutation}
 use Rattle.am_model.proofs.states.InOrder.{in_order-rows}
 use Rattle.am_board.proofs.keeping.LogRows.{find_row-permutation, entry_of-permutation}
 use Rattle.am_model.proofs.states.Alike.{same_key_equiv}
@@ -49,7 +49,7 @@ rows_after-fold : (config : Config) (t : ℕ) (f : FlushState) (asked : List Ask
 rows_after-fold config t f [] xs ys moved apart = moved
 rows_after-fold config t f (a ∷ asked) xs ys moved apart =
     let row = row_at config t f a.integration in
-    rows_after-fold config t f asked (log_with row xs) (log_with row ys) (put_in-permutation same_key same_key_equiv row xs ys moved apart) (IsDistinct-put_in same_key same_key_equiv row xs apart)
+    rows_after-fold config t f asked (log_with row xs) (log_with row ys) (upsert-permutation same_key same_key_equiv row xs ys moved apart) (IsDistinct-upsert same_key same_key_equiv row xs apart)
 
 -- a finish logs the same rows, whatever the order of those before
 pub rows_after-permutation : (config : Config) (t : ℕ) (outcomes : List (ℕ × Outcome)) (f : FlushState) (xs ys : List RowView) → IsPermutation xs ys → IsDistinct same_key xs → IsPermutation (rows_after config t outcomes f xs) (rows_after config t outcomes f ys)
@@ -79,8 +79,8 @@ module _ (config : Config) (s : State) (rows : List RowView) (moved : IsPermutat
   reply-rows id (Maintain now) = ap (λ n. Some (reply_is.Maintained (record { groups = count_by is_deserted s.groups; entries = n }))) (sym (count_by-permutation (has_expired (moment s now)) rows s.rows moved))
   reply-rows id (Note now number integration outcome) = refl
 
-  outlook_at-rows : (t : ℕ) → outlook_at config (with_rows rows s) t ≡ outlook_at config s t
-  outlook_at-rows t = λ j. option_map (λ g. record {
+  preview_at-rows : (t : ℕ) → preview_at config (with_rows rows s) t ≡ preview_at config s t
+  preview_at-rows t = λ j. option_map (λ g. record {
     moment = t;
     group = g.name;
     muted = muted_of config s t g;
@@ -90,28 +90,28 @@ module _ (config : Config) (s : State) (rows : List RowView) (moved : IsPermutat
 
   -- ---- the states after a call
 
-  after_asking-rows : (t : ℕ) (g : GroupState) (asked : List (ℕ × Integration)) → Agrees (after_asking config (with_rows rows s) t g asked) (after_asking config s t g asked)
+  after_asking-rows : (t : ℕ) (g : GroupState) (asked : List (ℕ × Integration)) → EqualUpToRowOrder (after_asking config (with_rows rows s) t g asked) (after_asking config s t g asked)
   after_asking-rows t g [] = record { rows = moved; rest = refl }
   after_asking-rows t g (i ∷ is) = record { rows = moved; rest = refl }
 
-  after_taking-rows : (t : ℕ) (o : Option GroupState) → Agrees (after_taking config (with_rows rows s) t o) (after_taking config s t o)
+  after_taking-rows : (t : ℕ) (o : Option GroupState) → EqualUpToRowOrder (after_taking config (with_rows rows s) t o) (after_taking config s t o)
   after_taking-rows t None = record { rows = moved; rest = refl }
   after_taking-rows t (Some g) =
-      subst (λ l. Agrees (after_asking config (with_rows rows s) t g l) (after_asking config s t g (asked_of config s t g))) (sym (asked_of-rows t g)) (after_asking-rows t g (asked_of config s t g))
+      subst (λ l. EqualUpToRowOrder (after_asking config (with_rows rows s) t g l) (after_asking config s t g (asked_of config s t g))) (sym (asked_of-rows t g)) (after_asking-rows t g (asked_of config s t g))
 
-  after_finish_of-rows : (t : ℕ) (outcomes : List (ℕ × Outcome)) (o : Option FlushState) → Agrees (after_finish_of config (with_rows rows s) t outcomes o) (after_finish_of config s t outcomes o)
+  after_finish_of-rows : (t : ℕ) (outcomes : List (ℕ × Outcome)) (o : Option FlushState) → EqualUpToRowOrder (after_finish_of config (with_rows rows s) t outcomes o) (after_finish_of config s t outcomes o)
   after_finish_of-rows t outcomes None = record { rows = moved; rest = refl }
   after_finish_of-rows t outcomes (Some f) = record { rows = rows_after-permutation config t outcomes f rows s.rows moved apart; rest = refl }
 
-  after_note_of-rows : (t integration : ℕ) (outcome : Option Outcome) (o : Option FlushState) → Agrees (after_note_of config (with_rows rows s) t integration outcome o) (after_note_of config s t integration outcome o)
+  after_note_of-rows : (t integration : ℕ) (outcome : Option Outcome) (o : Option FlushState) → EqualUpToRowOrder (after_note_of config (with_rows rows s) t integration outcome o) (after_note_of config s t integration outcome o)
   after_note_of-rows t integration outcome None = record { rows = moved; rest = refl }
   after_note_of-rows t integration outcome (Some f) =
-      elim (may_note integration outcome f) as (λ b. Agrees (if b then after_note config (with_rows rows s) t integration f else at_moment (with_rows rows s) t) (if b then after_note config s t integration f else at_moment s t)) [
-        | true ↦ record { rows = put_in-permutation same_key same_key_equiv (row_at config t f integration) rows s.rows moved apart; rest = refl }
+      elim (may_note integration outcome f) as (λ b. EqualUpToRowOrder (if b then after_note config (with_rows rows s) t integration f else at_moment (with_rows rows s) t) (if b then after_note config s t integration f else at_moment s t)) [
+        | true ↦ record { rows = upsert-permutation same_key same_key_equiv (row_at config t f integration) rows s.rows moved apart; rest = refl }
         | false ↦ record { rows = moved; rest = refl }
       ]
 
-  after_call-rows : (c : Call) → Agrees (after_call config (with_rows rows s) c) (after_call config s c)
+  after_call-rows : (c : Call) → EqualUpToRowOrder (after_call config (with_rows rows s) c) (after_call config s c)
   after_call-rows (Insert now alert) = record { rows = moved; rest = refl }
   after_call-rows (Silence now number matchers start end) = record { rows = moved; rest = refl }
   after_call-rows (Begin now) = after_taking-rows (moment s now) (taken s (moment s now))
@@ -146,23 +146,23 @@ consistent-rows s rows apart h =
     }
 
 module _ (a : State) where
-  pub Agrees-refl : Agrees a a
-  Agrees-refl = record { rows = IsPermutation-refl a.rows; rest = refl }
+  pub EqualUpToRowOrder-refl : EqualUpToRowOrder a a
+  EqualUpToRowOrder-refl = record { rows = IsPermutation-refl a.rows; rest = refl }
 
-module _ (a b : State) (agrees : Agrees a b) where
+module _ (a b : State) (agrees : EqualUpToRowOrder a b) where
   -- what holds of b with the rows of a holds of a
   from_rows : (P : State → Type 0) → P (with_rows a.rows b) → P a
   from_rows P h = subst P (sym agrees.rest) h
 
-  pub Agrees-trans : (c : State) → Agrees b c → Agrees a c
-  Agrees-trans c other =
+  pub EqualUpToRowOrder-trans : (c : State) → EqualUpToRowOrder b c → EqualUpToRowOrder a c
+  EqualUpToRowOrder-trans c other =
       record {
         rows = IsPermutation-trans a.rows b.rows c.rows agrees.rows other.rows;
         rest = agrees.rest ∙ ap (with_rows a.rows) other.rest;
       }
 
-  pub Agrees-sym : Agrees b a
-  Agrees-sym = record { rows = IsPermutation-sym a.rows b.rows agrees.rows; rest = sym (ap (with_rows b.rows) agrees.rest) }
+  pub EqualUpToRowOrder-sym : EqualUpToRowOrder b a
+  EqualUpToRowOrder-sym = record { rows = IsPermutation-sym a.rows b.rows agrees.rows; rest = sym (ap (with_rows b.rows) agrees.rest) }
 
   pub IsDistinct-agrees : IsDistinct same_key a.rows → IsDistinct same_key b.rows
   IsDistinct-agrees h = IsDistinct-permutation same_key same_key_equiv a.rows b.rows agrees.rows h
@@ -202,8 +202,8 @@ module _ (a b : State) (agrees : Agrees a b) where
     pub reply-agrees : (config : Config) (id : ℕ) (c : Call) → reply config id a c ≡ reply config id b c
     reply-agrees config id c = from_rows (λ s. reply config id s c ≡ reply config id b c) (reply-rows config b a.rows agrees.rows apart id c)
 
-    pub after_call-agrees : (config : Config) (c : Call) → Agrees (after_call config a c) (after_call config b c)
-    after_call-agrees config c = from_rows (λ s. Agrees (after_call config s c) (after_call config b c)) (after_call-rows config b a.rows agrees.rows apart c)
+    pub after_call-agrees : (config : Config) (c : Call) → EqualUpToRowOrder (after_call config a c) (after_call config b c)
+    after_call-agrees config c = from_rows (λ s. EqualUpToRowOrder (after_call config s c) (after_call config b c)) (after_call-rows config b a.rows agrees.rows apart c)
 
     pub begin_cause-agrees : (config : Config) (records t : ℕ) → begin_cause config records a t ≡ begin_cause config records b t
     begin_cause-agrees config records t = from_rows (λ s. begin_cause config records s t ≡ begin_cause config records b t) (begin_cause-rows config b a.rows agrees.rows apart records t)
@@ -211,8 +211,8 @@ module _ (a b : State) (agrees : Agrees a b) where
     pub asked_of-agrees : (config : Config) (t : ℕ) (g : GroupState) → asked_of config a t g ≡ asked_of config b t g
     asked_of-agrees config t g = from_rows (λ s. asked_of config s t g ≡ asked_of config b t g) (asked_of-rows config b a.rows agrees.rows apart t g)
 
-    pub outlook_at-agrees : (config : Config) (t : ℕ) → outlook_at config a t ≡ outlook_at config b t
-    outlook_at-agrees config t = from_rows (λ s. outlook_at config s t ≡ outlook_at config b t) (outlook_at-rows config b a.rows agrees.rows apart t)
+    pub preview_at-agrees : (config : Config) (t : ℕ) → preview_at config a t ≡ preview_at config b t
+    preview_at-agrees config t = from_rows (λ s. preview_at config s t ≡ preview_at config b t) (preview_at-rows config b a.rows agrees.rows apart t)
 
     pub row_views-agrees : row_views a ≡ row_views b
     row_views-agrees = in_order-rows a.rows b.rows agrees.rows apart

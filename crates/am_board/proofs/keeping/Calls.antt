@@ -16,18 +16,18 @@ use Rattle.am_board.specs.Board.{IsSound}
 use Rattle.am_model.specs.Causes.{is_full, asked_cause, notice_cause, flush_cause}
 use Rattle.am_model.specs.Notice.{NoticeData}
 use Rattle.am_model.specs.Ticket.{TicketData, outcome_of}
-use Rattle.am_board.specs.History.{BoardData, KeepsLimits, IsToldAt, with_record, state_at}
+use Rattle.am_board.specs.History.{BoardData, KeepsLimits, IsReplyAt, with_record, state_at}
 use Rattle.am_model.specs.Records.{IsNoteOf, entry}
-use Rattle.am_board.specs.Kept.{state_of}
+use Rattle.am_board.specs.Refinement.{state_of}
 use Rattle.am_model.specs.Note.{is_ready, asked_by, may_note, with_note, after_note, after_note_of}
 use Rattle.am_model.specs.Replay.{after, after_call, replay}
 use Rattle.am_model.specs.State.{AskedState, FlushState, State, moment, at_moment, flush_numbered}
 use Rattle.am_retry.specs.declared.outcome.Outcome.{Outcome}
-use Rattle.am_board.specs.Step.{Accepts, Stays, IsAnswer, IsCaused}
+use Rattle.am_board.specs.Step.{AppliesCall, LeavesUnchanged, IsAnswer, IsCaused}
 use Rattle.am_model.proofs.legal.FewGroups.{IsInsert}
 use Rattle.am_model.proofs.legal.FewKnown.{IsSilence}
 use Rattle.am_model.specs.Begin.{next_due}
-use Rattle.am_board.proofs.keeping.Agreeing.{row_views-agrees, group_views-agrees, next_due-agrees, outlook_at-agrees, summary_at-agrees}
+use Rattle.am_board.proofs.keeping.Agreeing.{row_views-agrees, group_views-agrees, next_due-agrees, preview_at-agrees, summary_at-agrees}
 use Rattle.am_model.specs.Views.{row_views, group_cmp, group_view, group_views, summary_at, summary}
 use Rattle.am_model.specs.Lists.{in_order}
 use Rattle.am_model.specs.declared.views.GroupView.{GroupView}
@@ -36,10 +36,10 @@ use Rattle.std.proofs.lemmas.List.Sorted.{length_permutation}
 use Rattle.std.proofs.lemmas.List.Sorted.{All-permutation, IsPermutation-sym}
 use Rattle.am_alerts.specs.declared.limits.TheConstants.{MAX_MOMENT}
 use Rattle.am_model.specs.declared.views.RowView.{RowView}
-use Rattle.am_model.specs.look_back.Outlook.{outlook_at, outlook}
+use Rattle.am_model.specs.look_back.Preview.{preview_at, preview}
 use Rattle.am_board.specs.LogRows.{log_rows}
 use Rattle.am_model.proofs.legal.RowMoments.{rows-timely}
-use Rattle.am_model.proofs.looking_back.Outlooks.{outlook-found}
+use Rattle.am_model.proofs.looking_back.Previews.{preview-found}
 use Rattle.am_model.proofs.lists.Distinct.{all_from}
 use Rattle.am_board.proofs.keeping.Sound.{IsFew, few_after, opened_now, counted, consistent_now, told_at, sound_then, sound_still}
 
@@ -61,30 +61,30 @@ room_of config records s more full other none apart =
     ] refl none
 
 -- how many flushes are open after an accepted call
-pub opened_then : (config : Config) (id : ℕ) (r : Record) (old new : kept.State) → Accepts config id r old new → vec_len new.flushes ≡ length (after config (state_of old) r).flushes
+pub opened_then : (config : Config) (id : ℕ) (r : Record) (old new : kept.State) → AppliesCall config id r old new → vec_len new.flushes ≡ length (after config (state_of old) r).flushes
 opened_then config id r old new accepts = opened_now new ∙ ap (λ (s : State). length s.flushes) accepts.state.rest
 
-module _ (b : Inside) (sound : IsSound b) (now : BoardData) (view_is : seen b b.state ≡ now) (new : kept.State) {T E : Type 0} (pass : ℕ) (call : Call) (told : T → Reply) (P : T → Type 0) (accepts : (x : T) → P x → Accepts b.config b.id (entry pass call (told x)) b.state new) (Q : E → Type 0) where
+module _ (b : Inside) (sound : IsSound b) (now : BoardData) (view_is : seen b b.state ≡ now) (new : kept.State) {T E : Type 0} (pass : ℕ) (call : Call) (told : T → Reply) (P : T → Type 0) (accepts : (x : T) → P x → AppliesCall b.config b.id (entry pass call (told x)) b.state new) (Q : E → Type 0) where
   -- an accepted call is recorded
-  pub recorded : (r : Result T E) → MatchResult r P (λ fault. Q fault × Stays b.config b.state new) → IfOk r (λ x. seen b new ≡ with_record now (entry pass call (told x)))
+  pub recorded : (r : Result T E) → MatchResult r P (λ fault. Q fault × LeavesUnchanged b.config b.state new) → IfOk r (λ x. seen b new ≡ with_record now (entry pass call (told x)))
   recorded (Ok x) h =
       subst (λ (d : BoardData). seen b new ≡ with_record d (entry pass call (told x))) view_is
       (ap (λ (items : List Record). record { config = b.config; id = b.id; history = items }) (accepts x h).history)
   recorded (Err fault) h = tt
 
   -- it was told what the definitions give
-  pub told_now : (r : Result T E) → MatchResult r P (λ fault. Q fault × Stays b.config b.state new) → IfOk r (λ x. IsToldAt now call (told x))
+  pub told_now : (r : Result T E) → MatchResult r P (λ fault. Q fault × LeavesUnchanged b.config b.state new) → IfOk r (λ x. IsReplyAt now call (told x))
   told_now (Ok x) h =
-      subst (λ (d : BoardData). IsToldAt d call (told x)) view_is (told_at b sound (entry pass call (told x)) new (accepts x h))
+      subst (λ (d : BoardData). IsReplyAt d call (told x)) view_is (told_at b sound (entry pass call (told x)) new (accepts x h))
   told_now (Err fault) h = tt
 
   -- a refused call changes nothing
-  pub refused : (r : Result T E) → MatchResult r P (λ fault. Q fault × Stays b.config b.state new) → OnErr r (seen b new ≡ now)
+  pub refused : (r : Result T E) → MatchResult r P (λ fault. Q fault × LeavesUnchanged b.config b.state new) → OnErr r (seen b new ≡ now)
   refused (Ok x) h = tt
   refused (Err fault) h = ap (λ (items : List Record). record { config = b.config; id = b.id; history = items }) h.1.history ∙ view_is
 
   -- the board is sound again
-  pub sound_again : ((x : T) → P x → IsWithin b.config (after_call b.config (state_of b.state) call) new) → (r : Result T E) → MatchResult r P (λ fault. Q fault × Stays b.config b.state new) → IsSound (record b { state = new })
+  pub sound_again : ((x : T) → P x → IsWithin b.config (after_call b.config (state_of b.state) call) new) → (r : Result T E) → MatchResult r P (λ fault. Q fault × LeavesUnchanged b.config b.state new) → IsSound (record b { state = new })
   sound_again within (Ok x) h =
       let limits : IsWithin b.config (after_call b.config (state_of b.state) call) new = within x h in
       sound_then b sound (entry pass call (told x)) new (accepts x h) limits.0 limits.1 limits.2
@@ -142,20 +142,20 @@ module _ (b : Inside) (sound : IsSound b) (now : BoardData) (view_is : seen b b.
   abbrev IsNoted : Type 0
   IsNoted =
       (flush_cause b.config (vec_len b.state.history) (state_of b.state) ticket place (flush_numbered (state_of b.state).flushes ticket.number) ≡ None)
-      × ((r : Record) × IsNoteOf pass at ticket place r × ((id : ℕ) → Accepts b.config id r b.state new))
+      × ((r : Record) × IsNoteOf pass at ticket place r × ((id : ℕ) → AppliesCall b.config id r b.state new))
 
-  pub noted_now : {T E : Type 0} (Q : E → Type 0) (result : Result T E) → MatchResult result (λ _. IsNoted) (λ fault. Q fault × Stays b.config b.state new)
-      → OnOk result ((r : Record) × IsNoteOf pass at ticket place r × (seen b new ≡ with_record now r) × IsToldAt now r.call r.reply)
+  pub noted_now : {T E : Type 0} (Q : E → Type 0) (result : Result T E) → MatchResult result (λ _. IsNoted) (λ fault. Q fault × LeavesUnchanged b.config b.state new)
+      → OnOk result ((r : Record) × IsNoteOf pass at ticket place r × (seen b new ≡ with_record now r) × IsReplyAt now r.call r.reply)
   noted_now Q (Ok x) h =
       let accepts = h.1.2 b.id in (
         h.1.0,
         h.1.1,
         subst (λ (d : BoardData). seen b new ≡ with_record d h.1.0) view_is (ap (λ (items : List Record). record { config = b.config; id = b.id; history = items }) accepts.history),
-        subst (λ (d : BoardData). IsToldAt d h.1.0.call h.1.0.reply) view_is (told_at b sound h.1.0 new accepts),
+        subst (λ (d : BoardData). IsReplyAt d h.1.0.call h.1.0.reply) view_is (told_at b sound h.1.0 new accepts),
       )
   noted_now Q (Err fault) h = tt
 
-  note_within : (r : Record) → IsNoteOf pass at ticket place r → Accepts b.config b.id r b.state new
+  note_within : (r : Record) → IsNoteOf pass at ticket place r → AppliesCall b.config b.id r b.state new
       → vec_len b.state.history + length (state_of b.state).flushes + 1 ≤ b.config.limits.history → IsWithin b.config (after b.config (state_of b.state) r) new
   note_within r is accepts room =
       let s : State = state_of b.state in
@@ -167,7 +167,7 @@ module _ (b : Inside) (sound : IsSound b) (now : BoardData) (view_is : seen b b.
       let few : IsFew b.config (after_call b.config s r.call) = few_after b sound r.call (ap (λ (x : Record). IsInsert x.call) is.2) (ap (λ (x : Record). IsSilence x.call) is.2) in
       (few, omega (arith, opened, called, same, before, sound.opened), omega (arith, opened, called, same, room, accepts.records))
 
-  pub sound_noted : {T E : Type 0} (Q : E → Type 0) (result : Result T E) → MatchResult result (λ _. IsNoted) (λ fault. Q fault × Stays b.config b.state new) → IsSound (record b { state = new })
+  pub sound_noted : {T E : Type 0} (Q : E → Type 0) (result : Result T E) → MatchResult result (λ _. IsNoted) (λ fault. Q fault × LeavesUnchanged b.config b.state new) → IsSound (record b { state = new })
   sound_noted Q (Ok x) h =
       let accepts = h.1.2 b.id in
       let room = note_room b.config (vec_len b.state.history) (state_of b.state) ticket place (flush_numbered (state_of b.state).flushes ticket.number) h.0 in
@@ -183,12 +183,12 @@ module _ (b : Inside) (sound : IsSound b) (now : BoardData) (view_is : seen b b.
       subst (λ (d : BoardData). row_views (state_of b.state) ≡ row_views (state_at d)) view_is
       (row_views-agrees (state_of b.state) (replay b.config b.state.history.items) sound.agrees (consistent_now b sound).rows)
 
-  pub outlook_now : (at : ℕ) → outlook_at b.config (state_of b.state) (moment (state_of b.state) at) ≡ outlook now.config now.history at
-  outlook_now at =
+  pub preview_now : (at : ℕ) → preview_at b.config (state_of b.state) (moment (state_of b.state) at) ≡ preview now.config now.history at
+  preview_now at =
       let replayed = replay b.config b.state.history.items in
-      subst (λ (d : BoardData). outlook_at b.config (state_of b.state) (moment (state_of b.state) at) ≡ outlook d.config d.history at) view_is
-      (outlook_at-agrees (state_of b.state) replayed sound.agrees (consistent_now b sound).rows b.config (moment (state_of b.state) at)
-      ∙ (ap (λ (s : State). outlook_at b.config replayed (moment s at)) sound.agrees.rest ∙ outlook-found b.config b.id b.state.history.items at sound.legal))
+      subst (λ (d : BoardData). preview_at b.config (state_of b.state) (moment (state_of b.state) at) ≡ preview d.config d.history at) view_is
+      (preview_at-agrees (state_of b.state) replayed sound.agrees (consistent_now b sound).rows b.config (moment (state_of b.state) at)
+      ∙ (ap (λ (s : State). preview_at b.config replayed (moment s at)) sound.agrees.rest ∙ preview-found b.config b.id b.state.history.items at sound.legal))
 
   -- no row of the log is of a moment after the greatest
   pub rows_timely : All (λ row. row.moment ≤ MAX_MOMENT) (log_rows b.state.log)

@@ -14,11 +14,11 @@ use Rattle.am_model.specs.declared.record.Reply.TheVariants as replies
 use Rattle.am_board.specs.declared.state.State as kept
 use Rattle.am_board.specs.Board.{IsSound}
 use Rattle.am_model.specs.Ticket.{TicketData}
-use Rattle.am_board.specs.History.{BoardData, IsToldAt, with_record, state_at}
+use Rattle.am_board.specs.History.{BoardData, IsReplyAt, with_record, state_at}
 use Rattle.am_model.specs.Records.{entry}
-use Rattle.am_board.specs.Kept.{flush_state}
+use Rattle.am_board.specs.Refinement.{flush_state}
 use Rattle.am_model.specs.State.{FlushState, State, flush_numbered}
-use Rattle.am_board.specs.Step.{IsGood, Accepts}
+use Rattle.am_board.specs.Step.{StateInvariant, AppliesCall}
 use Rattle.am_model.proofs.lists.Alone.{find-mapped, find-no_position}
 use Rattle.am_board.proofs.keeping.Calls.{recorded, told_now}
 use Rattle.am_board.proofs.keeping.Sound.{few_after, good, sound_then}
@@ -44,14 +44,14 @@ module _ (b : Inside) (sound : IsSound b) (now : BoardData) (view_is : record { 
 
   module _ (new : kept.State) (pass at f number : ℕ) (outcomes : List (ℕ × Outcome)) (ticket : TicketData) (is_number : number ≡ ticket.number) (is_outcomes : outcomes ≡ ticket.outcomes) (x : Finished)
       (found : Some f ≡ position (λ (flush : OpenFlush). flush.number == number) b.state.flushes.items)
-      (accepts : (config : Config) → IsGood config b.state → (id : ℕ) → (o : OpenFlush) → Accepts config id (entry pass (Finish at (get_or b.state.flushes.items f o).number outcomes) (replies.Finished x)) b.state new) where
-    accepted : Accepts b.config b.id (entry pass (Finish at ticket.number ticket.outcomes) (replies.Finished x)) b.state new
+      (accepts : (config : Config) → StateInvariant config b.state → (id : ℕ) → (o : OpenFlush) → AppliesCall config id (entry pass (Finish at (get_or b.state.flushes.items f o).number outcomes) (replies.Finished x)) b.state new) where
+    accepted : AppliesCall b.config b.id (entry pass (Finish at ticket.number ticket.outcomes) (replies.Finished x)) b.state new
     accepted =
         let o = first_of (λ (flush : OpenFlush). flush.number == number) b.state.flushes.items f (sym found) in
         let there = position-Some (λ (flush : OpenFlush). flush.number == number) b.state.flushes.items f o (sym found) in
         let same : (get_or b.state.flushes.items f o).number ≡ ticket.number = eqb-true (get_or b.state.flushes.items f o).number number there.1 ∙ is_number in
-        subst (λ n. Accepts b.config b.id (entry pass (Finish at n ticket.outcomes) (replies.Finished x)) b.state new) same
-        (subst (λ os. Accepts b.config b.id (entry pass (Finish at (get_or b.state.flushes.items f o).number os) (replies.Finished x)) b.state new) is_outcomes
+        subst (λ n. AppliesCall b.config b.id (entry pass (Finish at n ticket.outcomes) (replies.Finished x)) b.state new) same
+        (subst (λ os. AppliesCall b.config b.id (entry pass (Finish at (get_or b.state.flushes.items f o).number os) (replies.Finished x)) b.state new) is_outcomes
         (accepts b.config (good b sound) b.id o))
 
     abbrev call : Call
@@ -59,11 +59,11 @@ module _ (b : Inside) (sound : IsSound b) (now : BoardData) (view_is : record { 
 
     pub finish_recorded : record { config = b.config; id = b.id; history = new.history.items } ≡ with_record now (entry pass call (replies.Finished x))
     finish_recorded =
-        recorded b sound now view_is new pass call replies.Finished (λ y. Accepts b.config b.id (entry pass call (replies.Finished y)) b.state new) (λ y h. h) (λ (e : ℕ). Unit {0}) (Ok x) accepted
+        recorded b sound now view_is new pass call replies.Finished (λ y. AppliesCall b.config b.id (entry pass call (replies.Finished y)) b.state new) (λ y h. h) (λ (e : ℕ). Unit {0}) (Ok x) accepted
 
-    pub finish_told : IsToldAt now call (replies.Finished x)
+    pub finish_told : IsReplyAt now call (replies.Finished x)
     finish_told =
-        told_now b sound now view_is new pass call replies.Finished (λ y. Accepts b.config b.id (entry pass call (replies.Finished y)) b.state new) (λ y h. h) (λ (e : ℕ). Unit {0}) (Ok x) accepted
+        told_now b sound now view_is new pass call replies.Finished (λ y. AppliesCall b.config b.id (entry pass call (replies.Finished y)) b.state new) (λ y h. h) (λ (e : ℕ). Unit {0}) (Ok x) accepted
 
     pub finish_sound : vec_len new.flushes + 1 ≡ vec_len b.state.flushes → IsSound (record b { state = new })
     finish_sound closed =

@@ -8,7 +8,7 @@ use Rattle.am_board.specs.declared.group.Group.{Group}
 use Rattle.am_model.specs.declared.group.GroupName.{GroupName}
 use Rattle.std.proofs.lemmas.List.Elements.{All-append, All-cons, All-nil}
 use Rattle.am_alerts.specs.RoutingTree.{RoutingTree}
-use Rattle.am_board.specs.Kept.{group_state}
+use Rattle.am_board.specs.Refinement.{group_state}
 use Rattle.am_board.specs.Group.{names_of, AreRouted, AddsAtMost, HasRoom, Fits}
 
 -- one group is replaced by one of its name

@@ -7,7 +7,7 @@ use Rattle.indexmap.specs.IndexMap.{insert_entry}
 use Rattle.indexmap.specs.Layout.{set_value_at}
 use Rattle.indexmap.proofs.MapLemmas.{insert_entry-first, Found-position}
 use Rattle.am_board.specs.Keyed.{AreKeyed}
-use Rattle.am_model.specs.Lists.{put_in}
+use Rattle.am_model.specs.Lists.{upsert}
 
 -- what a value that is there tells of its place
 pub value_at : {X : Type 0} (xs : List X) (i : ℕ) (x : X) → slice_get xs i ≡ Some x → (x ≡ get_or xs i x) × (i < length xs)
@@ -70,14 +70,14 @@ module _ {K X : Type 0} (eq : K → K → Bool) (key : X → K) where
       λ j. cond (ltb (place_or_len k es h j) (same_length es j)) (Some (place_or_len k es h j)) None
 
   -- an insert under its key puts a value in
-  pub put_in-entries : (x : X) (es : List (K × X)) → AreKeyed key es → values_of (insert_entry eq es (key x) x) ≡ put_in same_key x (values_of es)
-  put_in-entries x [] h = refl
-  put_in-entries x (e ∷ es) h =
-      elim (eq (key x) e.0) as (λ b. values_of (cond b ((e.0, x) ∷ es) (e ∷ insert_entry eq es (key x) x)) ≡ cond b (x ∷ values_of es) (e.1 ∷ put_in same_key x (values_of es))) [
+  pub upsert-entries : (x : X) (es : List (K × X)) → AreKeyed key es → values_of (insert_entry eq es (key x) x) ≡ upsert same_key x (values_of es)
+  upsert-entries x [] h = refl
+  upsert-entries x (e ∷ es) h =
+      elim (eq (key x) e.0) as (λ b. values_of (cond b ((e.0, x) ∷ es) (e ∷ insert_entry eq es (key x) x)) ≡ cond b (x ∷ values_of es) (e.1 ∷ upsert same_key x (values_of es))) [
         | true ↦ refl
-        | false ↦ ap (λ xs. e.1 ∷ xs) (put_in-entries x es (All-tail IsKeyed e es h))
+        | false ↦ ap (λ xs. e.1 ∷ xs) (upsert-entries x es (All-tail IsKeyed e es h))
       ]
-      ∙ ap (λ k. cond (eq (key x) k) (x ∷ values_of es) (e.1 ∷ put_in same_key x (values_of es))) (All-head IsKeyed e es h)
+      ∙ ap (λ k. cond (eq (key x) k) (x ∷ values_of es) (e.1 ∷ upsert same_key x (values_of es))) (All-head IsKeyed e es h)
 
   -- a value that is written where its key is found is an insert under its key
   pub set-insert : (x : X) (es : List (K × X)) (i : ℕ) → AreKeyed key es → Some i ≡ position (eq (key x)) (keys_of es) → set_value_at es i x ≡ insert_entry eq es (key x) x

@@ -10,14 +10,14 @@ use Rattle.am_model.specs.declared.config.Config.{Config}
 use Rattle.am_model.specs.declared.record.Call.{Call}
 use Rattle.am_model.specs.declared.record.Call.TheVariants.{Insert, Silence, Begin, Finish, Maintain, Note}
 use Rattle.am_model.specs.Insert.{same_alert}
-use Rattle.am_model.specs.Lists.{put_in}
+use Rattle.am_model.specs.Lists.{upsert}
 use Rattle.am_model.specs.Replay.{after_call}
 use Rattle.am_model.specs.State.{State}
 use Rattle.am_model.proofs.legal.FewKnown.{known_others}
 
 module _ (alert : AlertData) where
   abbrev pub put : List AlertData → List AlertData
-  put known = put_in same_alert alert known
+  put known = upsert same_alert alert known
 
   pub no_fewer : (known : List AlertData) → length known ≤ length (put known)
   no_fewer [] = omega arith

@@ -22,20 +22,20 @@ use Rattle.am_model.specs.Begin.{taken, asked_of, flush_asking, after_asking, af
 use Rattle.am_model.specs.Causes.{is_name_too_many, is_silence_too_many, insert_cause, silence_cause, begin_cause, maintain_cause, asks_some, opens_by}
 use Rattle.am_board.specs.History.{BoardData, calls_at, state_at, reply_of}
 use Rattle.am_model.specs.Records.{call_of_silence, entry}
-use Rattle.am_board.specs.Kept.{state_of}
+use Rattle.am_board.specs.Refinement.{state_of}
 use Rattle.am_model.specs.Insert.{same_alert}
 use Rattle.am_model.specs.Replay.{replay, after_call}
 use Rattle.am_model.specs.Upkeep.{same_silence}
 use Rattle.am_model.specs.State.{GroupState, State, moment}
-use Rattle.am_board.specs.Step.{Accepts}
+use Rattle.am_board.specs.Step.{AppliesCall}
 use Rattle.am_board.proofs.keeping.Agreeing.{insert_cause-agrees, silence_cause-agrees, maintain_cause-agrees, begin_cause-agrees}
 use Rattle.am_model.proofs.legal.FewGroups.{few_inserted}
-use Rattle.am_model.proofs.legal.FewKnown.{fits-put_in, neither_cause}
+use Rattle.am_model.proofs.legal.FewKnown.{fits-upsert, neither_cause}
 use Rattle.am_board.proofs.keeping.Calls.{IsWithin, room_of, opened_then}
 use Rattle.am_board.proofs.keeping.Sound.{IsFew, few_after, opened_now, counted, consistent_now}
 
 -- a call that opens no flush passes no limit, where the history has room for one record more
-keeps_within : (b : Inside) (sound : IsSound b) (pass : ℕ) (call : Call) (reply : Reply) (new : kept.State) → Accepts b.config b.id (entry pass call reply) b.state new
+keeps_within : (b : Inside) (sound : IsSound b) (pass : ℕ) (call : Call) (reply : Reply) (new : kept.State) → AppliesCall b.config b.id (entry pass call reply) b.state new
     → length (after_call b.config (state_of b.state) call).flushes ≤ length (state_of b.state).flushes
     → vec_len b.state.history + length (state_of b.state).flushes + 1 ≤ b.config.limits.history
     → IsFew b.config (after_call b.config (state_of b.state) call)
@@ -47,25 +47,25 @@ keeps_within b sound pass call reply new accepts few room still =
 
 module _ (b : Inside) (sound : IsSound b) (pass now : ℕ) (new : kept.State) where
   pub insert_within : (alert : AlertData) (x : Inserted) → insert_cause b.config (vec_len b.state.history) (state_of b.state) alert ≡ None
-      → Accepts b.config b.id (entry pass (Insert now alert) (replies.Inserted x)) b.state new → IsWithin b.config (after_call b.config (state_of b.state) (Insert now alert)) new
+      → AppliesCall b.config b.id (entry pass (Insert now alert) (replies.Inserted x)) b.state new → IsWithin b.config (after_call b.config (state_of b.state) (Insert now alert)) new
   insert_within alert x none accepts =
       let s : State = state_of b.state in
       let parts = room_of b.config (vec_len b.state.history) s 1 (Some HistoryFull) _ none (λ h. absurd (cc)) in
       let names = neither_cause (is_name_too_many b.config s alert) TooManyNames _ parts.1 in
       keeps_within b sound pass (Insert now alert) (replies.Inserted x) new accepts (omega arith) parts.0
-      (fits-put_in same_alert alert s.known b.config.limits.names sound.names names.0, few_inserted b.config s (moment s now) alert (is_name_too_many b.config s alert) parts.1, sound.silences)
+      (fits-upsert same_alert alert s.known b.config.limits.names sound.names names.0, few_inserted b.config s (moment s now) alert (is_name_too_many b.config s alert) parts.1, sound.silences)
 
   pub silence_within : (silence : SilenceData) (x : Silenced) → silence_cause b.config (vec_len b.state.history) (state_of b.state) silence ≡ None
-      → Accepts b.config b.id (entry pass (call_of_silence now silence) (replies.Silenced x)) b.state new → IsWithin b.config (after_call b.config (state_of b.state) (call_of_silence now silence)) new
+      → AppliesCall b.config b.id (entry pass (call_of_silence now silence) (replies.Silenced x)) b.state new → IsWithin b.config (after_call b.config (state_of b.state) (call_of_silence now silence)) new
   silence_within silence x none accepts =
       let parts = room_of b.config (vec_len b.state.history) (state_of b.state) 1 (Some HistoryFull) _ none (λ h. absurd (cc)) in
       let few = neither_cause (is_silence_too_many b.config (state_of b.state) silence) TooManySilences None parts.1 in
       keeps_within b sound pass (call_of_silence now silence) (replies.Silenced x) new accepts (omega arith)
       parts.0
-      (sound.names, sound.groups, fits-put_in same_silence silence (state_of b.state).silences b.config.limits.silences sound.silences few.0)
+      (sound.names, sound.groups, fits-upsert same_silence silence (state_of b.state).silences b.config.limits.silences sound.silences few.0)
 
   pub maintain_within : (x : Maintained) → maintain_cause b.config (vec_len b.state.history) (state_of b.state) ≡ None
-      → Accepts b.config b.id (entry pass (Maintain now) (replies.Maintained x)) b.state new → IsWithin b.config (after_call b.config (state_of b.state) (Maintain now)) new
+      → AppliesCall b.config b.id (entry pass (Maintain now) (replies.Maintained x)) b.state new → IsWithin b.config (after_call b.config (state_of b.state) (Maintain now)) new
   maintain_within x none accepts =
       keeps_within b sound pass (Maintain now) (replies.Maintained x) new accepts (omega arith)
       (room_of b.config (vec_len b.state.history) (state_of b.state) 1 (Some HistoryFull) None none (λ h. absurd (cc))).0
@@ -92,7 +92,7 @@ fits_taking config s t None few none = (few, omega arith)
 fits_taking config s t (Some g) few none = fits_asking config s t g (asked_of config s t g) few none
 
 pub begin_within : (b : Inside) (sound : IsSound b) (pass now : ℕ) (new : kept.State) (x : Begun) → begin_cause b.config (vec_len b.state.history) (state_of b.state) (moment (state_of b.state) now) ≡ None
-    → Accepts b.config b.id (entry pass (Begin now) (reply_of x)) b.state new → IsWithin b.config (after_call b.config (state_of b.state) (Begin now)) new
+    → AppliesCall b.config b.id (entry pass (Begin now) (reply_of x)) b.state new → IsWithin b.config (after_call b.config (state_of b.state) (Begin now)) new
 begin_within b sound pass now new x none accepts =
     let s : State = state_of b.state in
     let t : ℕ = moment s now in

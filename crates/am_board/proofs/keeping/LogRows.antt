@@ -22,7 +22,7 @@ use Rattle.am_model.specs.Upkeep.{has_expired}
 use Rattle.am_model.specs.declared.group.GroupName.{GroupName}
 use Rattle.am_model.specs.declared.views.RowView.{RowView}
 use Rattle.am_board.specs.LogRows.{row_under, log_rows}
-use Rattle.am_model.proofs.lists.Exchanges.{find-permutation, put_in-permutation, count_by-permutation, without-permutation}
+use Rattle.am_model.proofs.lists.Exchanges.{find-permutation, upsert-permutation, count_by-permutation, without-permutation}
 use Rattle.am_model.proofs.lists.Distinct.{IsDistinct-nil}
 use Rattle.am_model.proofs.states.Alike.{same_key_equiv, same_name-is, same_name_equiv}
 
@@ -106,7 +106,7 @@ put_rows : (log : Slots GroupName (List Label)) (rows : List RowView) (key : Log
     → IsPermutation (log_rows (with_row same_name log key row)) (log_with (row_under (key, row)) rows)
 put_rows log rows key row h known moved =
     IsPermutation-trans (log_rows (with_row same_name log key row)) (log_with (row_under (key, row)) (log_rows log)) (log_with (row_under (key, row)) rows) (put_row log key row h known)
-    (put_in-permutation same_key same_key_equiv (row_under (key, row)) (log_rows log) rows moved (distinct_rows log h))
+    (upsert-permutation same_key same_key_equiv (row_under (key, row)) (log_rows log) rows moved (distinct_rows log h))
 
 -- ---- the rows that are collected
 

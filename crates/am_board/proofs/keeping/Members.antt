@@ -13,17 +13,17 @@ use Rattle.am_alerts.specs.Labels.{same_label_set}
 use Rattle.am_alerts.specs.LabelOrder.{same_label_set-decides}
 use Rattle.am_alerts.specs.declared.labels.Label.{Label}
 use Rattle.am_model.specs.Insert.{same_member}
-use Rattle.am_model.specs.Lists.{put_in, without}
+use Rattle.am_model.specs.Lists.{upsert, without}
 use Rattle.am_model.specs.State.{MemberState}
 use Rattle.am_model.proofs.lists.Distinct.{all_from, all_to}
 use Rattle.am_model.proofs.lists.Removals.{map-without, count-without}
-use Rattle.am_model.proofs.lists.Words.{all-put_in}
+use Rattle.am_model.proofs.lists.Words.{all-upsert}
 use Rattle.am_board.specs.Keyed.{AreKeyed}
-use Rattle.am_board.specs.Kept.{member_state}
+use Rattle.am_board.specs.Refinement.{member_state}
 use Rattle.am_board.specs.Members.{labels_of, AreMembers}
 use Rattle.am_board.specs.Order.{IsOrder, places_in_order}
 use Rattle.am_board.specs.declared.group.Member.{Member}
-use Rattle.am_board.proofs.keeping.Keyed.{same_key, length-values, values-filter, put_in-entries, AreKeyed-filter, AreKeyed-insert}
+use Rattle.am_board.proofs.keeping.Keyed.{same_key, length-values, values-filter, upsert-entries, AreKeyed-filter, AreKeyed-insert}
 
 abbrev IsLabelled : (List Label × Member) → Type 0
 IsLabelled e = e.0 ≡ labels_of e.1
@@ -41,26 +41,26 @@ are_none es none =
 
 -- ---- one is put in
 
-states-put : (m : Member) (ms : List Member) → map member_state (put_in like m ms) ≡ put_in same_member (member_state m) (map member_state ms)
+states-put : (m : Member) (ms : List Member) → map member_state (upsert like m ms) ≡ upsert same_member (member_state m) (map member_state ms)
 states-put m [] = refl
 states-put m (n ∷ ms) =
-    elim (like m n) as (λ b. map member_state (cond b (m ∷ ms) (n ∷ put_in like m ms)) ≡ cond b (member_state m ∷ map member_state ms) (member_state n ∷ put_in same_member (member_state m) (map member_state ms))) [
+    elim (like m n) as (λ b. map member_state (cond b (m ∷ ms) (n ∷ upsert like m ms)) ≡ cond b (member_state m ∷ map member_state ms) (member_state n ∷ upsert same_member (member_state m) (map member_state ms))) [
       | true ↦ refl
       | false ↦ ap (λ ns. member_state n ∷ ns) (states-put m ms)
     ]
 
 module _ (m : Member) (es : List (List Label × Member)) (h : AreMembers es) where
-  values_put : values_of (insert_entry same_label_set es m.alert.labels m) ≡ put_in like m (values_of es)
-  values_put = put_in-entries same_label_set labels_of m es h.keyed
+  values_put : values_of (insert_entry same_label_set es m.alert.labels m) ≡ upsert like m (values_of es)
+  values_put = upsert-entries same_label_set labels_of m es h.keyed
 
   pub are_put : m.leaves ≡ false → AreMembers (insert_entry same_label_set es m.alert.labels m)
   are_put off =
       record {
         keyed = AreKeyed-insert same_label_set labels_of (λ k l. (same_label_set-decides k l).0) m es h.keyed;
-        unmarked = subst (All IsUnmarked) (sym values_put) (all_from IsUnmarked (put_in like m (values_of es)) (all-put_in like m IsUnmarked (values_of es) off (all_to IsUnmarked (values_of es) h.unmarked)));
+        unmarked = subst (All IsUnmarked) (sym values_put) (all_from IsUnmarked (upsert like m (values_of es)) (all-upsert like m IsUnmarked (values_of es) off (all_to IsUnmarked (values_of es) h.unmarked)));
       }
 
-  pub members_put : map member_state (values_of (insert_entry same_label_set es m.alert.labels m)) ≡ put_in same_member (member_state m) (map member_state (values_of es))
+  pub members_put : map member_state (values_of (insert_entry same_label_set es m.alert.labels m)) ≡ upsert same_member (member_state m) (map member_state (values_of es))
   members_put = ap (map member_state) values_put ∙ states-put m (values_of es)
 
 -- ---- some are taken out

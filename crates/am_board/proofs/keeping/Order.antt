@@ -26,7 +26,7 @@ use Rattle.am_model.specs.Lists.{put_in_order, in_order}
 use Rattle.am_model.specs.State.{MemberState}
 use Rattle.am_model.proofs.lists.Distinct.{IsDistinct-told, IsDistinct-unmap}
 use Rattle.am_model.proofs.lists.InOrder.{sort_by_is_in_order, in_order-ascends, in_order-map}
-use Rattle.am_board.specs.Kept.{member_state}
+use Rattle.am_board.specs.Refinement.{member_state}
 use Rattle.am_board.specs.Members.{labels_of}
 use Rattle.am_board.specs.Order.{member_cmp, place_cmp, places_in_order}
 use Rattle.am_board.specs.declared.group.Member.{Member}

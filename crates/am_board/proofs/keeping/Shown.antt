@@ -13,7 +13,7 @@ use Rattle.am_nflog.specs.declared.row.LogRow.{LogRow}
 use Rattle.am_board.specs.declared.group.Group.{Group}
 use Rattle.am_model.specs.declared.group.GroupName.{GroupName}
 use Rattle.am_board.specs.declared.group.Member.{Member}
-use Rattle.am_board.specs.Kept.{member_state, group_state}
+use Rattle.am_board.specs.Refinement.{member_state, group_state}
 use Rattle.am_board.specs.LogRows.{row_under, log_rows}
 use Rattle.am_model.specs.State.{GroupState}
 use Rattle.am_model.specs.Views.{group_view}

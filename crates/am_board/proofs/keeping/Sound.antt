@@ -11,7 +11,7 @@ use Rattle.am_model.specs.declared.config.Config.{Config}
 use Rattle.am_board.specs.declared.group.Group.{Group}
 use Rattle.am_model.specs.declared.group.GroupName.{GroupName}
 use Rattle.am_model.specs.Config.{AreAllowed, config_fault}
-use Rattle.am_board.specs.Destinations.{AreKept}
+use Rattle.am_board.specs.GroupNameCache.{AreKept}
 use Rattle.am_board.specs.Group.{names_of, AreRouted}
 use Rattle.std.proofs.lemmas.List.{length-map}
 use Rattle.am_board.specs.declared.board.Board.TheInside.{Inside}
@@ -20,14 +20,14 @@ use Rattle.am_model.specs.declared.record.Call.{Call}
 use Rattle.am_model.specs.declared.record.Record.{Record}
 use Rattle.am_board.specs.declared.state.State as kept
 use Rattle.am_board.specs.Board.{IsSound}
-use Rattle.am_board.specs.Kept.{state_of, flush_state, Agrees, IsNew, IsPrepared}
+use Rattle.am_board.specs.Refinement.{state_of, flush_state, EqualUpToRowOrder, IsNew, IsPrepared}
 use Rattle.am_model.specs.Laws.{IsConsistent}
 use Rattle.am_model.specs.Replay.{reply, after, after_call, replay, IsLegal}
 use Rattle.am_model.specs.State.{State, opening_state}
-use Rattle.am_board.specs.Step.{IsGood, Accepts, Stays}
-use Rattle.am_board.proofs.keeping.Destinations.{kept_after}
+use Rattle.am_board.specs.Step.{StateInvariant, AppliesCall, LeavesUnchanged}
+use Rattle.am_board.proofs.keeping.GroupNameCache.{kept_after}
 use Rattle.am_board.proofs.keeping.Learnt.{learnt_after}
-use Rattle.am_board.proofs.keeping.Agreeing.{Agrees-refl, Agrees-trans, IsConsistent-agrees, reply-agrees, after_call-agrees}
+use Rattle.am_board.proofs.keeping.Agreeing.{EqualUpToRowOrder-refl, EqualUpToRowOrder-trans, IsConsistent-agrees, reply-agrees, after_call-agrees}
 use Rattle.am_model.proofs.legal.Bounded.{IsBounded, bounded}
 use Rattle.am_model.proofs.legal.Consistent.{consistent_replay}
 use Rattle.am_model.proofs.legal.FewGroups.{IsInsert, few_others}
@@ -66,7 +66,7 @@ module _ (b : Inside) (sound : IsSound b) where
   counted = b.state.history.ok.0
 
   -- each call may rely on what holds of a board
-  pub good : IsGood b.config b.state
+  pub good : StateInvariant b.config b.state
   good =
       let few : IsBounded b.config (length b.state.history.items) replayed = bounded b.config b.state.history.items in
       let inserts : b.state.inserts ≡ replayed.inserts = ap (λ (s : State). s.inserts) sound.agrees.rest in
@@ -91,7 +91,7 @@ module _ (b : Inside) (sound : IsSound b) where
   pub few_inserts : b.state.inserts ≤ MAX_HISTORY
   few_inserts = omega (arith, good.inserts, sound.kept, sound.limits.history.1)
 
-  module _ (r : Record) (new : kept.State) (accepts : Accepts b.config b.id r b.state new) where
+  module _ (r : Record) (new : kept.State) (accepts : AppliesCall b.config b.id r b.state new) where
     -- the reply is the one that the definitions give at the state after the history
     pub told_at : reply b.config b.id replayed r.call ≡ Some r.reply
     told_at = sym (reply-agrees (state_of b.state) replayed sound.agrees consistent_now.rows b.config b.id r.call) ∙ accepts.told
@@ -103,11 +103,11 @@ module _ (b : Inside) (sound : IsSound b) where
         ((legal_appends b.config b.id b.state.history.items r).1 (sound.legal, told_at))
 
     -- the state is the replay of the history with the record
-    pub agrees_then : Agrees (state_of new) (replay b.config new.history.items)
+    pub agrees_then : EqualUpToRowOrder (state_of new) (replay b.config new.history.items)
     agrees_then =
-        let step : Agrees (after b.config (state_of b.state) r) (after b.config replayed r) = after_call-agrees (state_of b.state) replayed sound.agrees consistent_now.rows b.config r.call in
-        subst (Agrees (state_of new)) (sym (replay_appends b.config b.state.history.items r) ∙ sym (ap (replay b.config) accepts.history))
-        (Agrees-trans (state_of new) (after b.config (state_of b.state) r) accepts.state (after b.config replayed r) step)
+        let step : EqualUpToRowOrder (after b.config (state_of b.state) r) (after b.config replayed r) = after_call-agrees (state_of b.state) replayed sound.agrees consistent_now.rows b.config r.call in
+        subst (EqualUpToRowOrder (state_of new)) (sym (replay_appends b.config b.state.history.items r) ∙ sym (ap (replay b.config) accepts.history))
+        (EqualUpToRowOrder-trans (state_of new) (after b.config (state_of b.state) r) accepts.state (after b.config replayed r) step)
 
     fewer : IsFew b.config (after b.config (state_of b.state) r) → IsFew b.config (state_of new)
     fewer = subst (IsFew b.config) (sym accepts.state.rest)
@@ -134,7 +134,7 @@ module _ (b : Inside) (sound : IsSound b) where
           destinations = subst (λ (s : State). AreKept b.config s.known b.destinations) (sym accepts.state.rest) (kept_after b.config (state_of b.state) r.call b.destinations sound.destinations);
         }
 
-  module _ (new : kept.State) (stays : Stays b.config b.state new) where
+  module _ (new : kept.State) (stays : LeavesUnchanged b.config b.state new) where
     same_opened : vec_len new.flushes ≡ vec_len b.state.flushes
     same_opened = opened_now new ∙ (ap (λ (s : State). length s.flushes) stays.state ∙ sym (opened_now b.state))
 
@@ -146,7 +146,7 @@ module _ (b : Inside) (sound : IsSound b) where
           configured = sound.configured;
           children = sound.children;
           legal = subst (IsLegal b.config b.id) (sym stays.history) sound.legal;
-          agrees = subst (λ (s : State). Agrees s (replay b.config new.history.items)) (sym stays.state) (subst (λ (h : List Record). Agrees (state_of b.state) (replay b.config h)) (sym stays.history) sound.agrees);
+          agrees = subst (λ (s : State). EqualUpToRowOrder s (replay b.config new.history.items)) (sym stays.state) (subst (λ (h : List Record). EqualUpToRowOrder (state_of b.state) (replay b.config h)) (sym stays.history) sound.agrees);
           names = subst (λ (s : State). length s.known ≤ b.config.limits.names) (sym stays.state) sound.names;
           groups = subst (λ (s : State). length s.groups ≤ b.config.limits.groups) (sym stays.state) sound.groups;
           silences = subst (λ (s : State). length s.silences ≤ b.config.limits.silences) (sym stays.state) sound.silences;
@@ -190,7 +190,7 @@ new_sound config id s sources destinations learnt names configured children limi
       configured = configured;
       children = children;
       legal = subst (IsLegal config id) (sym new.history) tt;
-      agrees = subst (λ (h : List Record). Agrees (state_of s) (replay config h)) (sym new.history) (subst (λ (x : State). Agrees x opening_state) (sym new.state) (Agrees-refl opening_state));
+      agrees = subst (λ (h : List Record). EqualUpToRowOrder (state_of s) (replay config h)) (sym new.history) (subst (λ (x : State). EqualUpToRowOrder x opening_state) (sym new.state) (EqualUpToRowOrder-refl opening_state));
       names = subst (λ (x : State). length x.known ≤ config.limits.names) (sym new.state) (omega arith);
       groups = subst (λ (x : State). length x.groups ≤ config.limits.groups) (sym new.state) (omega arith);
       silences = subst (λ (x : State). length x.silences ≤ config.limits.silences) (sym new.state) (omega arith);

@@ -8,8 +8,8 @@ use Rattle.am_model.specs.declared.fault.Fault.{Fault}
 use Rattle.am_model.specs.declared.fault.Fault.TheVariants.{NoMemory, TooManyNames, TooManyGroups, TooManySilences, TooManyOpen, HistoryFull}
 use Rattle.am_board.specs.declared.state.State as kept
 use Rattle.am_model.specs.Causes.{is_full}
-use Rattle.am_board.specs.Kept.{state_of, flush_state, Agrees}
-use Rattle.am_board.specs.Step.{IsAnswer, IsGood, Stays}
+use Rattle.am_board.specs.Refinement.{state_of, flush_state, EqualUpToRowOrder}
+use Rattle.am_board.specs.Step.{IsAnswer, StateInvariant, LeavesUnchanged}
 use Rattle.std.proofs.lemmas.List.Sorted.{IsPermutation-refl}
 use Rattle.am_model.specs.State.{State}
 
@@ -36,12 +36,12 @@ has_room config s room =
     ap (λ n. nat_lt config.limits.history (vec_len s.history + n + 1)) count ∙ grind (arith, nat_tests)
 
 -- nothing changed
-pub stays_itself : (config : Config) (s : kept.State) → IsGood config s → Stays config s s
+pub stays_itself : (config : Config) (s : kept.State) → StateInvariant config s → LeavesUnchanged config s s
 stays_itself config s good = record { state = refl; routed = good.routed; prepared = good.prepared; history = refl; records = refl; room = good.room }
 
 -- states that are one agree
-pub agrees_same : (a b : State) → a ≡ b → Agrees a b
-agrees_same a b e = subst (λ (c : State). Agrees a c) e (record { rows = IsPermutation-refl a.rows; rest = refl })
+pub agrees_same : (a b : State) → a ≡ b → EqualUpToRowOrder a b
+agrees_same a b e = subst (λ (c : State). EqualUpToRowOrder a c) e (record { rows = IsPermutation-refl a.rows; rest = refl })
 
 -- what is there unless there is a fault
 pub no_fault : {T F : Type 0} (fault : Option F) (x y : T) → Ok y ≡ ok_unless fault x → fault ≡ None

@@ -12,7 +12,7 @@ use Rattle.am_nflog.specs.declared.key.LogKey.{LogKey}
 use Rattle.am_model.specs.declared.config.Config.{Config}
 use Rattle.am_board.specs.declared.flush.OpenFlush.{OpenFlush}
 use Rattle.am_model.specs.declared.group.GroupName.{GroupName}
-use Rattle.am_board.specs.Kept.{IsAsked, IsPrepared}
+use Rattle.am_board.specs.Refinement.{IsAsked, IsPrepared}
 use Rattle.am_model.specs.Lists.{without}
 use Rattle.am_model.specs.State.{same_name}
 
@@ -63,6 +63,6 @@ prepared-collected config t log fs h =
     All-weaker (IsPrepared config log) (IsPrepared config (collected t log))
     (λ f k. record {
       kept_for = k.kept_for;
-      asked = All-weaker (IsAsked log f) (IsAsked (collected t log) f) (λ a j. record { group = j.group; known = subst IsTrue (sym (known-collected t log a.key)) j.known; told = j.told }) f.asked.items k.asked;
+      asked = All-weaker (IsAsked log f) (IsAsked (collected t log) f) (λ a j. record { group = j.group; known = subst IsTrue (sym (known-collected t log a.key)) j.known; sets = j.sets }) f.asked.items k.asked;
     })
     fs h

@@ -19,15 +19,15 @@ use Rattle.am_model.specs.Finish.{row_at, log_with}
 use Rattle.am_board.specs.Group.{names_of, AreRouted}
 use Rattle.am_model.specs.Records.{entry}
 use Rattle.am_board.specs.GroupList.{GroupList}
-use Rattle.am_board.specs.Kept.{IsAsked, IsPrepared, Agrees, asked_state_of, flush_state, group_state, stamped, state_of}
+use Rattle.am_board.specs.Refinement.{IsAsked, IsPrepared, EqualUpToRowOrder, asked_state_of, flush_state, group_state, stamped, state_of}
 use Rattle.am_board.specs.LogRows.{log_rows}
 use Rattle.am_model.specs.Laws.{IsHeld, same_asked}
 use Rattle.am_model.specs.Lists.{changed_where}
-use Rattle.am_board.specs.Finishing.{row_for, without_told, KnowTheSame, IsReadyAt, IsNotedAt}
+use Rattle.am_board.specs.Finishing.{row_for, without_sets, KnowTheSame, IsReadyAt, IsNotedAt}
 use Rattle.am_model.specs.Note.{is_ready, asked_by, may_be_noted, may_note, as_noted, with_note, after_note, after_note_of, noted}
 use Rattle.am_board.specs.Noting.{IsNoteTarget}
 use Rattle.am_model.specs.State.{AskedState, at_moment, moment, flush_numbered}
-use Rattle.am_board.specs.Step.{IsGood, Accepts, IsNoteAnswer}
+use Rattle.am_board.specs.Step.{StateInvariant, AppliesCall, IsNoteAnswer}
 use Rattle.am_model.specs.declared.config.Config.{Config}
 use Rattle.am_model.specs.declared.fault.NoteFault.{NoteFault}
 use Rattle.am_model.specs.declared.fault.NoteFault.TheVariants as note
@@ -78,8 +78,8 @@ module _ (config : Config) (s : kept.State) (ticket : TicketData) (place : ℕ) 
   open-there : flush_numbered (map flush_state s.flushes.items) ticket.number ≡ Some (flush_state o)
   open-there = flush-found s.flushes.items ticket.number n.flush o found.first ∙ ap (λ f. Some (flush_state f)) (sym is)
 
-  may : (d : Asked) → (is_ready n.outcome (asked_state_of (get_or o.asked.items n.asked d)) ≡ true) × (is_none (get_or o.asked.items n.asked d).told ≡ false)
-  may d = (ready-at.ready d, told-there (get_or o.asked.items n.asked d).told (ready-at.told d))
+  may : (d : Asked) → (is_ready n.outcome (asked_state_of (get_or o.asked.items n.asked d)) ≡ true) × (is_none (get_or o.asked.items n.asked d).sets ≡ false)
+  may d = (ready-at.ready d, told-there (get_or o.asked.items n.asked d).sets (ready-at.sets d))
 
   pub may-note : may_note n.integration n.outcome (flush_state o) ≡ true
   may-note =
@@ -107,7 +107,7 @@ pub record IsNoted (old new : kept.State) (o onew : OpenFlush) (f a now : ℕ) (
   pub silences : new.silences ≡ old.silences
   pub keys : KnowTheSame new.log old.log
   pub noted : IsNotedAt a o onew
-  pub rows : (d : Asked) → IsSome (get_or o.asked.items a d).told → (rows : List RowView) → IsPermutation (log_rows old.log) rows
+  pub rows : (d : Asked) → IsSome (get_or o.asked.items a d).sets → (rows : List RowView) → IsPermutation (log_rows old.log) rows
       → IsPermutation (log_rows new.log) (log_with (row_for o new.clock (get_or o.asked.items a d).key.integration) rows)
   pub flushes : new.flushes.items ≡ set old.flushes.items f onew
   pub opened : vec_len new.flushes ≡ vec_len old.flushes
@@ -130,9 +130,9 @@ module _ (o : OpenFlush) (integration a : ℕ) (d : Asked) (at : position (λ x.
       (omega (arith, length-map o.asked.items asked_state_of, (position-Some (λ (x : Asked). x.key.integration == integration) o.asked.items a d at).0)) once
       (λ y. ap (λ i. y.integration == i) (sym integration-is) ∙ same_asked_equiv.symm y (asked_state_of (get_or o.asked.items a d)) ∙ ap (λ (x : AskedState). x.integration == y.integration) (sym asked-at))
 
-  asked-noted : map asked_state_of (set o.asked.items a (without_told (get_or o.asked.items a d))) ≡ changed_where (λ x. x.integration == integration) as_noted (map asked_state_of o.asked.items)
+  asked-noted : map asked_state_of (set o.asked.items a (without_sets (get_or o.asked.items a d))) ≡ changed_where (λ x. x.integration == integration) as_noted (map asked_state_of o.asked.items)
   asked-noted =
-      map-set asked_state_of o.asked.items a (without_told (get_or o.asked.items a d))
+      map-set asked_state_of o.asked.items a (without_sets (get_or o.asked.items a d))
       ∙ ap (λ x. set (map asked_state_of o.asked.items) a (as_noted x)) (sym asked-at)
       ∙ sym (changed_where-alone (λ x. x.integration == integration) as_noted (map asked_state_of o.asked.items) a (asked_state_of d) asked-alone)
 
@@ -143,28 +143,28 @@ module _ (o : OpenFlush) (integration a : ℕ) (d : Asked) (at : position (λ x.
         number = noted.number i;
         group = noted.group i;
         asked = asked i;
-        firing = (noted.told i).firing;
-        resolved = (noted.told i).resolved;
+        firing = (noted.sets i).firing;
+        resolved = (noted.sets i).resolved;
         leaving = map stamped ((noted.leaving i).items);
       }
 
 -- the flush stays prepared
-asked-without : (log : Slots GroupName (List Label)) (o onew : OpenFlush) (x : Asked) → onew.group ≡ o.group → IsAsked log o x → IsAsked log onew (without_told x)
-asked-without log o onew x group asked = record { group = asked.group ∙ sym group; known = asked.known; told = tt }
+asked-without : (log : Slots GroupName (List Label)) (o onew : OpenFlush) (x : Asked) → onew.group ≡ o.group → IsAsked log o x → IsAsked log onew (without_sets x)
+asked-without log o onew x group asked = record { group = asked.group ∙ sym group; known = asked.known; sets = tt }
 
-asked-still : (log : Slots GroupName (List Label)) (o onew : OpenFlush) (x : Asked) → onew.group ≡ o.group → onew.told ≡ o.told → IsAsked log o x → IsAsked log onew x
-asked-still log o onew x group told asked = record { group = asked.group ∙ sym group; known = asked.known; told = subst (λ t. IfSome x.told (λ u. u ≡ t)) (sym told) asked.told }
+asked-still : (log : Slots GroupName (List Label)) (o onew : OpenFlush) (x : Asked) → onew.group ≡ o.group → onew.sets ≡ o.sets → IsAsked log o x → IsAsked log onew x
+asked-still log o onew x group sets asked = record { group = asked.group ∙ sym group; known = asked.known; sets = subst (λ t. IfSome x.sets (λ u. u ≡ t)) (sym sets) asked.sets }
 
 pub prepared-noted : (config : Config) (log : Slots GroupName (List Label)) (o onew : OpenFlush) (a : ℕ) (d : Asked) → a < length o.asked.items → IsNotedAt a o onew → IsPrepared config log o → IsPrepared config log onew
 prepared-noted config log o onew a d within noted ready =
     record {
       kept_for = noted.kept_for ∙ ready.kept_for ∙ ap (λ g. min config.retention (2 * (route_of config g).repeat_interval)) (sym noted.group);
       asked = subst (All (IsAsked log onew)) (sym (noted.asked d))
-          (All-set (IsAsked log onew) o.asked.items a (without_told (get_or o.asked.items a d)) (asked-without log o onew (get_or o.asked.items a d) noted.group (ready.asked a d within))
-          (All-weaker (IsAsked log o) (IsAsked log onew) (λ x. asked-still log o onew x noted.group noted.told) o.asked.items ready.asked));
+          (All-set (IsAsked log onew) o.asked.items a (without_sets (get_or o.asked.items a d)) (asked-without log o onew (get_or o.asked.items a d) noted.group (ready.asked a d within))
+          (All-weaker (IsAsked log o) (IsAsked log onew) (λ x. asked-still log o onew x noted.group noted.sets) o.asked.items ready.asked));
     }
 
-module _ (config : Config) (id : ℕ) (old new : kept.State) (ticket : TicketData) (place : ℕ) (n : NoteTarget) (found : IsNoteTarget old.flushes.items ticket place n) (o onew : OpenFlush) (is : o ≡ get_or old.flushes.items n.flush o) (good : IsGood config old) (pass now : ℕ) where
+module _ (config : Config) (id : ℕ) (old new : kept.State) (ticket : TicketData) (place : ℕ) (n : NoteTarget) (found : IsNoteTarget old.flushes.items ticket place n) (o onew : OpenFlush) (is : o ≡ get_or old.flushes.items n.flush o) (good : StateInvariant config old) (pass now : ℕ) where
   abbrev r : Record
   r = entry pass (Note now ticket.number n.integration n.outcome) replies.Noted
 
@@ -180,7 +180,7 @@ module _ (config : Config) (id : ℕ) (old new : kept.State) (ticket : TicketDat
   told : noted n.integration n.outcome (flush_numbered (map flush_state old.flushes.items) ticket.number) ≡ Some replies.Noted
   told = ap (noted n.integration n.outcome) (open-there config old ticket place n found o is) ∙ ap (λ b. if b then Some replies.Noted else None) (may-note config old ticket place n found o is)
 
-  state : (d : Asked) → IsNoted old new o onew n.flush n.asked now r → Agrees (state_of new) (after_note config (state_of old) (moment (state_of old) now) n.integration (flush_state o))
+  state : (d : Asked) → IsNoted old new o onew n.flush n.asked now r → EqualUpToRowOrder (state_of new) (after_note config (state_of old) (moment (state_of old) now) n.integration (flush_state o))
   state d done =
       let ready = open-prepared config old n.flush o within is good in
       let noted = flush-noted o n.integration n.asked d asked-ready.place held.each_once onew done.noted in
@@ -194,7 +194,7 @@ module _ (config : Config) (id : ℕ) (old new : kept.State) (ticket : TicketDat
       ∙ row_for-prepared config old.log o ready new.clock n.integration
       ∙ ap (λ t. row_at config t (flush_state o) n.integration) done.clock in
       record {
-        rows = subst (λ row. IsPermutation (log_rows new.log) (log_with row (log_rows old.log))) row (done.rows d (asked-ready.told d) (log_rows old.log) (IsPermutation-refl (log_rows old.log)));
+        rows = subst (λ row. IsPermutation (log_rows new.log) (log_with row (log_rows old.log))) row (done.rows d (asked-ready.sets d) (log_rows old.log) (IsPermutation-refl (log_rows old.log)));
         rest = λ i. record {
           clock = done.clock i;
           inserts = done.inserts i;
@@ -207,15 +207,15 @@ module _ (config : Config) (id : ℕ) (old new : kept.State) (ticket : TicketDat
         };
       }
 
-  pub note-accepted : IsNoted old new o onew n.flush n.asked now r → Accepts config id r old new
+  pub note-accepted : IsNoted old new o onew n.flush n.asked now r → AppliesCall config id r old new
   note-accepted done =
       let ready = open-prepared config old n.flush o within is good in
       let there = element (λ (x : Asked). x.key.integration == n.integration) o.asked.items n.asked asked-ready.place in
       let d = there.0 in
       record {
         told = told;
-        state = subst (λ f. Agrees (state_of new) (after_note_of config (state_of old) (moment (state_of old) now) n.integration n.outcome f)) (sym (open-there config old ticket place n found o is))
-            (subst (λ b. Agrees (state_of new) (if b then after_note config (state_of old) (moment (state_of old) now) n.integration (flush_state o) else at_moment (state_of old) (moment (state_of old) now))) (sym (may-note config old ticket place n found o is)) (state d done));
+        state = subst (λ f. EqualUpToRowOrder (state_of new) (after_note_of config (state_of old) (moment (state_of old) now) n.integration n.outcome f)) (sym (open-there config old ticket place n found o is))
+            (subst (λ b. EqualUpToRowOrder (state_of new) (if b then after_note config (state_of old) (moment (state_of old) now) n.integration (flush_state o) else at_moment (state_of old) (moment (state_of old) now))) (sym (may-note config old ticket place n found o is)) (state d done));
         routed = subst (λ (groups : GroupList). AreRouted config.routes (names_of groups.items)) (sym done.groups) good.routed;
         prepared = subst (All (IsPrepared config new.log)) (sym done.flushes)
             (All-set (IsPrepared config new.log) old.flushes.items n.flush onew (prepared-noted config new.log o onew n.asked d there.1 done.noted (prepared-of config old.log new.log o done.keys ready)) (all_prepared config old.log new.log old.flushes.items done.keys good.prepared));

@@ -8,7 +8,7 @@ use Rattle.am_model.specs.Notice.{NoticeData}
 use Rattle.am_model.specs.Ticket.{TicketData, outcome_of}
 use Rattle.am_model.specs.declared.config.Config.{Config}
 use Rattle.am_model.specs.declared.fault.NoteFault.TheVariants as note
-use Rattle.am_board.specs.Kept.{asked_state_of, flush_state}
+use Rattle.am_board.specs.Refinement.{asked_state_of, flush_state}
 use Rattle.am_model.specs.Note.{asked_by}
 use Rattle.am_model.specs.State.{AskedState, FlushState, State, flush_numbered}
 use Rattle.am_board.specs.declared.flush.Asked.{Asked}

@@ -7,7 +7,7 @@ ghost use Rattle.am_model.specs.Begin.{count_resolved, without_resolved};
 ghost use Rattle.am_model.specs.Finish.{is_leaving};
 ghost use Rattle.am_board.specs.Group.{names_of, AreRouted, HasRoom, Fits, IsReserved, Changes, Gets};
 ghost use Rattle.am_board.specs.Inserting.{place_in};
-ghost use Rattle.am_board.specs.Kept.{member_state, stamped, group_state};
+ghost use Rattle.am_board.specs.Refinement.{member_state, stamped, group_state};
 ghost use Rattle.am_model.specs.Insert.{same_member};
 ghost use Rattle.am_model.specs.Lists.{without};
 ghost use Rattle.am_model.specs.State.{same_name};

@@ -10,7 +10,7 @@ ghost use Rattle.am_model.specs.State.{same_name};
 ghost use Rattle.am_board.specs.Beginning.{may_take, first_of, IsFirst};
 ghost use Rattle.am_board.specs.Due.{has_key, key_of, IsCurrent, IsFree};
 ghost use Rattle.am_board.specs.GroupList.{name_of};
-ghost use Rattle.am_board.specs.Kept.{group_state, flush_state};
+ghost use Rattle.am_board.specs.Refinement.{group_state, flush_state};
 ghost use Rattle.am_board.specs.Keyed.{AreKeyed};
 ghost use Rattle.am_board.specs.declared.group.Group.{Group};
 

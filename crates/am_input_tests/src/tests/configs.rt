@@ -2,7 +2,7 @@
 use super::*;
 use am_cli::config::read_config;
 
-/// A configuration in the strict manner.
+/// A configuration in the strict dialect.
 const CONFIG: &str =
     r#"{"retention":"1d","limits":{"names":9},"receivers":[{"name":"team","integrations":[{"kind":"hook"},{"kind":"mail","send_resolved":false}]},{"name":"db","integrations":[]}],"route":{"receiver":"team","group_by":["alertname"]},"children":[{"name":"a","receiver":"db","group_by":["..."],"matchers":["severity=\"page\""]},{"name":"b","receiver":"team","continue":true}],"inhibit":[{"source":["a=b"],"target":[["c","=~","d"]],"equal":["x"]}]}"#;
 

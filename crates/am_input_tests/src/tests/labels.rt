@@ -3,9 +3,9 @@ use super::*;
 use am_cli::labels::read_labels;
 
 /// How the reading of a label set ends: its text, or its fault's.
-fn outcome_of(alloc: Global, text: &str, manner: Manner) -> Result<String, Fail> {
+fn outcome_of(alloc: Global, text: &str, dialect: Dialect) -> Result<String, Fail> {
     let value = parse(alloc, text.as_bytes())?;
-    match read_labels(&reader_of(alloc, &value, manner)) {
+    match read_labels(&reader_of(alloc, &value, dialect)) {
         Err(fault) => Ok(fault.to_string(alloc)?),
         Ok(labels) => {
             let mut text = String::new(alloc);
@@ -15,7 +15,7 @@ fn outcome_of(alloc: Global, text: &str, manner: Manner) -> Result<String, Fail>
     }
 }
 
-/// Label sets in the strict manner.
+/// Label sets in the strict dialect.
 const STRICT: [(&str, &str); 13] = [
     (r#"{"b":"2","a":"1"}"#, r#"{a="1",b="2"}"#),
     (r#"[["b","2"],["a","1"]]"#, r#"{a="1",b="2"}"#),
@@ -35,7 +35,7 @@ const STRICT: [(&str, &str); 13] = [
     ("7", "refused at : kind"),
 ];
 
-/// Label sets in the lenient manner.
+/// Label sets in the lenient dialect.
 const LENIENT: [(&str, &str); 4] = [
     (r#"[["b","2"],["a","1"]]"#, r#"{a="1",b="2"}"#),
     (r#"{"a":"1"}"#, "refused at : kind"),
@@ -46,10 +46,10 @@ const LENIENT: [(&str, &str); 4] = [
 fn check(
     rt: &(impl Abort + AllocGlobal),
     text: &str,
-    manner: Manner,
+    dialect: Dialect,
     wanted: &str,
 ) -> Result<(), Fail> {
-    let outcome = outcome_of(rt.alloc(), text, manner)?;
+    let outcome = outcome_of(rt.alloc(), text, dialect)?;
     assert_eq!(rt; outcome.as_str(), wanted);
     Ok(())
 }
@@ -57,10 +57,10 @@ fn check(
 #[test]
 fn label_sets(rt: HostRuntime) -> Result<(), Fail> {
     for (text, wanted) in STRICT {
-        check(&rt, text, Manner::Strict, wanted)?;
+        check(&rt, text, Dialect::Strict, wanted)?;
     }
     for (text, wanted) in LENIENT {
-        check(&rt, text, Manner::Lenient, wanted)?;
+        check(&rt, text, Dialect::Lenient, wanted)?;
     }
     Ok(())
 }
@@ -81,20 +81,20 @@ fn long_text(alloc: Global) -> Result<String, AllocError> {
 
 fn check_value(rt: &(impl Abort + AllocGlobal), value: &str) -> Result<(), Fail> {
     let text = format!(in rt.alloc(); r#"[["a","1"],["b","{value}"]]"#)?;
-    check(rt, text.as_str(), Manner::Strict, "refused at /1: value")
+    check(rt, text.as_str(), Dialect::Strict, "refused at /1: value")
 }
 
 fn check_name(rt: &(impl Abort + AllocGlobal), name: &str) -> Result<(), Fail> {
     let text = format!(in rt.alloc(); r#"{{"a":"1","{name}":"1"}}"#)?;
     let wanted = format!(in rt.alloc(); "refused at /{name}: value")?;
-    check(rt, text.as_str(), Manner::Strict, wanted.as_str())
+    check(rt, text.as_str(), Dialect::Strict, wanted.as_str())
 }
 
 /// Too many labels are refused at their array, a text that is too long at its label.
 #[test]
 fn label_limits(rt: HostRuntime) -> Result<(), Fail> {
     let many = array_of(rt.alloc(), 65)?;
-    check(&rt, many.as_str(), Manner::Strict, "refused at : value")?;
+    check(&rt, many.as_str(), Dialect::Strict, "refused at : value")?;
     let long = long_text(rt.alloc())?;
     check_value(&rt, long.as_str())?;
     check_name(&rt, long.as_str())

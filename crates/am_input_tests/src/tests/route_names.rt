@@ -39,7 +39,7 @@ fn check_names(rt: &impl Abort, children: &[Child]) {
 fn names_of_routes(rt: HostRuntime) -> Result<(), Fail> {
     let text = alertmanager(rt.alloc())?;
     let value = parse(rt.alloc(), text.as_bytes())?;
-    let read = read_alertmanager(&reader_of(rt.alloc(), &value, Manner::Strict))?;
+    let read = read_alertmanager(&reader_of(rt.alloc(), &value, Dialect::Strict))?;
     check_names(&rt, read.config.routes.children());
     Ok(())
 }

@@ -1,7 +1,7 @@
 //! The texts of faults.
 use super::*;
-use am_cli::fault::Word;
-use am_cli::place::Place;
+use am_cli::fault::FaultKind;
+use am_cli::place::JsonPointer;
 use am_cli::transfer::{ReadFault, Unwritable};
 
 /// Texts that are no JSON, and where reading them ends.
@@ -28,18 +28,18 @@ fn no_json(rt: HostRuntime) -> Result<(), Fail> {
 }
 
 /// The text of each word at a place.
-const REFUSED: [(Word, &str); 6] = [
-    (Word::Missing, "refused at /a/7: missing"),
-    (Word::Kind, "refused at /a/7: kind"),
-    (Word::Value, "refused at /a/7: value"),
-    (Word::Unknown, "refused at /a/7: unknown"),
-    (Word::Full, "refused at /a/7: full"),
-    (Word::Unsupported, "refused at /a/7: unsupported"),
+const REFUSED: [(FaultKind, &str); 6] = [
+    (FaultKind::Missing, "refused at /a/7: missing"),
+    (FaultKind::WrongType, "refused at /a/7: kind"),
+    (FaultKind::BadValue, "refused at /a/7: value"),
+    (FaultKind::Unknown, "refused at /a/7: unknown"),
+    (FaultKind::Full, "refused at /a/7: full"),
+    (FaultKind::Unsupported, "refused at /a/7: unsupported"),
 ];
 
 #[test]
 fn texts_of_words(rt: HostRuntime) -> Result<(), Fail> {
-    let top = Place::Top;
+    let top = JsonPointer::Root;
     for (word, wanted) in REFUSED {
         let fault = top.member("a").item(7).refuse(rt.alloc(), word);
         let text = fault.to_string(rt.alloc())?;

@@ -4,7 +4,7 @@ use am_alerts::matcher::{Matcher, MatcherParts, Operator};
 use am_alerts::route::{GroupBy, Route, Routes};
 use am_alerts::sequence::Sequence;
 use am_alerts::text::Text;
-use am_tree::tree::{Cause, FlatFault, Node, Options, Refusal, Rule, Tree};
+use am_tree::tree::{Cause, FlatFault, Node, Options, Refusal, RouteSpec, Tree};
 use std::alloc::{AllocError, Global};
 use std::mem;
 use std::test::Fail;
@@ -32,9 +32,9 @@ fn matchers(alloc: Global, row: &Row) -> Result<Vec<Matcher>, AllocError> {
     Ok(matchers)
 }
 
-fn rule(alloc: Global, row: &Row) -> Result<Rule, AllocError> {
+fn rule(alloc: Global, row: &Row) -> Result<RouteSpec, AllocError> {
     let name = Text::new(alloc, row.0)?;
-    Ok(Rule {
+    Ok(RouteSpec {
         name,
         options: Options {
             receiver: None,
@@ -160,7 +160,7 @@ fn refuses_what_no_matcher_says(rt: HostRuntime) -> Result<(), Fail> {
         Row("rest", "", "", true, true),
         Row("files", "service", "files", false, false),
     ];
-    let fault = tree(rt.alloc(), &rows)?.lay_flat(rt.alloc()).err();
+    let fault = tree(rt.alloc(), &rows)?.flatten(rt.alloc()).err();
     let wanted = [Refusal {
         route: 2,
         cause: Cause::Continue,

@@ -8,12 +8,12 @@ use Rattle.std.proofs.lemmas.Bool.{false≢true, or_left, or_right}
 use Rattle.std.proofs.lemmas.List.Elements.{All-from_recursion}
 use Rattle.am_nflog.specs.Members.{is_empty}
 use Rattle.am_retry.specs.declared.outcome.Outcome.{Outcome}
-use Rattle.am_model.proofs.lists.Words.{all-put_in, IsDistinct-put_in}
+use Rattle.am_model.proofs.lists.Words.{all-upsert, IsDistinct-upsert}
 use Rattle.am_model.specs.Begin.{taken, may_begin, due_cmp, asked_of, begun_group, without_resolved, after_asking, after_taking, reply_asking, reply_taking, begun}
 use Rattle.am_model.specs.Finish.{after_finish_of, finished_group, finished}
 use Rattle.am_model.specs.Insert.{same_group, new_group, group_or_new, group_with, put_into_group, names_for, wait_of, inserted, next_stamp}
 use Rattle.am_model.specs.Laws.{last_begin_after, last_begin_from, last_begin, IsBegunAt, IsThere, LegalKeepsBegins}
-use Rattle.am_model.specs.Lists.{put_in, without, changed_where}
+use Rattle.am_model.specs.Lists.{upsert, without, changed_where}
 use Rattle.am_model.specs.Note.{may_note, after_note_of, after_note, noted}
 use Rattle.am_model.specs.Replay.{reply, after, after_call, replay_from, replay, IsLegalFrom, IsLegal}
 use Rattle.am_model.specs.State.{MemberState, GroupState, FlushState, State, opening_state, at_moment, moment, same_name, is_named, has_group, members_in, flush_numbered}
@@ -43,17 +43,17 @@ each_there (g ∷ groups) = (
 )
 
 -- those that were there are there after a group is put in
-pub there-put_in : (name : GroupName) (g : GroupState) (groups : List GroupState) → has_group groups name ≡ true → has_group (put_in same_group g groups) name ≡ true
-there-put_in name g [] there = absurd (false≢true there)
-there-put_in name g (h ∷ groups) there =
-    elim (same_group g h) as (λ b. same_group g h ≡ b → has_group (cond b (g ∷ groups) (h ∷ put_in same_group g groups)) name ≡ true) [
+pub there-upsert : (name : GroupName) (g : GroupState) (groups : List GroupState) → has_group groups name ≡ true → has_group (upsert same_group g groups) name ≡ true
+there-upsert name g [] there = absurd (false≢true there)
+there-upsert name g (h ∷ groups) there =
+    elim (same_group g h) as (λ b. same_group g h ≡ b → has_group (cond b (g ∷ groups) (h ∷ upsert same_group g groups)) name ≡ true) [
       | true ↦ λ e.
           let same : same_name name g.name ≡ same_name name h.name = same_name_equiv.symm name g.name ∙ same_name_equiv.congr g.name h.name name e ∙ same_name_equiv.symm h.name name in
           ap (λ b. b || has_group groups name) same ∙ there
       | false ↦ λ e.
-          elim (same_name name h.name) as (λ b. (b || has_group groups name) ≡ true → (b || has_group (put_in same_group g groups) name) ≡ true) [
+          elim (same_name name h.name) as (λ b. (b || has_group groups name) ≡ true → (b || has_group (upsert same_group g groups) name) ≡ true) [
             | true ↦ λ _. refl
-            | false ↦ λ rest. there-put_in name g groups rest
+            | false ↦ λ rest. there-upsert name g groups rest
           ] there
     ] refl
 
@@ -127,9 +127,9 @@ module _ (config : Config) (last : GroupName → Option ℕ) where
       let g : GroupState = group_or_new config t groups name in
       let new : GroupState = group_with config t m g in
       record {
-        due = all-put_in same_group new (λ h. IsBegunAt config h (last h.name)) groups (due-group_with config t m g (last g.name) found) k.due;
-        there = λ n. still_in n groups (put_in same_group new groups) (there-put_in n new groups) (last n) (k.there n);
-        apart = IsDistinct-put_in same_group same_group_equiv new groups k.apart;
+        due = all-upsert same_group new (λ h. IsBegunAt config h (last h.name)) groups (due-group_with config t m g (last g.name) found) k.due;
+        there = λ n. still_in n groups (upsert same_group new groups) (there-upsert n new groups) (last n) (k.there n);
+        apart = IsDistinct-upsert same_group same_group_equiv new groups k.apart;
       }
 
   keeps-put_all : (t : ℕ) (m : MemberState) (names : List GroupName) (groups : List GroupState) → Keeps config groups last → Keeps config (fold (put_into_group config t m) groups names) last

@@ -14,9 +14,9 @@ use Rattle.am_alerts.proofs.Positions.{routes_of-exist}
 use Rattle.am_model.specs.declared.config.Config.{Config}
 use Rattle.am_model.specs.declared.group.GroupName.{GroupName}
 use Rattle.am_model.specs.Insert.{same_member, same_group, name_in, names_for, new_group, group_or_new, group_with, put_into_group}
-use Rattle.am_model.specs.Lists.{put_in, changed_where}
+use Rattle.am_model.specs.Lists.{upsert, changed_where}
 use Rattle.am_model.specs.State.{MemberState, GroupState, same_name, is_named}
-use Rattle.am_model.proofs.lists.Words.{all-put_in}
+use Rattle.am_model.proofs.lists.Words.{all-upsert}
 use Rattle.am_model.proofs.legal.ConsistentGroups.{members_of, members_of-in}
 use Rattle.am_model.proofs.lists.Distinct.{all_to, all-find, all-map, find-passes}
 use Rattle.am_model.proofs.states.Alike.{same_name_equiv}
@@ -63,30 +63,30 @@ length-filter test (x ∷ xs) =
     ]
 
 -- what is put in adds one at most
-pub length-put_in : {X : Type 0} (like : X → X → Bool) (x : X) (xs : List X) → length (put_in like x xs) ≤ length xs + 1
-length-put_in like x [] = omega arith
-length-put_in like x (y ∷ ys) =
-    let rest = length-put_in like x ys in
-    elim (like x y) as (λ b. length (cond b (x ∷ ys) (y ∷ put_in like x ys)) ≤ length (y ∷ ys) + 1) [
+pub length-upsert : {X : Type 0} (like : X → X → Bool) (x : X) (xs : List X) → length (upsert like x xs) ≤ length xs + 1
+length-upsert like x [] = omega arith
+length-upsert like x (y ∷ ys) =
+    let rest = length-upsert like x ys in
+    elim (like x y) as (λ b. length (cond b (x ∷ ys) (y ∷ upsert like x ys)) ≤ length (y ∷ ys) + 1) [
       | true ↦ omega arith
       | false ↦ omega (arith, rest)
     ]
 
 -- and none where it takes the place of another
-pub length-put_known : {X : Type 0} (like : X → X → Bool) (x : X) (xs : List X) → list_any (like x) xs ≡ true → length (put_in like x xs) ≡ length xs
+pub length-put_known : {X : Type 0} (like : X → X → Bool) (x : X) (xs : List X) → list_any (like x) xs ≡ true → length (upsert like x xs) ≡ length xs
 length-put_known like x [] e = absurd (false≢true e)
 length-put_known like x (y ∷ ys) e =
-    elim (like x y) as (λ b. (b || list_any (like x) ys) ≡ true → length (cond b (x ∷ ys) (y ∷ put_in like x ys)) ≡ length (y ∷ ys)) [
+    elim (like x y) as (λ b. (b || list_any (like x) ys) ≡ true → length (cond b (x ∷ ys) (y ∷ upsert like x ys)) ≡ length (y ∷ ys)) [
       | true ↦ λ _. refl
       | false ↦ λ rest. ap suc (length-put_known like x ys rest)
     ] e
 
 -- a group takes the place of the one of its name, with one alert more
-count-put_in : (name : GroupName) (g : GroupState) (gs : List GroupState) → ((k : GroupState) → same_group g k ≡ is_named name k) → length g.members ≤ length (members_of gs name) + 1 → count_alerts (put_in same_group g gs) ≤ count_alerts gs + 1
-count-put_in name g [] same more = omega (arith, more)
-count-put_in name g (k ∷ gs) same more = by (same_group g k) (is_named name k) (same k) (count-put_in name g gs same) more
+count-upsert : (name : GroupName) (g : GroupState) (gs : List GroupState) → ((k : GroupState) → same_group g k ≡ is_named name k) → length g.members ≤ length (members_of gs name) + 1 → count_alerts (upsert same_group g gs) ≤ count_alerts gs + 1
+count-upsert name g [] same more = omega (arith, more)
+count-upsert name g (k ∷ gs) same more = by (same_group g k) (is_named name k) (same k) (count-upsert name g gs same) more
   where
-    by : (b c : Bool) → b ≡ c → (length g.members ≤ length (members_of gs name) + 1 → count_alerts (put_in same_group g gs) ≤ count_alerts gs + 1) → length g.members ≤ length (cond c k.members (members_of gs name)) + 1 → count_alerts (cond b (g ∷ gs) (k ∷ put_in same_group g gs)) ≤ length k.members + count_alerts gs + 1
+    by : (b c : Bool) → b ≡ c → (length g.members ≤ length (members_of gs name) + 1 → count_alerts (upsert same_group g gs) ≤ count_alerts gs + 1) → length g.members ≤ length (cond c k.members (members_of gs name)) + 1 → count_alerts (cond b (g ∷ gs) (k ∷ upsert same_group g gs)) ≤ length k.members + count_alerts gs + 1
     by true true e rest h = omega (arith, h)
     by true false e rest h = absurd (cc)
     by false true e rest h = absurd (cc)
@@ -111,10 +111,10 @@ module _ (config : Config) (t : ℕ) (m : MemberState) where
   count-into : (gs : List GroupState) (name : GroupName) → count_alerts (put_into_group config t m gs name) ≤ count_alerts gs + 1
   count-into gs name =
       let g = group_or_new config t gs name in
-      let longer : length (put_in same_member m g.members) ≤ length g.members + 1 = length-put_in same_member m g.members in
-      count-put_in name (group_with config t m g) gs
+      let longer : length (upsert same_member m g.members) ≤ length g.members + 1 = length-upsert same_member m g.members in
+      count-upsert name (group_with config t m g) gs
       (λ k. sym (same_name_equiv.congr name g.name k.name (named-or_new gs name)))
-      (subst (λ ms. length (put_in same_member m g.members) ≤ length ms + 1) (members-or_new gs name) longer)
+      (subst (λ ms. length (upsert same_member m g.members) ≤ length ms + 1) (members-or_new gs name) longer)
 
   pub count-each : (names : List GroupName) (gs : List GroupState) → count_alerts (fold (put_into_group config t m) gs names) ≤ count_alerts gs + length names
   count-each [] gs = omega arith
@@ -137,7 +137,7 @@ module _ (config : Config) (t : ℕ) (m : MemberState) where
   routed-each most (name ∷ names) gs routed all =
       let g = group_or_new config t gs name in
       routed-each most names (put_into_group config t m gs name) routed.1
-      (all-put_in same_group (group_with config t m g) (λ g. g.name.route ≤ most) gs (routed-or_new most gs name routed.0 all) all)
+      (all-upsert same_group (group_with config t m g) (λ g. g.name.route ≤ most) gs (routed-or_new most gs name routed.0 all) all)
 
 -- ---- the groups of an alert
 

@@ -16,7 +16,7 @@ use Rattle.am_model.specs.Lists.{without, changed_where}
 use Rattle.am_model.specs.Note.{as_noted, with_note, may_note, after_note, after_note_of}
 use Rattle.am_model.specs.State.{MemberState, GroupState, AskedState, FlushState, State, at_moment, same_name, is_named, flush_numbered}
 use Rattle.am_model.specs.Upkeep.{is_deserted, has_expired, after_maintain}
-use Rattle.am_model.proofs.lists.Words.{IsDistinct-put_in}
+use Rattle.am_model.proofs.lists.Words.{IsDistinct-upsert}
 use Rattle.am_model.proofs.legal.ConsistentGroups.{members_of-elsewhere, alive-kept}
 use Rattle.am_model.proofs.lists.Distinct.{IsDistinct-filter, IsDistinct-changed, all-filter, all-find, all-passes, all-weaker, all-both, all-map}
 use Rattle.am_model.proofs.legal.ConsistentState.{IsTidy, IsOpen, IsSteady}
@@ -104,7 +104,7 @@ others_apart number f fs h found =
 distinct-rows : (config : Config) (t : ℕ) (f : FlushState) (asked : List AskedState) (rows : List RowView) → IsDistinct same_key rows → IsDistinct same_key (fold (λ log a. log_with (row_at config t f a.integration) log) rows asked)
 distinct-rows config t f [] rows h = h
 distinct-rows config t f (a ∷ asked) rows h =
-    distinct-rows config t f asked (log_with (row_at config t f a.integration) rows) (IsDistinct-put_in same_key same_key_equiv (row_at config t f a.integration) rows h)
+    distinct-rows config t f asked (log_with (row_at config t f a.integration) rows) (IsDistinct-upsert same_key same_key_equiv (row_at config t f a.integration) rows h)
 
 finish_open : (config : Config) (s : State) (t number : ℕ) (outcomes : List (ℕ × Outcome)) (f : FlushState) → flush_numbered s.flushes number ≡ Some f → t ≤ MAX_MOMENT → IsSteady s → IsSteady (after_finish config s t outcomes f)
 finish_open config s t number outcomes f found within h =
@@ -201,7 +201,7 @@ note_open config s t integration f within h =
       groups = h.groups;
       tidy = h.tidy;
       silences = h.silences;
-      rows = IsDistinct-put_in same_key same_key_equiv (row_at config t f integration) s.rows h.rows;
+      rows = IsDistinct-upsert same_key same_key_equiv (row_at config t f integration) s.rows h.rows;
       flushes =
           IsDistinct-changed same_flushed change
           (λ k l. ap (λ n. same_name n (change l).group) (group_noted_or integration k (test k)) ∙ ap (λ n. same_name k.group n) (group_noted_or integration l (test l)))

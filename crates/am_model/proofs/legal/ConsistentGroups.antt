@@ -7,7 +7,7 @@ use Rattle.std.proofs.lemmas.Map.Keys.{IsDistinct-head, IsDistinct-tail}
 use Rattle.am_nflog.specs.Members.{is_empty}
 use Rattle.am_model.specs.declared.group.GroupName.{GroupName}
 use Rattle.am_model.specs.Insert.{same_group}
-use Rattle.am_model.specs.Lists.{put_in, without, changed_where}
+use Rattle.am_model.specs.Lists.{upsert, without, changed_where}
 use Rattle.am_model.specs.State.{MemberState, GroupState, same_name, is_named, members_in}
 use Rattle.am_model.specs.Upkeep.{is_deserted}
 use Rattle.am_model.proofs.lists.Distinct.{all-both}
@@ -85,12 +85,12 @@ module _ (own : GroupName) (f : GroupState → GroupState) (names : (g : GroupSt
       same g false = refl
 
 -- a group with alerts that is put in keeps each name's group alive
-pub alive-put_in : (name : GroupName) (g : GroupState) (gs : List GroupState) → is_empty g.members ≡ false → IsAlive gs name → IsAlive (put_in same_group g gs) name
-alive-put_in name g [] some alive = absurd (cc)
-alive-put_in name g (k ∷ gs) some alive =
-    elim (same_group g k) as (λ b. same_group g k ≡ b → IsAlive (cond b (g ∷ gs) (k ∷ put_in same_group g gs)) name) [
+pub alive-upsert : (name : GroupName) (g : GroupState) (gs : List GroupState) → is_empty g.members ≡ false → IsAlive gs name → IsAlive (upsert same_group g gs) name
+alive-upsert name g [] some alive = absurd (cc)
+alive-upsert name g (k ∷ gs) some alive =
+    elim (same_group g k) as (λ b. same_group g k ≡ b → IsAlive (cond b (g ∷ gs) (k ∷ upsert same_group g gs)) name) [
       | true ↦ λ e. here (is_named name g) (is_named name k) (same_name_equiv.symm name g.name ∙ (same_name_equiv.congr g.name k.name name e ∙ same_name_equiv.symm k.name name)) alive
-      | false ↦ λ e. later (is_named name k) (alive-put_in name g gs some) alive
+      | false ↦ λ e. later (is_named name k) (alive-upsert name g gs some) alive
     ] refl
   where
     here : (b c : Bool) → b ≡ c → is_empty (cond c k.members (members_of gs name)) ≡ false → is_empty (cond b g.members (members_of gs name)) ≡ false
@@ -98,7 +98,7 @@ alive-put_in name g (k ∷ gs) some alive =
     here false true e h = absurd (cc)
     here false false e h = h
 
-    later : (b : Bool) → (IsAlive gs name → IsAlive (put_in same_group g gs) name) → is_empty (cond b k.members (members_of gs name)) ≡ false → is_empty (cond b k.members (members_of (put_in same_group g gs) name)) ≡ false
+    later : (b : Bool) → (IsAlive gs name → IsAlive (upsert same_group g gs) name) → is_empty (cond b k.members (members_of gs name)) ≡ false → is_empty (cond b k.members (members_of (upsert same_group g gs) name)) ≡ false
     later true rest h = h
     later false rest h = rest h
 

@@ -9,27 +9,27 @@ use Rattle.am_nflog.specs.Members.{is_empty}
 use Rattle.am_model.specs.declared.config.Config.{Config}
 use Rattle.am_model.specs.declared.group.GroupName.{GroupName}
 use Rattle.am_model.specs.Insert.{same_alert, same_member, same_group, names_for, next_stamp, new_group, group_or_new, group_with, put_into_group, groups_with, after_insert}
-use Rattle.am_model.specs.Lists.{put_in}
+use Rattle.am_model.specs.Lists.{upsert}
 use Rattle.am_model.specs.State.{MemberState, GroupState, State, is_named}
 use Rattle.am_model.specs.Upkeep.{same_silence, after_silence}
-use Rattle.am_model.proofs.lists.Words.{all-put_in, IsDistinct-put_in}
-use Rattle.am_model.proofs.legal.ConsistentGroups.{IsAlive, alive-put_in}
+use Rattle.am_model.proofs.lists.Words.{all-upsert, IsDistinct-upsert}
+use Rattle.am_model.proofs.legal.ConsistentGroups.{IsAlive, alive-upsert}
 use Rattle.am_model.proofs.lists.Distinct.{IsDistinct-nil, all-find, all-weaker}
 use Rattle.am_model.proofs.legal.ConsistentState.{IsTidy, IsOpen, IsSteady}
 use Rattle.am_model.proofs.states.Alike.{same_alert_equiv, same_group_equiv, same_member_equiv, same_silence_equiv}
 
 -- a list that something was put into isn't empty
-put_in-some : {X : Type 0} (like : X → X → Bool) (x : X) (xs : List X) → is_empty (put_in like x xs) ≡ false
-put_in-some like x [] = refl
-put_in-some like x (y ∷ ys) = elim (like x y) as (λ b. is_empty (cond b (x ∷ ys) (y ∷ put_in like x ys)) ≡ false) [ true ↦ refl | false ↦ refl ]
+upsert-some : {X : Type 0} (like : X → X → Bool) (x : X) (xs : List X) → is_empty (upsert like x xs) ≡ false
+upsert-some like x [] = refl
+upsert-some like x (y ∷ ys) = elim (like x y) as (λ b. is_empty (cond b (x ∷ ys) (y ∷ upsert like x ys)) ≡ false) [ true ↦ refl | false ↦ refl ]
 
 module _ (config : Config) (t : ℕ) (m : MemberState) where
   -- a group with a member more
   tidy-with : (n : ℕ) (g : GroupState) → m.stamp ≤ n → IsTidy n g → IsTidy n (group_with config t m g)
   tidy-with n g least h =
       record {
-        members = IsDistinct-put_in same_member same_member_equiv m g.members h.members;
-        stamps = all-put_in same_member m (λ k. k.stamp ≤ n) g.members least h.stamps;
+        members = IsDistinct-upsert same_member same_member_equiv m g.members h.members;
+        stamps = all-upsert same_member m (λ k. k.stamp ≤ n) g.members least h.stamps;
       }
 
   -- the group of a name, made if it is missing
@@ -43,18 +43,18 @@ module _ (config : Config) (t : ℕ) (m : MemberState) where
   tidy-into : (n : ℕ) (gs : List GroupState) (name : GroupName) → m.stamp ≤ n → AllByRecursion (IsTidy n) gs → AllByRecursion (IsTidy n) (put_into_group config t m gs name)
   tidy-into n gs name least all =
       let g = group_or_new config t gs name in
-      all-put_in same_group (group_with config t m g) (IsTidy n) gs (tidy-with n g least (tidy-or_new n gs name all)) all
+      all-upsert same_group (group_with config t m g) (IsTidy n) gs (tidy-with n g least (tidy-or_new n gs name all)) all
 
   alive-into : (gs : List GroupState) (name other : GroupName) → IsAlive gs other → IsAlive (put_into_group config t m gs name) other
   alive-into gs name other alive =
       let g = group_or_new config t gs name in
-      alive-put_in other (group_with config t m g) gs (put_in-some same_member m g.members) alive
+      alive-upsert other (group_with config t m g) gs (upsert-some same_member m g.members) alive
 
   -- the same through the groups of each name
   distinct-each : (names : List GroupName) (gs : List GroupState) → IsDistinct same_group gs → IsDistinct same_group (fold (put_into_group config t m) gs names)
   distinct-each [] gs h = h
   distinct-each (name ∷ names) gs h =
-      distinct-each names (put_into_group config t m gs name) (IsDistinct-put_in same_group same_group_equiv (group_with config t m (group_or_new config t gs name)) gs h)
+      distinct-each names (put_into_group config t m gs name) (IsDistinct-upsert same_group same_group_equiv (group_with config t m (group_or_new config t gs name)) gs h)
 
   tidy-each : (n : ℕ) (names : List GroupName) (gs : List GroupState) → m.stamp ≤ n → AllByRecursion (IsTidy n) gs → AllByRecursion (IsTidy n) (fold (put_into_group config t m) gs names)
   tidy-each n [] gs least all = all
@@ -79,7 +79,7 @@ steady_insert config s t a within h =
     let older = all-weaker (IsTidy s.inserts) (IsTidy (next_stamp s)) (λ g k. tidy-later s.inserts (next_stamp s) g (omega arith) k) s.groups h.tidy in
     record {
       clock = within;
-      known = IsDistinct-put_in same_alert same_alert_equiv a s.known h.known;
+      known = IsDistinct-upsert same_alert same_alert_equiv a s.known h.known;
       groups = distinct-each config t m names s.groups h.groups;
       tidy = tidy-each config t m (next_stamp s) names s.groups (omega arith) older;
       silences = h.silences;
@@ -99,7 +99,7 @@ steady_silence s t silence within h =
       known = h.known;
       groups = h.groups;
       tidy = h.tidy;
-      silences = IsDistinct-put_in same_silence same_silence_equiv silence s.silences h.silences;
+      silences = IsDistinct-upsert same_silence same_silence_equiv silence s.silences h.silences;
       rows = h.rows;
       flushes = h.flushes;
       numbers = h.numbers;

@@ -17,13 +17,13 @@ use Rattle.am_model.specs.Begin.{taken, asked_of, after_asking, after_taking, be
 use Rattle.am_model.specs.Causes.{makes_too_many}
 use Rattle.am_model.specs.Finish.{after_finish_of, finished_group}
 use Rattle.am_model.specs.Insert.{same_group, names_for, group_or_new, group_with, put_into_group, inserted, after_insert, next_stamp}
-use Rattle.am_model.specs.Lists.{put_in, changed_where}
+use Rattle.am_model.specs.Lists.{upsert, changed_where}
 use Rattle.am_model.specs.Note.{after_note, after_note_of, may_note}
 use Rattle.am_model.specs.Replay.{after_call}
 use Rattle.am_model.specs.State.{MemberState, GroupState, FlushState, State, at_moment, is_named, has_group, moment, flush_numbered}
 use Rattle.am_model.specs.Upkeep.{is_deserted}
-use Rattle.am_model.proofs.legal.Begins.{there-put_in}
-use Rattle.am_model.proofs.legal.BoundedAlerts.{length-put_in, length-put_known, length-filter, named-or_new}
+use Rattle.am_model.proofs.legal.Begins.{there-upsert}
+use Rattle.am_model.proofs.legal.BoundedAlerts.{length-upsert, length-put_known, length-filter, named-or_new}
 use Rattle.am_model.proofs.states.Alike.{same_name_equiv}
 
 any_named : (name : GroupName) (g : GroupState) (gs : List GroupState) → ((k : GroupState) → same_group g k ≡ is_named name k) → list_any (same_group g) gs ≡ has_group gs name
@@ -35,14 +35,14 @@ abbrev missing : List GroupState → List GroupName → ℕ
 missing gs [] = 0
 missing gs (n ∷ ns) = cond (not (has_group gs n)) (1 + missing gs ns) (missing gs ns)
 
-fewer_missing : (g : GroupState) (gs : List GroupState) (ns : List GroupName) → missing (put_in same_group g gs) ns ≤ missing gs ns
+fewer_missing : (g : GroupState) (gs : List GroupState) (ns : List GroupName) → missing (upsert same_group g gs) ns ≤ missing gs ns
 fewer_missing g gs [] = omega arith
 fewer_missing g gs (n ∷ ns) =
     let rest = fewer_missing g gs ns in
-    elim (has_group gs n) as (λ b. has_group gs n ≡ b → cond (not (has_group (put_in same_group g gs) n)) (1 + missing (put_in same_group g gs) ns) (missing (put_in same_group g gs) ns) ≤ cond (not b) (1 + missing gs ns) (missing gs ns)) [
-      | true ↦ λ e. subst (λ b. cond (not b) (1 + missing (put_in same_group g gs) ns) (missing (put_in same_group g gs) ns) ≤ missing gs ns) (sym (there-put_in n g gs e)) rest
+    elim (has_group gs n) as (λ b. has_group gs n ≡ b → cond (not (has_group (upsert same_group g gs) n)) (1 + missing (upsert same_group g gs) ns) (missing (upsert same_group g gs) ns) ≤ cond (not b) (1 + missing gs ns) (missing gs ns)) [
+      | true ↦ λ e. subst (λ b. cond (not b) (1 + missing (upsert same_group g gs) ns) (missing (upsert same_group g gs) ns) ≤ missing gs ns) (sym (there-upsert n g gs e)) rest
       | false ↦ λ e.
-          elim (has_group (put_in same_group g gs) n) as (λ b. cond (not b) (1 + missing (put_in same_group g gs) ns) (missing (put_in same_group g gs) ns) ≤ 1 + missing gs ns) [
+          elim (has_group (upsert same_group g gs) n) as (λ b. cond (not b) (1 + missing (upsert same_group g gs) ns) (missing (upsert same_group g gs) ns) ≤ 1 + missing gs ns) [
             | true ↦ omega (arith, rest)
             | false ↦ omega (arith, rest)
           ]
@@ -53,8 +53,8 @@ module _ (config : Config) (t : ℕ) (m : MemberState) where
   few-into gs name =
       let g : GroupState = group_with config t m (group_or_new config t gs name) in
       let any : list_any (same_group g) gs ≡ has_group gs name = any_named name g gs (λ k. sym (same_name_equiv.congr name g.name k.name (named-or_new config t m gs name))) in
-      let more : length (put_in same_group g gs) ≤ length gs + 1 = length-put_in same_group g gs in
-      elim (has_group gs name) as (λ b. has_group gs name ≡ b → length (put_in same_group g gs) ≤ length gs + cond b 0 1) [
+      let more : length (upsert same_group g gs) ≤ length gs + 1 = length-upsert same_group g gs in
+      elim (has_group gs name) as (λ b. has_group gs name ≡ b → length (upsert same_group g gs) ≤ length gs + cond b 0 1) [
         | true ↦ λ e. omega (arith, length-put_known same_group g gs (any ∙ e))
         | false ↦ λ e. more
       ] refl

@@ -9,22 +9,22 @@ use Rattle.am_model.specs.declared.record.Call.{Call}
 use Rattle.am_model.specs.declared.record.Call.TheVariants.{Insert, Silence, Begin, Finish, Maintain, Note}
 use Rattle.am_model.specs.Begin.{taken, asked_of, after_asking, after_taking}
 use Rattle.am_model.specs.Finish.{after_finish_of}
-use Rattle.am_model.specs.Lists.{put_in}
+use Rattle.am_model.specs.Lists.{upsert}
 use Rattle.am_model.specs.Note.{after_note, after_note_of, may_note}
 use Rattle.am_model.specs.Replay.{after_call}
 use Rattle.am_model.specs.State.{GroupState, FlushState, State, at_moment, moment, flush_numbered}
-use Rattle.am_model.proofs.legal.BoundedAlerts.{length-put_in, length-put_known}
+use Rattle.am_model.proofs.legal.BoundedAlerts.{length-upsert, length-put_known}
 use Rattle.am_model.proofs.legal.FewGroups.{IsInsert}
 
 -- what is put in passes no limit, where there may be one more or one is like it
-pub fits-put_in : {X : Type 0} (like : X → X → Bool) (x : X) (xs : List X) (most : ℕ) → length xs ≤ most
-    → (nat_le most (length xs) && not (list_any (like x) xs)) ≡ false → length (put_in like x xs) ≤ most
-fits-put_in like x xs most few fits =
-    let more : length (put_in like x xs) ≤ length xs + 1 = length-put_in like x xs in
-    elim (list_any (like x) xs) as (λ b. list_any (like x) xs ≡ b → (nat_le most (length xs) && not b) ≡ false → length (put_in like x xs) ≤ most) [
+pub fits-upsert : {X : Type 0} (like : X → X → Bool) (x : X) (xs : List X) (most : ℕ) → length xs ≤ most
+    → (nat_le most (length xs) && not (list_any (like x) xs)) ≡ false → length (upsert like x xs) ≤ most
+fits-upsert like x xs most few fits =
+    let more : length (upsert like x xs) ≤ length xs + 1 = length-upsert like x xs in
+    elim (list_any (like x) xs) as (λ b. list_any (like x) xs ≡ b → (nat_le most (length xs) && not b) ≡ false → length (upsert like x xs) ≤ most) [
       | true ↦ λ e _. omega (arith, length-put_known like x xs e, few)
       | false ↦ λ _ h.
-          elim (nat_le most (length xs)) as (λ b. nat_le most (length xs) ≡ b → (b && true) ≡ false → length (put_in like x xs) ≤ most) [
+          elim (nat_le most (length xs)) as (λ b. nat_le most (length xs) ≡ b → (b && true) ≡ false → length (upsert like x xs) ≤ most) [
             | true ↦ λ _ g. absurd (cc)
             | false ↦ λ e _. let less : length xs + 1 ≤ most = grind (arith, nat_tests, e) in omega (arith, more, less)
           ] refl h

@@ -20,7 +20,7 @@ use Rattle.am_model.specs.Begin.{taken, asked_of, begun_group, without_resolved,
 use Rattle.am_model.specs.Finish.{leaves_by, finished_group, after_finish_of}
 use Rattle.am_model.specs.Insert.{same_alert, same_member, same_group, names_for, next_stamp, new_group, group_or_new, group_with, put_into_group, after_insert}
 use Rattle.am_model.specs.Laws.{IsConsistent, IsKnownMember, IsStampedAs, KnowsMembers, ReplaysKnowMembers}
-use Rattle.am_model.specs.Lists.{put_in, changed_where}
+use Rattle.am_model.specs.Lists.{upsert, changed_where}
 use Rattle.am_model.specs.Note.{may_note, after_note, after_note_of}
 use Rattle.am_model.specs.Replay.{after, after_call, replay, replay_from}
 use Rattle.am_model.specs.State.{MemberState, GroupState, FlushState, State, opening_state, at_moment, moment, same_name, is_named, flush_numbered}
@@ -28,14 +28,14 @@ use Rattle.am_model.specs.Upkeep.{is_deserted}
 use Rattle.am_model.proofs.legal.Consistent.{consistent_after, consistent_replay}
 use Rattle.am_model.proofs.legal.ConsistentState.{IsTidy, IsSteady, consistent_to}
 use Rattle.am_model.proofs.lists.Distinct.{IsDistinct-nil, all_from, all-both, all-filter, all-find, all-map, all-weaker, find-passes}
-use Rattle.am_model.proofs.lists.Words.{find-put_in, find-put_in_other, IsDistinct-put_in}
+use Rattle.am_model.proofs.lists.Words.{find-upsert, find-put_in_other, IsDistinct-upsert}
 use Rattle.am_model.proofs.states.Alike.{same_alert_equiv, same_group_equiv, same_member_equiv, same_name_equiv, same_name-is}
 
 -- where no two are alike, what is put in holds of it, and what followed of those that aren't like it
-all-put_in_apart : {X : Type 0} (like : X → X → Bool) → IsEquivalence like → (P Q : X → Type 0) (x : X) → Q x → ((y : X) → like x y ≡ false → P y → Q y) → (xs : List X) → IsDistinct like xs → AllByRecursion P xs → AllByRecursion Q (put_in like x xs)
+all-put_in_apart : {X : Type 0} (like : X → X → Bool) → IsEquivalence like → (P Q : X → Type 0) (x : X) → Q x → ((y : X) → like x y ≡ false → P y → Q y) → (xs : List X) → IsDistinct like xs → AllByRecursion P xs → AllByRecursion Q (upsert like x xs)
 all-put_in_apart like laws P Q x here other [] distinct all = (here, tt)
 all-put_in_apart like laws P Q x here other (y ∷ ys) distinct all =
-    elim (like x y) as (λ b. like x y ≡ b → AllByRecursion Q (cond b (x ∷ ys) (y ∷ put_in like x ys))) [
+    elim (like x y) as (λ b. like x y ≡ b → AllByRecursion Q (cond b (x ∷ ys) (y ∷ upsert like x ys))) [
       | true ↦ λ e. (here, all-both (λ z. like y z ≡ false) P Q (λ z apart p. other z (laws.congr x y z e ∙ apart) p) ys (IsDistinct-head like y ys distinct) all.1)
       | false ↦ λ e. (other y e all.0, all-put_in_apart like laws P Q x here other ys (IsDistinct-tail like y ys distinct) all.1)
     ] refl
@@ -78,7 +78,7 @@ KnowsAll config s = (stamps : List Label → ℕ) × KnowsBy config s stamps
 
 module _ (config : Config) (t : ℕ) (m : MemberState) (known : List AlertData) (stamps : List Label → ℕ) where
   abbrev later : List AlertData
-  later = put_in same_alert m.alert known
+  later = upsert same_alert m.alert known
 
   abbrev later_stamps : List Label → ℕ
   later_stamps labels = cond (same_label_set m.alert.labels labels) m.stamp (stamps labels)
@@ -125,7 +125,7 @@ module _ (config : Config) (t : ℕ) (m : MemberState) (known : List AlertData) 
   known-itself : (name : GroupName) → IsAmong all_names name → IsKnown config later later_stamps name m
   known-itself name among =
       record {
-        known = find-put_in same_alert m.alert known (same_alert_equiv.refl m.alert);
+        known = find-upsert same_alert m.alert known (same_alert_equiv.refl m.alert);
         stamped = ap (λ b. cond b m.stamp (stamps m.alert.labels)) (sym (same_alert_equiv.refl m.alert));
         routed = among;
       }
@@ -148,8 +148,8 @@ module _ (config : Config) (t : ℕ) (m : MemberState) (known : List AlertData) 
     pending-with : (g : GroupState) → g.name ≡ next → IsPending (next ∷ rest) g → IsPending rest (group_with config t m g)
     pending-with g named h =
         record {
-          members = all-weaker (IsKnown config later later_stamps g.name) (IsDue rest g.name) (λ k known. inl known) (put_in same_member m g.members) (known-with g named h);
-          distinct = IsDistinct-put_in same_member same_member_equiv m g.members h.distinct;
+          members = all-weaker (IsKnown config later later_stamps g.name) (IsDue rest g.name) (λ k known. inl known) (upsert same_member m g.members) (known-with g named h);
+          distinct = IsDistinct-upsert same_member same_member_equiv m g.members h.distinct;
         }
 
     -- a group of another name is pending for what comes later
@@ -199,7 +199,7 @@ module _ (config : Config) (t : ℕ) (m : MemberState) (known : List AlertData) 
       gs all
   known-each (next ∷ rest) gs among distinct all =
       known-each rest (put_into_group config t m gs next) among.1
-      (IsDistinct-put_in same_group same_group_equiv (group_with config t m (group_or_new config t gs next)) gs distinct)
+      (IsDistinct-upsert same_group same_group_equiv (group_with config t m (group_or_new config t gs next)) gs distinct)
       (pending-into next rest among.0 gs distinct all)
 
 known_insert : (config : Config) (s : State) (t : ℕ) (a : AlertData) → IsSteady s → KnowsAll config s → KnowsAll config (after_insert config s t a)

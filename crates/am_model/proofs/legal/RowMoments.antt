@@ -17,7 +17,7 @@ use Rattle.am_model.specs.State.{AskedState, FlushState, GroupState, State, at_m
 use Rattle.am_model.specs.Upkeep.{has_expired}
 use Rattle.am_model.proofs.legal.Consistent.{moment-within}
 use Rattle.am_model.proofs.lists.Distinct.{all-filter}
-use Rattle.am_model.proofs.lists.Words.{all-put_in}
+use Rattle.am_model.proofs.lists.Words.{all-upsert}
 
 -- of rows and of a state
 abbrev AreTimely : List RowView → Type 0
@@ -32,7 +32,7 @@ logged : (config : Config) (t : ℕ) (f : FlushState) (asked : List AskedState) 
 logged config t f [] rows within timely = timely
 logged config t f (a ∷ asked) rows within timely =
     logged config t f asked (log_with (row_at config t f a.integration) rows) within
-    (all-put_in same_key (row_at config t f a.integration) (λ (row : RowView). row.moment ≤ MAX_MOMENT) rows within timely)
+    (all-upsert same_key (row_at config t f a.integration) (λ (row : RowView). row.moment ≤ MAX_MOMENT) rows within timely)
 
 finishing : (config : Config) (s : State) (t : ℕ) (outcomes : List (ℕ × Outcome)) (o : Option FlushState) → t ≤ MAX_MOMENT → IsTimely s → IsTimely (after_finish_of config s t outcomes o)
 finishing config s t outcomes None within timely = record { clock = within; rows = timely.rows }
@@ -44,7 +44,7 @@ noting config s t integration outcome (Some f) within timely =
     elim (may_note integration outcome f) as (λ b. IsTimely (if b then after_note config s t integration f else at_moment s t)) [
       | true ↦ record {
         clock = within;
-        rows = all-put_in same_key (row_at config t f integration) (λ (row : RowView). row.moment ≤ MAX_MOMENT) s.rows within timely.rows;
+        rows = all-upsert same_key (row_at config t f integration) (λ (row : RowView). row.moment ≤ MAX_MOMENT) s.rows within timely.rows;
       }
       | false ↦ record { clock = within; rows = timely.rows }
     ]

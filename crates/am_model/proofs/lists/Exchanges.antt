@@ -6,7 +6,7 @@ use Rattle.std.specs.List.{swap, IsDistinct}
 use Rattle.std.proofs.lemmas.Bool.{false≢true}
 use Rattle.std.proofs.lemmas.List.Sorted.{IsPermutation-refl, IsPermutation-cons, IsPermutation-trans, IsPermutation-keeps, sum_by-IsPermutation}
 use Rattle.std.proofs.lemmas.Map.Keys.{IsDistinct-head, IsDistinct-tail, IsDistinct-IsPermutation}
-use Rattle.am_model.specs.Lists.{put_in, without}
+use Rattle.am_model.specs.Lists.{upsert, without}
 
 -- a relation of lists that an exchange of the first two elements keeps, and one more element in front, holds of each two lists that are permutations of each other
 module _ {X : Type 0} (R : List X → List X → Type 0) (same : (xs : List X) → R xs xs) (more : (x : X) (xs ys : List X) → R xs ys → R (x ∷ xs) (x ∷ ys)) (two : (x y : X) (xs : List X) → R (x ∷ y ∷ xs) (y ∷ x ∷ xs)) (chain : (xs ys zs : List X) → R xs ys → R ys zs → R xs zs) where
@@ -98,18 +98,18 @@ module _ {X : Type 0} (like : X → X → Bool) (laws : IsEquivalence like) wher
       either false false x y o h = refl
 
   -- an element put in the place of the one that it is like, or added
-  pub put_in-permutation : (x : X) (xs ys : List X) → IsPermutation xs ys → IsDistinct like xs → IsPermutation (put_in like x xs) (put_in like x ys)
-  put_in-permutation x = by_exchanges_distinct (λ xs ys. IsPermutation (put_in like x xs) (put_in like x ys)) (λ xs. IsPermutation-refl (put_in like x xs))
+  pub upsert-permutation : (x : X) (xs ys : List X) → IsPermutation xs ys → IsDistinct like xs → IsPermutation (upsert like x xs) (upsert like x ys)
+  upsert-permutation x = by_exchanges_distinct (λ xs ys. IsPermutation (upsert like x xs) (upsert like x ys)) (λ xs. IsPermutation-refl (upsert like x xs))
       (λ y xs ys p r. one (like x y) y xs ys p r)
       (λ y z xs apart. both (like x y) (like x z) y z xs (λ a b. false≢true (sym apart ∙ sym (laws.congr x y z a) ∙ b)))
-      (λ xs ys zs p q. IsPermutation-trans (put_in like x xs) (put_in like x ys) (put_in like x zs) p q)
+      (λ xs ys zs p q. IsPermutation-trans (upsert like x xs) (upsert like x ys) (upsert like x zs) p q)
     where
-      one : (b : Bool) (y : X) (xs ys : List X) → IsPermutation xs ys → IsPermutation (put_in like x xs) (put_in like x ys) → IsPermutation (cond b (x ∷ xs) (y ∷ put_in like x xs)) (cond b (x ∷ ys) (y ∷ put_in like x ys))
+      one : (b : Bool) (y : X) (xs ys : List X) → IsPermutation xs ys → IsPermutation (upsert like x xs) (upsert like x ys) → IsPermutation (cond b (x ∷ xs) (y ∷ upsert like x xs)) (cond b (x ∷ ys) (y ∷ upsert like x ys))
       one true y xs ys p r = IsPermutation-cons x xs ys p
-      one false y xs ys p r = IsPermutation-cons y (put_in like x xs) (put_in like x ys) r
+      one false y xs ys p r = IsPermutation-cons y (upsert like x xs) (upsert like x ys) r
 
-      both : (a b : Bool) (y z : X) (xs : List X) → (a ≡ true → b ≡ true → ⊥) → IsPermutation (cond a (x ∷ z ∷ xs) (y ∷ cond b (x ∷ xs) (z ∷ put_in like x xs))) (cond b (x ∷ y ∷ xs) (z ∷ cond a (x ∷ xs) (y ∷ put_in like x xs)))
+      both : (a b : Bool) (y z : X) (xs : List X) → (a ≡ true → b ≡ true → ⊥) → IsPermutation (cond a (x ∷ z ∷ xs) (y ∷ cond b (x ∷ xs) (z ∷ upsert like x xs))) (cond b (x ∷ y ∷ xs) (z ∷ cond a (x ∷ xs) (y ∷ upsert like x xs)))
       both true true y z xs h = absurd (h refl refl)
       both true false y z xs h = two_exchanged x z xs
       both false true y z xs h = two_exchanged y x xs
-      both false false y z xs h = two_exchanged y z (put_in like x xs)
+      both false false y z xs h = two_exchanged y z (upsert like x xs)

@@ -6,8 +6,8 @@ use Rattle.std.proofs.Math.ListN.{set}
 use Rattle.std.proofs.lemmas.Bool.Decides.{nat_tests}
 use Rattle.std.proofs.lemmas.List.{length-map, map-set, map-append}
 use Rattle.std.proofs.lemmas.List.Sums.{sum_by-cons}
-use Rattle.am_model.specs.Lists.{put_in}
-use Rattle.am_model.proofs.lists.Words.{put_in-none, put_in-some}
+use Rattle.am_model.specs.Lists.{upsert}
+use Rattle.am_model.proofs.lists.Words.{upsert-none, upsert-some}
 
 less_more : (a b : ℕ) → ltb (1 + a) (suc b) ≡ ltb a b
 less_more a b = grind (arith, nat_tests)
@@ -84,11 +84,11 @@ module _ {X : Type 0} (p : X → Bool) (x : X) (fails : p x ≡ false) where
       ∙ ap (λ b. cond b (Some (position_or_len p xs)) None) (any_at p xs))
 
 module _ {X : Type 0} (like : X → X → Bool) (x : X) where
-  pub put_at : (xs : List X) (i : ℕ) → position (like x) xs ≡ Some i → put_in like x xs ≡ set xs i x
-  put_at xs i e = put_in-some like x xs (any-some (like x) xs i e) ∙ ap (λ k. set xs k x) (place-some (like x) xs i e)
+  pub put_at : (xs : List X) (i : ℕ) → position (like x) xs ≡ Some i → upsert like x xs ≡ set xs i x
+  put_at xs i e = upsert-some like x xs (any-some (like x) xs i e) ∙ ap (λ k. set xs k x) (place-some (like x) xs i e)
 
-  pub put_new : (xs : List X) → position (like x) xs ≡ None → put_in like x xs ≡ xs ++ x ∷ []
-  put_new xs e = put_in-none like x xs (any-none (like x) xs e)
+  pub put_new : (xs : List X) → position (like x) xs ≡ None → upsert like x xs ≡ xs ++ x ∷ []
+  put_new xs e = upsert-none like x xs (any-none (like x) xs e)
 
 module _ {X Y : Type 0} (f : X → Y) (p : Y → Bool) where
   place-map : (xs : List X) → position_or_len p (map f xs) ≡ position_or_len (λ x. p (f x)) xs
@@ -120,8 +120,8 @@ count_alike p q (x ∷ xs) all =
 
 -- what is told of each element, where one is put in
 module _ {X Y : Type 0} (f : X → Y) (like : Y → Y → Bool) (x : X) where
-  pub put_map_at : (xs : List X) (i : ℕ) → position (λ y. like (f x) (f y)) xs ≡ Some i → map f (set xs i x) ≡ put_in like (f x) (map f xs)
+  pub put_map_at : (xs : List X) (i : ℕ) → position (λ y. like (f x) (f y)) xs ≡ Some i → map f (set xs i x) ≡ upsert like (f x) (map f xs)
   put_map_at xs i e = map-set f xs i x ∙ sym (put_at like (f x) (map f xs) i (position-map f (like (f x)) xs ∙ e))
 
-  pub put_map_new : (xs : List X) → position (λ y. like (f x) (f y)) xs ≡ None → map f (xs ++ x ∷ []) ≡ put_in like (f x) (map f xs)
+  pub put_map_new : (xs : List X) → position (λ y. like (f x) (f y)) xs ≡ None → map f (xs ++ x ∷ []) ≡ upsert like (f x) (map f xs)
   put_map_new xs e = map-append f xs (x ∷ []) ∙ sym (put_new like (f x) (map f xs) (position-map f (like (f x)) xs ∙ e))

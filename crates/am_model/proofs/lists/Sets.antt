@@ -5,7 +5,7 @@ use Rattle.std.specs.Cmp.{IsEquivalence}
 use Rattle.std.specs.List.{AllByRecursion, IsDistinct, list_any, filter_map, cons_option}
 use Rattle.std.proofs.lemmas.Bool.{false≢true, not-true}
 use Rattle.std.proofs.lemmas.Map.Keys.{IsDistinct-head, IsDistinct-tail, IsDistinct-cons}
-use Rattle.am_model.specs.Lists.{put_in, without}
+use Rattle.am_model.specs.Lists.{upsert, without}
 use Rattle.am_model.proofs.lists.Alone.{without-none}
 use Rattle.am_model.proofs.lists.Distinct.{IsDistinct-filter, all-weaker, all-passes}
 
@@ -49,10 +49,10 @@ module _ {X : Type 0} where
       by false b d = refl
 
   -- after one is put in
-  pub any-put : (like : X → X → Bool) → IsEquivalence like → (test : X → Bool) (x : X) (xs : List X) → IsDistinct like xs → list_any test (put_in like x xs) ≡ (test x || list_any test (without (like x) xs))
+  pub any-put : (like : X → X → Bool) → IsEquivalence like → (test : X → Bool) (x : X) (xs : List X) → IsDistinct like xs → list_any test (upsert like x xs) ≡ (test x || list_any test (without (like x) xs))
   any-put like laws test x [] h = refl
   any-put like laws test x (y ∷ ys) h =
-      elim (like x y) as (λ b. like x y ≡ b → list_any test (cond b (x ∷ ys) (y ∷ put_in like x ys)) ≡ (test x || list_any test (cond (not b) (y ∷ without (like x) ys) (without (like x) ys)))) [
+      elim (like x y) as (λ b. like x y ≡ b → list_any test (cond b (x ∷ ys) (y ∷ upsert like x ys)) ≡ (test x || list_any test (cond (not b) (y ∷ without (like x) ys) (without (like x) ys)))) [
         | true ↦ λ e.
             ap (λ zs. test x || list_any test zs) (sym (without-none (like x) ys (all-weaker (λ z. like y z ≡ false) (λ z. like x z ≡ false) (λ z apart. laws.congr x y z e ∙ apart) ys (IsDistinct-head like y ys h))))
         | false ↦ λ e.

@@ -9,52 +9,52 @@ use Rattle.std.proofs.lemmas.List.Sorted.{IsPermutation-refl, IsPermutation-cons
 use Rattle.std.proofs.lemmas.Map.Keys.{IsDistinct-head, IsDistinct-tail, IsDistinct-cons}
 use Rattle.std.proofs.Math.Numerals.{one-add}
 use Rattle.am_model.proofs.lists.Exchanges.{two_exchanged}
-use Rattle.am_model.specs.Lists.{put_in, put_in_order, in_order}
+use Rattle.am_model.specs.Lists.{upsert, put_in_order, in_order}
 
 module _ {X : Type 0} (like : X → X → Bool) (x : X) where
   -- no element is like it: it is added
-  pub put_in-none : (xs : List X) → list_any (like x) xs ≡ false → put_in like x xs ≡ xs ++ x ∷ []
-  put_in-none [] h = refl
-  put_in-none (y ∷ ys) h =
-      elim (like x y) as (λ b. (b || list_any (like x) ys) ≡ false → cond b (x ∷ ys) (y ∷ put_in like x ys) ≡ y ∷ (ys ++ x ∷ [])) [
+  pub upsert-none : (xs : List X) → list_any (like x) xs ≡ false → upsert like x xs ≡ xs ++ x ∷ []
+  upsert-none [] h = refl
+  upsert-none (y ∷ ys) h =
+      elim (like x y) as (λ b. (b || list_any (like x) ys) ≡ false → cond b (x ∷ ys) (y ∷ upsert like x ys) ≡ y ∷ (ys ++ x ∷ [])) [
         | true ↦ λ e. absurd (cc)
-        | false ↦ λ e. ap (λ zs. y ∷ zs) (put_in-none ys e)
+        | false ↦ λ e. ap (λ zs. y ∷ zs) (upsert-none ys e)
       ] h
 
   -- some element is like it: the first of these is replaced
-  pub put_in-some : (xs : List X) → list_any (like x) xs ≡ true → put_in like x xs ≡ slice_set xs (position_or_len (like x) xs) x
-  put_in-some [] h = absurd (cc)
-  put_in-some (y ∷ ys) h =
-      elim (like x y) as (λ b. (b || list_any (like x) ys) ≡ true → cond b (x ∷ ys) (y ∷ put_in like x ys) ≡ slice_set (y ∷ ys) (cond (not b) (1 + position_or_len (like x) ys) 0) x) [
+  pub upsert-some : (xs : List X) → list_any (like x) xs ≡ true → upsert like x xs ≡ slice_set xs (position_or_len (like x) xs) x
+  upsert-some [] h = absurd (cc)
+  upsert-some (y ∷ ys) h =
+      elim (like x y) as (λ b. (b || list_any (like x) ys) ≡ true → cond b (x ∷ ys) (y ∷ upsert like x ys) ≡ slice_set (y ∷ ys) (cond (not b) (1 + position_or_len (like x) ys) 0) x) [
         | true ↦ λ e. refl
-        | false ↦ λ e. ap (λ zs. y ∷ zs) (put_in-some ys e) ∙ ap (λ n. slice_set (y ∷ ys) n x) (sym (one-add (position_or_len (like x) ys)))
+        | false ↦ λ e. ap (λ zs. y ∷ zs) (upsert-some ys e) ∙ ap (λ n. slice_set (y ∷ ys) n x) (sym (one-add (position_or_len (like x) ys)))
       ] h
 
   -- it is found where it was put
-  pub find-put_in : (xs : List X) → like x x ≡ true → find (like x) (put_in like x xs) ≡ Some x
-  find-put_in [] h = ap (λ b. cond b (Some x) None) h
-  find-put_in (y ∷ ys) h =
-      elim (like x y) as (λ b. like x y ≡ b → find (like x) (cond b (x ∷ ys) (y ∷ put_in like x ys)) ≡ Some x) [
+  pub find-upsert : (xs : List X) → like x x ≡ true → find (like x) (upsert like x xs) ≡ Some x
+  find-upsert [] h = ap (λ b. cond b (Some x) None) h
+  find-upsert (y ∷ ys) h =
+      elim (like x y) as (λ b. like x y ≡ b → find (like x) (cond b (x ∷ ys) (y ∷ upsert like x ys)) ≡ Some x) [
         | true ↦ λ e. ap (λ b. cond b (Some x) (find (like x) ys)) h
-        | false ↦ λ e. ap (λ b. cond b (Some y) (find (like x) (put_in like x ys))) e ∙ find-put_in ys h
+        | false ↦ λ e. ap (λ b. cond b (Some y) (find (like x) (upsert like x ys))) e ∙ find-upsert ys h
       ] refl
 
   -- a test that what is put and what it replaces don't pass finds what it found
-  pub find-put_in_other : (test : X → Bool) (xs : List X) → test x ≡ false → ((y : X) → like x y ≡ true → test y ≡ false) → find test (put_in like x xs) ≡ find test xs
+  pub find-put_in_other : (test : X → Bool) (xs : List X) → test x ≡ false → ((y : X) → like x y ≡ true → test y ≡ false) → find test (upsert like x xs) ≡ find test xs
   find-put_in_other test [] h apart = ap (λ b. cond b (Some x) None) h
   find-put_in_other test (y ∷ ys) h apart =
-      elim (like x y) as (λ b. like x y ≡ b → find test (cond b (x ∷ ys) (y ∷ put_in like x ys)) ≡ find test (y ∷ ys)) [
+      elim (like x y) as (λ b. like x y ≡ b → find test (cond b (x ∷ ys) (y ∷ upsert like x ys)) ≡ find test (y ∷ ys)) [
         | true ↦ λ e. ap (λ b. cond b (Some x) (find test ys)) h ∙ sym (ap (λ b. cond b (Some y) (find test ys)) (apart y e))
         | false ↦ λ e. ap (λ o. cond (test y) (Some y) o) (find-put_in_other test ys h apart)
       ] refl
 
   -- what holds of it and of each element holds of each after it is put in
-  pub all-put_in : (P : X → Type 0) (xs : List X) → P x → AllByRecursion P xs → AllByRecursion P (put_in like x xs)
-  all-put_in P [] h all = (h, tt)
-  all-put_in P (y ∷ ys) h all =
-      elim (like x y) as (λ b. AllByRecursion P (cond b (x ∷ ys) (y ∷ put_in like x ys))) [
+  pub all-upsert : (P : X → Type 0) (xs : List X) → P x → AllByRecursion P xs → AllByRecursion P (upsert like x xs)
+  all-upsert P [] h all = (h, tt)
+  all-upsert P (y ∷ ys) h all =
+      elim (like x y) as (λ b. AllByRecursion P (cond b (x ∷ ys) (y ∷ upsert like x ys))) [
         | true ↦ (h, all.1)
-        | false ↦ (all.0, all-put_in P ys h all.1)
+        | false ↦ (all.0, all-upsert P ys h all.1)
       ]
 
 -- elements that differ stay so
@@ -63,14 +63,14 @@ module _ {X : Type 0} (like : X → X → Bool) (laws : IsEquivalence like) (x :
   replaced y [] e all = tt
   replaced y (z ∷ zs) e all = (laws.congr x y z e ∙ all.0, replaced y zs e all.1)
 
-  pub IsDistinct-put_in : (xs : List X) → IsDistinct like xs → IsDistinct like (put_in like x xs)
-  IsDistinct-put_in [] h = IsDistinct-cons like x [] tt h
-  IsDistinct-put_in (y ∷ ys) h =
+  pub IsDistinct-upsert : (xs : List X) → IsDistinct like xs → IsDistinct like (upsert like x xs)
+  IsDistinct-upsert [] h = IsDistinct-cons like x [] tt h
+  IsDistinct-upsert (y ∷ ys) h =
       let head = IsDistinct-head like y ys h in
       let tail = IsDistinct-tail like y ys h in
-      elim (like x y) as (λ b. like x y ≡ b → IsDistinct like (cond b (x ∷ ys) (y ∷ put_in like x ys))) [
+      elim (like x y) as (λ b. like x y ≡ b → IsDistinct like (cond b (x ∷ ys) (y ∷ upsert like x ys))) [
         | true ↦ λ e. IsDistinct-cons like x ys (replaced y ys e head) tail
-        | false ↦ λ e. IsDistinct-cons like y (put_in like x ys) (all-put_in like x (λ z. like y z ≡ false) ys (laws.symm y x ∙ e) head) (IsDistinct-put_in ys tail)
+        | false ↦ λ e. IsDistinct-cons like y (upsert like x ys) (all-upsert like x (λ z. like y z ≡ false) ys (laws.symm y x ∙ e) head) (IsDistinct-upsert ys tail)
       ] refl
 
 -- a list in order has the elements of the list

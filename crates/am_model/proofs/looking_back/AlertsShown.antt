@@ -20,7 +20,7 @@ use Rattle.am_model.proofs.states.InOrder.{in_order-alerts, IsDistinct-alerts}
 use Rattle.am_model.proofs.lists.Words.{in_order-moves}
 use Rattle.am_model.proofs.looking_back.Opened.{Finds}
 use Rattle.am_model.proofs.looking_back.Pasts.{legal_past, replay_is_past}
-use Rattle.am_model.proofs.looking_back.ToldSets.{members-present}
+use Rattle.am_model.proofs.looking_back.AlertSets.{members-present}
 
 module _ (config : Config) (s : State) (past : List Record) (steady : IsSteady s) (k : Finds config s past) where
   -- the alerts of one group

@@ -21,8 +21,8 @@ use Rattle.am_model.specs.Configured.{route_of, integrations_named, integrations
 use Rattle.am_model.specs.look_back.Entry.{resolved_alerts_in, firing_in, resolved_in, entry_in}
 use Rattle.am_model.specs.Records.{entry}
 use Rattle.am_model.specs.Insert.{same_member}
-use Rattle.am_model.specs.look_back.Laws.{member_with, EveryLegalHistory, asked_after, IsAskedRightly, BeginsAskRightly, wants_resolved, IsNoticeFound, IsToldRightly, BeginsTellWhatIsThere}
-use Rattle.am_model.specs.look_back.Outlook.{reason_of}
+use Rattle.am_model.specs.look_back.Laws.{member_with, EveryLegalHistory, asked_after, IsAskedRightly, BeginsNotifyExactlyWhomNeeded, wants_resolved, IsNoticeFound, IsToldRightly, NoticesListPresentAlerts}
+use Rattle.am_model.specs.look_back.Preview.{reason_of}
 use Rattle.am_model.specs.look_back.Past.{past_of, moment_at, takes}
 use Rattle.am_model.specs.look_back.Reasons.{reason_told, reason_in}
 use Rattle.am_model.specs.look_back.Presence.{presence}
@@ -38,7 +38,7 @@ use Rattle.am_model.proofs.looking_back.Opened.{Finds, members-tidy}
 use Rattle.am_model.proofs.looking_back.Pasts.{state_after, at_each, legal_past}
 use Rattle.am_model.proofs.looking_back.RowSteps.{Tells}
 use Rattle.am_model.proofs.lists.Sets.{any-found, each-found, passes}
-use Rattle.am_model.proofs.looking_back.ToldSets.{firing-same, resolved-same, firing-found, resolved-found, count-same}
+use Rattle.am_model.proofs.looking_back.AlertSets.{firing-same, resolved-same, firing-found, resolved-found, count-same}
 use Rattle.am_model.proofs.states.Alike.{same_name-is}
 
 module _ (config : Config) (id : ℕ) (s : State) (past : List Record) (pass : ℕ) (steady : IsSteady s) (k : Finds config s past) (l : Tells config s past) where
@@ -171,8 +171,8 @@ module _ (config : Config) (id : ℕ) (s : State) (past : List Record) (pass : �
         note = λ now number i outcome f is may. tt;
       }
 
-pub begins_ask_rightly : EveryLegalHistory BeginsAskRightly
-begins_ask_rightly config id history legal =
+pub begins_notify_exactly_whom_needed : EveryLegalHistory BeginsNotifyExactlyWhomNeeded
+begins_notify_exactly_whom_needed config id history legal =
     at_each config id (IsAskedRightly config)
     (λ r past before told.
     let s = state_after config past in
@@ -180,8 +180,8 @@ begins_ask_rightly config id history legal =
     each_call config id s (λ c new p. IsAskedRightly config (entry r.pass c p) past) asks r.call r.reply told)
     (past_of history) (legal_past config id history legal)
 
-pub begins_tell_what_is_there : EveryLegalHistory BeginsTellWhatIsThere
-begins_tell_what_is_there config id history legal =
+pub notices_list_present_alerts : EveryLegalHistory NoticesListPresentAlerts
+notices_list_present_alerts config id history legal =
     at_each config id (λ r past. IsToldRightly config (moment_at (r ∷ past)) past r.reply)
     (λ r past before told.
     let s = state_after config past in

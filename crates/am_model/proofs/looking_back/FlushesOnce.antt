@@ -51,7 +51,7 @@ use Rattle.am_model.proofs.looking_back.Opened.{notices_at, asked_as, IsOpened, 
 use Rattle.am_model.proofs.looking_back.Pasts.{state_after, IsLegalPast, at_each, legal_past}
 use Rattle.am_model.proofs.looking_back.PastWords.{has_labels}
 use Rattle.am_model.proofs.lists.Sets.{any-failing, any-find, any-filter, any-alike, any-and, any-map, passes}
-use Rattle.am_model.proofs.looking_back.ToldSets.{present-passes}
+use Rattle.am_model.proofs.looking_back.AlertSets.{present-passes}
 use Rattle.am_model.proofs.states.Alike.{same_name-is}
 
 -- whether a reply is a flush whose group and number pass a test

@@ -24,7 +24,7 @@ use Rattle.am_model.specs.Finish.{leaves_by, finished_group, all_succeeded, is_l
 use Rattle.am_model.specs.Notice.{NoticeData}
 use Rattle.am_model.specs.Records.{entry, now_of}
 use Rattle.am_model.specs.Insert.{names_for, next_stamp, new_group, group_or_new, group_with, put_into_group, inserted, after_insert, same_member}
-use Rattle.am_model.specs.Lists.{put_in, without, changed_where}
+use Rattle.am_model.specs.Lists.{upsert, without, changed_where}
 use Rattle.am_model.specs.look_back.Laws.{member_with}
 use Rattle.am_model.specs.look_back.Past.{moment_at, is_flush, is_note, begin_of, was_noted}
 use Rattle.am_model.specs.look_back.Presence.{goes_to, inserts, begin_since, resolved_at_begin, all_succeeded_at, last_insert, unless_left, removes, presence}
@@ -54,8 +54,8 @@ module _ (config : Config) (t : ℕ) (m : MemberState) (labels : List Label) (na
   into-one gs n =
       let g = group_or_new config t gs n in
       ap (member_with labels) (members_of-put name (group_with config t m g) gs)
-      ∙ ap (λ k. member_with labels (cond (same_name name k) (put_in same_member m g.members) (members_of gs name))) (new_name gs n)
-      ∙ ap (λ ms. member_with labels (cond (same_name name n) (put_in same_member m ms) (members_of gs name))) (members-or_new config t m gs n)
+      ∙ ap (λ k. member_with labels (cond (same_name name k) (upsert same_member m g.members) (members_of gs name))) (new_name gs n)
+      ∙ ap (λ ms. member_with labels (cond (same_name name n) (upsert same_member m ms) (members_of gs name))) (members-or_new config t m gs n)
       ∙ by (same_name name n) refl
     where
       out : (b : Bool) (o : Option MemberState) → o ≡ cond (b && false) (Some m) o
@@ -66,7 +66,7 @@ module _ (config : Config) (t : ℕ) (m : MemberState) (labels : List Label) (na
       into true o = refl
       into false o = refl
 
-      by : (b : Bool) → same_name name n ≡ b → member_with labels (cond b (put_in same_member m (members_of gs n)) (members_of gs name)) ≡ cond (has_labels labels m && b) (Some m) (member_with labels (members_of gs name))
+      by : (b : Bool) → same_name name n ≡ b → member_with labels (cond b (upsert same_member m (members_of gs n)) (members_of gs name)) ≡ cond (has_labels labels m && b) (Some m) (member_with labels (members_of gs name))
       by true e =
           member-put labels m (members_of gs n)
           ∙ ap (λ k. cond (has_labels labels m) (Some m) (member_with labels (members_of gs k))) (sym (same_name-is name n e))

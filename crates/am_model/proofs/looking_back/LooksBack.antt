@@ -1,13 +1,13 @@
 -- What looking back says of every legal history, in one.
 use Rattle.am_model.specs.look_back.Laws.{EveryLegalHistory, LooksBack}
 use Rattle.am_model.proofs.looking_back.AlertsShown.{shown_alerts_are_found}
-use Rattle.am_model.proofs.looking_back.AskedRightly.{begins_ask_rightly, begins_tell_what_is_there}
+use Rattle.am_model.proofs.looking_back.AskedRightly.{begins_notify_exactly_whom_needed, notices_list_present_alerts}
 use Rattle.am_model.proofs.looking_back.BeginIntervals.{begins_keep_the_interval}
 use Rattle.am_model.proofs.legal.Consistent.{consistent_replay}
 use Rattle.am_model.proofs.looking_back.FlushesOnce.{flushes_end_once}
 use Rattle.am_model.proofs.looking_back.FoundAlerts.{alerts_are_found}
 use Rattle.am_model.proofs.looking_back.FoundRows.{rows_are_found}
-use Rattle.am_model.proofs.looking_back.ReasonsDecide.{begins_have_reasons}
+use Rattle.am_model.proofs.looking_back.ReasonsAreExact.{begins_have_reasons}
 use Rattle.am_model.proofs.looking_back.Refiring.{refiring_alerts_stay}
 use Rattle.am_model.proofs.looking_back.RowsDelivered.{shown_rows_are_found, only_delivered_is_logged, rows_come_by_delivery, rows_were_delivered}
 
@@ -24,8 +24,8 @@ histories_look_back config id history legal =
       delivered = rows_were_delivered config id history legal;
       refiring = refiring_alerts_stay config id history legal;
       once = flushes_end_once config id history legal;
-      asked = begins_ask_rightly config id history legal;
-      tells = begins_tell_what_is_there config id history legal;
+      asked = begins_notify_exactly_whom_needed config id history legal;
+      tells = notices_list_present_alerts config id history legal;
       interval = begins_keep_the_interval config id history legal;
       reasons = begins_have_reasons config id history legal;
     }

@@ -11,7 +11,7 @@ use Rattle.am_alerts.specs.declared.labels.Label.{Label}
 use Rattle.am_nflog.specs.Members.{is_empty}
 use Rattle.am_model.specs.declared.group.GroupName.{GroupName}
 use Rattle.am_model.specs.Insert.{same_member, same_group}
-use Rattle.am_model.specs.Lists.{put_in, without, changed_where}
+use Rattle.am_model.specs.Lists.{upsert, without, changed_where}
 use Rattle.am_model.specs.look_back.Laws.{member_with}
 use Rattle.am_model.specs.State.{MemberState, GroupState, Stamped, same_name, is_named}
 use Rattle.am_model.specs.Finish.{is_leaving}
@@ -32,10 +32,10 @@ unless-never (Some x) = refl
 
 module _ {X : Type 0} (test : X → Bool) where
   -- what is put in is found, and else what was found
-  pub find-put : (like : X → X → Bool) (x : X) → ((y : X) → like x y ≡ true → test y ≡ test x) → ((y : X) → test x ≡ true → test y ≡ true → like x y ≡ true) → (xs : List X) → find test (put_in like x xs) ≡ cond (test x) (Some x) (find test xs)
+  pub find-put : (like : X → X → Bool) (x : X) → ((y : X) → like x y ≡ true → test y ≡ test x) → ((y : X) → test x ≡ true → test y ≡ true → like x y ≡ true) → (xs : List X) → find test (upsert like x xs) ≡ cond (test x) (Some x) (find test xs)
   find-put like x sees tells [] = refl
   find-put like x sees tells (y ∷ ys) =
-      elim (like x y) as (λ b. like x y ≡ b → find test (cond b (x ∷ ys) (y ∷ put_in like x ys)) ≡ cond (test x) (Some x) (cond (test y) (Some y) (find test ys))) [
+      elim (like x y) as (λ b. like x y ≡ b → find test (cond b (x ∷ ys) (y ∷ upsert like x ys)) ≡ cond (test x) (Some x) (cond (test y) (Some y) (find test ys))) [
         | true ↦ λ e. here (test x) (test y) (sees y e)
         | false ↦ λ e. ap (λ o. cond (test y) (Some y) o) (find-put like x sees tells ys) ∙ there (test x) (test y) (λ f g. false≢true (sym e ∙ tells y f g)) refl refl
       ] refl
@@ -79,7 +79,7 @@ module _ (labels : List Label) where
   alike : (m n : MemberState) → has_labels m ≡ true → has_labels n ≡ true → same_member m n ≡ true
   alike m n e f = sym (same_label_set_equiv.congr labels m.alert.labels n.alert.labels e) ∙ f
 
-  pub member-put : (m : MemberState) (ms : List MemberState) → member_with labels (put_in same_member m ms) ≡ cond (has_labels m) (Some m) (member_with labels ms)
+  pub member-put : (m : MemberState) (ms : List MemberState) → member_with labels (upsert same_member m ms) ≡ cond (has_labels m) (Some m) (member_with labels ms)
   member-put m ms =
       find-put has_labels same_member m
       (λ n e. same_label_set_equiv.symm labels n.alert.labels ∙ sym (same_label_set_equiv.congr m.alert.labels n.alert.labels labels e) ∙ same_label_set_equiv.symm m.alert.labels labels)
@@ -95,10 +95,10 @@ module _ (labels : List Label) where
 -- ---- the alerts of a name's group
 
 -- after a group was put in
-pub members_of-put : (name : GroupName) (g : GroupState) (gs : List GroupState) → members_of (put_in same_group g gs) name ≡ cond (is_named name g) g.members (members_of gs name)
+pub members_of-put : (name : GroupName) (g : GroupState) (gs : List GroupState) → members_of (upsert same_group g gs) name ≡ cond (is_named name g) g.members (members_of gs name)
 members_of-put name g [] = refl
 members_of-put name g (k ∷ gs) =
-    elim (same_group g k) as (λ b. same_group g k ≡ b → members_of (cond b (g ∷ gs) (k ∷ put_in same_group g gs)) name ≡ cond (is_named name g) g.members (cond (is_named name k) k.members (members_of gs name))) [
+    elim (same_group g k) as (λ b. same_group g k ≡ b → members_of (cond b (g ∷ gs) (k ∷ upsert same_group g gs)) name ≡ cond (is_named name g) g.members (cond (is_named name k) k.members (members_of gs name))) [
       | true ↦ λ e. here (is_named name g) (is_named name k) (same_name_equiv.symm name k.name ∙ sym (same_name_equiv.congr g.name k.name name e) ∙ same_name_equiv.symm g.name name)
       | false ↦ λ e.
           ap (λ ms. cond (is_named name k) k.members ms) (members_of-put name g gs)

@@ -27,7 +27,7 @@ use Rattle.am_model.specs.Finish.{same_key, row_at, log_with, has_succeeded, log
 use Rattle.am_model.specs.Records.{entry}
 use Rattle.am_model.specs.Insert.{same_alert, same_member, inserted, after_insert}
 use Rattle.am_model.specs.look_back.Laws.{member_with}
-use Rattle.am_model.specs.Lists.{put_in, changed_where}
+use Rattle.am_model.specs.Lists.{upsert, changed_where}
 use Rattle.am_model.specs.Note.{with_note, after_note}
 use Rattle.am_model.specs.look_back.Past.{moment_at, is_flush, begin_of, was_noted, succeeded}
 use Rattle.am_model.specs.State.{AskedState, FlushState, GroupState, State, moment, is_named, same_name, flush_numbered}
@@ -39,7 +39,7 @@ use Rattle.am_model.proofs.looking_back.FoundSteps.{clock-step}
 use Rattle.am_model.proofs.looking_back.Opened.{notices_at, asked_as, IsOpened, Finds, members-tidy}
 use Rattle.am_model.proofs.looking_back.PastWords.{unless, find-put, find-without}
 use Rattle.am_model.proofs.lists.Sets.{any-filter, any-alike, any-and, any-put, any-map}
-use Rattle.am_model.proofs.looking_back.ToldSets.{firing-found, resolved-found}
+use Rattle.am_model.proofs.looking_back.AlertSets.{firing-found, resolved-found}
 use Rattle.am_model.proofs.states.Alike.{same_alert_equiv, same_key_equiv, same_silence_equiv}
 
 -- what an open flush tells is what looking back finds at its begin
@@ -64,7 +64,7 @@ told-step config r past f other o =
 
 -- after the latest comes first
 latest-any : {X : Type 0} (like : X → X → Bool) → IsEquivalence like → (x : X) (xs ys : List X) → IsDistinct like xs → ((test : X → Bool) → list_any test xs ≡ list_any test ys) → (test : X → Bool)
-    → list_any test (put_in like x xs) ≡ list_any test (latest_first like (Some x) ys)
+    → list_any test (upsert like x xs) ≡ list_any test (latest_first like (Some x) ys)
 latest-any like laws x xs ys h same test =
     any-put like laws test x xs h
     ∙ ap (λ b. test x || b) (any-filter test (λ y. not (like x y)) xs ∙ same (λ y. not (like x y) && test y) ∙ sym (any-filter test (λ y. not (like x y)) ys))

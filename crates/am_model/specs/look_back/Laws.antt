@@ -9,7 +9,7 @@ use Rattle.am_alerts.specs.declared.labels.Label.{Label}
 use Rattle.am_nflog.specs.Members.{is_empty}
 use Rattle.am_nflog.specs.Needed.{needed}
 use Rattle.am_retry.specs.declared.outcome.Outcome.{Outcome}
-use Rattle.am_model.specs.declared.notice.TheConstants.{LEAST_TIME}
+use Rattle.am_model.specs.declared.notice.TheConstants.{MIN_FLUSH_TIMEOUT}
 use Rattle.am_model.specs.declared.config.Config.{Config}
 use Rattle.am_model.specs.declared.config.Integration.{Integration}
 use Rattle.am_model.specs.declared.group.GroupName.{GroupName}
@@ -223,8 +223,8 @@ IsAskedRightly config r past =
     → map (λ n. n.integration) (notices_in r.reply) ≡ asked_after config name (moment_at (r ∷ past)) past
 
 -- each begin that takes a group asks those that it is to ask
-abbrev pub BeginsAskRightly : Config → List Record → Type 0
-BeginsAskRightly config history = AtEach (IsAskedRightly config) (past_of history)
+abbrev pub BeginsNotifyExactlyWhomNeeded : Config → List Record → Type 0
+BeginsNotifyExactlyWhomNeeded config history = AtEach (IsAskedRightly config) (past_of history)
 
 -- ---- what a begin tells
 
@@ -246,7 +246,7 @@ pub record IsNoticeFound (config : Config) (number : ℕ) (name : GroupName) (un
 pub record IsFlushFound (config : Config) (number : ℕ) (name : GroupName) (until t : ℕ) (past : Past)
     (notices : List NoticeData) : Type 0 where
   pub asks : is_empty notices ≡ false
-  pub deadline : until ≡ t + max (route_of config name).group_interval LEAST_TIME
+  pub deadline : until ≡ t + max (route_of config name).group_interval MIN_FLUSH_TIMEOUT
   pub listed : All (IsNoticeFound config number name until t past) notices
 
 -- the reply to a begin at t tells what looking back finds: a quiet one, how many alerts of the group are resolved, muted ones too
@@ -261,8 +261,8 @@ IsToldRightly config t past (Maintained maintained) = Unit {0}
 IsToldRightly config t past Noted = Unit {0}
 
 -- each begin tells what is there
-abbrev pub BeginsTellWhatIsThere : Config → List Record → Type 0
-BeginsTellWhatIsThere config history = AtEach (λ r past. IsToldRightly config (moment_at (r ∷ past)) past r.reply) (past_of history)
+abbrev pub NoticesListPresentAlerts : Config → List Record → Type 0
+NoticesListPresentAlerts config history = AtEach (λ r past. IsToldRightly config (moment_at (r ∷ past)) past r.reply) (past_of history)
 
 -- ---- all of it, of one history
 
@@ -280,7 +280,7 @@ pub record LooksBack (config : Config) (history : List Record) : Type 0 where
   pub delivered : RowsWereDelivered config history
   pub refiring : RefiringAlertsStay config history
   pub once : FlushesEndOnce config history
-  pub asked : BeginsAskRightly config history
-  pub tells : BeginsTellWhatIsThere config history
+  pub asked : BeginsNotifyExactlyWhomNeeded config history
+  pub tells : NoticesListPresentAlerts config history
   pub interval : BeginsKeepTheInterval config history
   pub reasons : BeginsHaveReasons config history

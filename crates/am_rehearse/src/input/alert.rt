@@ -1,9 +1,9 @@
 //! When alerts fire.
 use crate::input::span::Span;
 use am_alerts::labels::Labels;
-use am_cli::fault::{InputFault, Word};
+use am_cli::fault::{FaultKind, InputFault};
 use am_cli::labels::read_labels;
-use am_cli::place::Place;
+use am_cli::place::JsonPointer;
 use am_cli::reader::{FromJson, Object, Reader};
 
 /// A label set, and when an alert with it fires.
@@ -33,7 +33,7 @@ impl<'v> FromJson<'v> for AlertItem {
         refuse_both(&alert)?;
         let spans = listed.list::<Span>()?;
         if !follow_each_other(spans.as_slice()) {
-            return Err(listed.refuse(Word::Value));
+            return Err(listed.refuse(FaultKind::BadValue));
         }
         Ok(AlertItem {
             labels,
@@ -47,7 +47,7 @@ impl<'v> FromJson<'v> for AlertItem {
 fn refuse_both(alert: &Object<'_, '_>) -> Result<(), InputFault> {
     for name in ["from", "to"] {
         if let Some(member) = alert.optional(name) {
-            return Err(member.refuse(Word::Value));
+            return Err(member.refuse(FaultKind::BadValue));
         }
     }
     Ok(())

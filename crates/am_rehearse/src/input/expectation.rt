@@ -12,9 +12,9 @@ use am_alerts::sequence::Sequence;
 use am_alerts::text::Text;
 use am_board::config::Config;
 use am_cli::duration::{duration, duration_or};
-use am_cli::fault::{InputFault, Word};
+use am_cli::fault::{FaultKind, InputFault};
 use am_cli::labels::read_labels;
-use am_cli::place::Place;
+use am_cli::place::JsonPointer;
 use am_cli::reader::{FromJson, Object, Reader};
 use am_timeline::expectation::{Expectation, Wanted};
 use std::alloc::{AllocError, Global};
@@ -76,7 +76,7 @@ fn check_targets(
     config: &Config,
     expectations: &[Expectation],
 ) -> Result<(), InputFault> {
-    let top = Place::Top;
+    let top = JsonPointer::Root;
     let listed = top.member("expect");
     for (index, expectation) in expectations.iter().enumerate() {
         if let Some(receiver) = &expectation.receiver {
@@ -146,7 +146,7 @@ fn read_span(item: &Object<'_, '_>, until: u64) -> Result<(u64, u64), InputFault
     };
     for name in ["from", "to"] {
         if let Some(member) = item.optional(name) {
-            return Err(member.refuse(Word::Value));
+            return Err(member.refuse(FaultKind::BadValue));
         }
     }
     let at = duration(&at)?;
@@ -163,7 +163,7 @@ fn read_to(item: &Object<'_, '_>, from: u64, until: u64) -> Result<u64, InputFau
     };
     let to = duration(&member)?;
     if to < from {
-        return Err(member.refuse(Word::Value));
+        return Err(member.refuse(FaultKind::BadValue));
     }
     Ok(to)
 }
@@ -178,7 +178,7 @@ fn read_wanted(item: &Object<'_, '_>) -> Result<Wanted, InputFault>
     }
     match (firing, resolved) {
         (None, None) => Ok(Wanted::NoNotice),
-        _ => Err(item.required("none")?.refuse(Word::Value)),
+        _ => Err(item.required("none")?.refuse(FaultKind::BadValue)),
     }
 }
 

@@ -1,6 +1,6 @@
 //! Where a plan stands in the input.
-use am_cli::fault::{InputFault, Word};
-use am_cli::place::Place;
+use am_cli::fault::{FaultKind, InputFault};
+use am_cli::place::JsonPointer;
 use std::alloc::Global;
 
 /// Where a plan stands in the input: the number of its item, and of its span, if the item lists them.
@@ -13,20 +13,23 @@ pub enum Origin {
 impl Origin {
     /// A limit leaves no room for the plan.
     pub fn refuse_full(&self, alloc: Global) -> InputFault {
-        self.refuse(alloc, Word::Full)
+        self.refuse(alloc, FaultKind::Full)
     }
 
     /// What is made of the plan's members is refused.
     pub fn refuse_value(&self, alloc: Global) -> InputFault {
-        self.refuse(alloc, Word::Value)
+        self.refuse(alloc, FaultKind::BadValue)
     }
 
-    fn refuse(&self, alloc: Global, word: Word) -> InputFault {
-        let top = Place::Top;
+    fn refuse(&self, alloc: Global, fault_kind: FaultKind) -> InputFault {
+        let top = JsonPointer::Root;
         match self {
-            Origin::Silence { item } => top.member("silences").item(*item).refuse(alloc, word),
+            Origin::Silence { item } => top
+                .member("silences")
+                .item(*item)
+                .refuse(alloc, fault_kind),
             Origin::Alert { item, span: None } => {
-                top.member("alerts").item(*item).refuse(alloc, word)
+                top.member("alerts").item(*item).refuse(alloc, fault_kind)
             }
             Origin::Alert {
                 item,
@@ -36,7 +39,7 @@ impl Origin {
                 .item(*item)
                 .member("spans")
                 .item(*span)
-                .refuse(alloc, word),
+                .refuse(alloc, fault_kind),
         }
     }
 }

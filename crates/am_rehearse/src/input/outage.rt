@@ -3,7 +3,7 @@ use crate::input::span::Span;
 use crate::input::target::position;
 use am_alerts::text::Text;
 use am_cli::duration::duration_or;
-use am_cli::fault::{InputFault, Word};
+use am_cli::fault::{FaultKind, InputFault};
 use am_cli::reader::{FromJson, Object, Reader};
 use am_rehearsal::rehearsal::Outage;
 use am_retry::Answer;
@@ -41,7 +41,7 @@ fn read_answer(outage: &Object<'_, '_>) -> Result<Answer, InputFault> {
         "done" => Ok(Answer::Done),
         "again" => Ok(Answer::Again),
         "never" => Ok(Answer::Never),
-        _ => Err(member.refuse(Word::Value)),
+        _ => Err(member.refuse(FaultKind::BadValue)),
     }
 }
 

@@ -7,13 +7,13 @@ use am_alerts::alert::Alert;
 use am_alerts::labels::Labels;
 use am_cli::fault::InputFault;
 use am_mute::silence::Silence;
-use am_rehearsal::rehearsal::{Act, Plan};
+use am_rehearsal::rehearsal::{Action, TimedAction};
 use std::alloc::Global;
 
 /// A plan, and where it stands in the input.
 #[derive(Drop)]
 struct Planned {
-    plan: Plan,
+    plan: TimedAction,
     origin: Origin,
     /// Its number in the order of the input.
     number: usize,
@@ -25,7 +25,7 @@ pub fn in_order(
     alloc: Global,
     alerts: Vec<AlertItem>,
     silences: Vec<SilenceItem>,
-) -> Result<(Vec<Plan>, Vec<Origin>), InputFault> {
+) -> Result<(Vec<TimedAction>, Vec<Origin>), InputFault> {
     let mut planned = Vec::new(alloc);
     for (item, alert) in alerts.into_iter().enumerate() {
         add_alert(alloc, item, &alert, &mut planned)?;
@@ -37,7 +37,10 @@ pub fn in_order(
     split(alloc, planned)
 }
 
-fn split(alloc: Global, planned: Vec<Planned>) -> Result<(Vec<Plan>, Vec<Origin>), InputFault> {
+fn split(
+    alloc: Global,
+    planned: Vec<Planned>,
+) -> Result<(Vec<TimedAction>, Vec<Origin>), InputFault> {
     let mut plans = Vec::with_capacity(alloc, planned.len())?;
     let mut origins = Vec::with_capacity(alloc, planned.len())?;
     for one in planned {
@@ -95,9 +98,9 @@ fn add_insert(
     let Ok(alert) = Alert::new(labels.copy(alloc)?, starts, ends) else {
         return Err(origin.refuse_value(alloc));
     };
-    let plan = Plan {
+    let plan = TimedAction {
         at: ends.unwrap_or(starts),
-        act: Act::Insert(alert),
+        act: Action::Insert(alert),
     };
     add(plan, origin, planned)
 }
@@ -120,14 +123,14 @@ fn add_silence(
     let Ok(silence) = Silence::new(id, matchers, from, to) else {
         return Err(origin.refuse_value(alloc));
     };
-    let plan = Plan {
+    let plan = TimedAction {
         at: set,
-        act: Act::Silence(silence),
+        act: Action::Silence(silence),
     };
     add(plan, origin, planned)
 }
 
-fn add(plan: Plan, origin: Origin, planned: &mut Vec<Planned>) -> Result<(), InputFault> {
+fn add(plan: TimedAction, origin: Origin, planned: &mut Vec<Planned>) -> Result<(), InputFault> {
     let number = planned.len();
     planned.push(Planned {
         plan,

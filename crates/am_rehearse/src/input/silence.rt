@@ -3,7 +3,7 @@ use crate::input::span::Span;
 use am_alerts::limits::MAX_MATCHERS;
 use am_alerts::matcher::Matcher;
 use am_cli::duration::duration_or;
-use am_cli::fault::{InputFault, Word};
+use am_cli::fault::{FaultKind, InputFault};
 use am_cli::reader::{FromJson, Reader};
 
 /// A silence: what it mutes, in which span, and when it is made.
@@ -22,11 +22,11 @@ impl<'v> FromJson<'v> for SilenceItem {
         let listed = silence.required("matchers")?;
         let matchers = listed.list_up_to::<Matcher>(MAX_MATCHERS)?;
         if matchers.is_empty() {
-            return Err(listed.refuse(Word::Value));
+            return Err(listed.refuse(FaultKind::BadValue));
         }
         let Span { from, to } = Span::of(&silence)?;
         let to = match to {
-            None => return Err(silence.required("to")?.refuse(Word::Value)),
+            None => return Err(silence.required("to")?.refuse(FaultKind::BadValue)),
             Some(to) => to,
         };
         let set = duration_or(&silence, "set", from)?;

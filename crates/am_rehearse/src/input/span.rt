@@ -1,6 +1,6 @@
 //! Spans of time.
 use am_cli::duration::{duration, duration_or};
-use am_cli::fault::{InputFault, Word};
+use am_cli::fault::{FaultKind, InputFault};
 use am_cli::reader::{FromJson, Object, Reader};
 
 /// From a moment on, and before another, if there is another (milliseconds from the start).
@@ -17,7 +17,7 @@ impl Span {
         let to = match object.optional("to") {
             None => None,
             Some(member) => match duration(&member)? {
-                to if to <= from => return Err(member.refuse(Word::Value)),
+                to if to <= from => return Err(member.refuse(FaultKind::BadValue)),
                 to => Some(to),
             },
         };

@@ -6,8 +6,8 @@ ghost use Rattle.am_cli.specs.Read.{number_in};
 ghost use Rattle.am_rehearse.specs.Expected.{member_if};
 
 use am_board::config::{Config, MAX_INTEGRATIONS};
-use am_cli::fault::{InputFault, Word};
-use am_cli::place::Place;
+use am_cli::fault::{FaultKind, InputFault};
+use am_cli::place::JsonPointer;
 use am_cli::reader::Object;
 use std::alloc::Global;
 
@@ -29,14 +29,18 @@ pub fn check(
     config: &Config,
     receiver: &str,
     position: Option<u32>,
-    place: Place<'_>,
+    place: JsonPointer<'_>,
 ) -> Result<(), InputFault> {
     let Some(receiver) = config.receiver(receiver) else {
-        return Err(place.member("receiver").refuse(alloc, Word::Value));
+        return Err(place.member("receiver").refuse(alloc, FaultKind::BadValue));
     };
     match position {
         Some(position) if position as usize >= receiver.integrations.len() => {
-            Err(place.member("integration").refuse(alloc, Word::Value))
+            Err(
+                place
+                    .member("integration")
+                    .refuse(alloc, FaultKind::BadValue),
+            )
         }
         _ => Ok(()),
     }

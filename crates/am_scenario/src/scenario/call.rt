@@ -2,12 +2,12 @@
 ghost use Rattle.std.specs.Prelude.{◌≡◌, None, IfOk, IsSomeAnd, MatchOption, codes};
 ghost use Rattle.serde_json.specs.Find.{get_member};
 ghost use Rattle.serde_json.specs.View.{members_view, view};
-ghost use Rattle.am_cli.specs.Told.{HasOr};
-ghost use Rattle.am_scenario.specs.Told.{IsEnd, TellsAlert, TellsSilence};
+ghost use Rattle.am_cli.specs.Decoding.{HasOr};
+ghost use Rattle.am_scenario.specs.Decoding.{IsEnd, DecodesToAlert, DecodesToSilence};
 
 use am_alerts::alert::Alert;
 use am_alerts::matcher::Matcher;
-use am_cli::fault::{InputFault, Word};
+use am_cli::fault::{FaultKind, InputFault};
 use am_cli::labels::read_labels;
 use am_cli::reader::{FromJson, Object, Reader};
 use am_mute::silence::Silence;
@@ -21,9 +21,9 @@ pub enum LaneCall {
 }
 
 impl<'v> FromJson<'v> for LaneCall {
-    ghost use Rattle.am_scenario.specs.Told.{TellsCall};
+    ghost use Rattle.am_scenario.specs.Decoding.{DecodesToCall};
 
-    ghost tells = { λ manner value call. TellsCall manner value call };
+    ghost decodes_to = { λ dialect value call. DecodesToCall dialect value call };
 
     fn read(reader: &Reader<'v, '_>) -> Result<LaneCall, InputFault> {
         let call = reader.object()?;
@@ -34,8 +34,8 @@ impl<'v> FromJson<'v> for LaneCall {
             (Some(alert), None, None) => Ok(LaneCall::Insert(alert)),
             (None, Some(silence), None) => Ok(LaneCall::Silence(silence)),
             (None, None, Some(_)) => Ok(LaneCall::Maintain),
-            (None, None, None) => Err(reader.refuse(Word::Missing)),
-            _ => Err(reader.refuse(Word::Value)),
+            (None, None, None) => Err(reader.refuse(FaultKind::Missing)),
+            _ => Err(reader.refuse(FaultKind::BadValue)),
         }
     }
 }
@@ -43,7 +43,7 @@ impl<'v> FromJson<'v> for LaneCall {
 /// The alert of an insert, if the call has one.
 fn read_insert(call: &Object<'_, '_>) -> Result<Option<Alert>, InputFault>
     ensures { IfOk result (λ insert. MatchOption (get_member (codes "insert") (members_view call.now.members))
-        (insert ≡ None) (λ value. IsSomeAnd insert (TellsAlert call.now.manner value))) }
+        (insert ≡ None) (λ value. IsSomeAnd insert (DecodesToAlert call.now.dialect value))) }
 {
     match call.optional("insert") {
         None => Ok(None),
@@ -52,7 +52,7 @@ fn read_insert(call: &Object<'_, '_>) -> Result<Option<Alert>, InputFault>
 }
 
 fn read_alert(reader: &Reader<'_, '_>) -> Result<Alert, InputFault>
-    ensures { IfOk result (TellsAlert reader.now.manner (view reader.now.value)) }
+    ensures { IfOk result (DecodesToAlert reader.now.dialect (view reader.now.value)) }
 {
     let insert = reader.object()?;
     let labels = read_labels(&insert.required("labels")?)?;
@@ -60,7 +60,7 @@ fn read_alert(reader: &Reader<'_, '_>) -> Result<Alert, InputFault>
     let ends = read_ends(&insert)?;
     match Alert::new(labels, starts, ends) {
         Ok(alert) => Ok(alert),
-        Err(_) => Err(reader.refuse(Word::Value)),
+        Err(_) => Err(reader.refuse(FaultKind::BadValue)),
     }
 }
 
@@ -87,7 +87,7 @@ fn read_end(member: &Reader<'_, '_>) -> Result<Option<u64>, InputFault>
 /// The silence that is set, if the call has one.
 fn read_silence(call: &Object<'_, '_>) -> Result<Option<Silence>, InputFault>
     ensures { IfOk result (λ silence. MatchOption (get_member (codes "silence") (members_view call.now.members))
-        (silence ≡ None) (λ value. IsSomeAnd silence (TellsSilence call.now.manner value))) }
+        (silence ≡ None) (λ value. IsSomeAnd silence (DecodesToSilence call.now.dialect value))) }
 {
     match call.optional("silence") {
         None => Ok(None),
@@ -96,7 +96,7 @@ fn read_silence(call: &Object<'_, '_>) -> Result<Option<Silence>, InputFault>
 }
 
 fn read_set(reader: &Reader<'_, '_>) -> Result<Silence, InputFault>
-    ensures { IfOk result (TellsSilence reader.now.manner (view reader.now.value)) }
+    ensures { IfOk result (DecodesToSilence reader.now.dialect (view reader.now.value)) }
 {
     let silence = reader.object()?;
     let id = silence.required("id")?.number()?;
@@ -105,6 +105,6 @@ fn read_set(reader: &Reader<'_, '_>) -> Result<Silence, InputFault>
     let end = silence.required("end")?.number()?;
     match Silence::new(id, matchers, start, end) {
         Ok(silence) => Ok(silence),
-        Err(_) => Err(reader.refuse(Word::Value)),
+        Err(_) => Err(reader.refuse(FaultKind::BadValue)),
     }
 }

@@ -1,14 +1,14 @@
 //! How a scenario is read.
 ghost use Rattle.std.specs.Prelude.{◌≤◌, IfOk, codes};
-ghost use Rattle.am_cli.specs.Told.{IsNumber, HasOr};
+ghost use Rattle.am_cli.specs.Decoding.{IsNumber, HasOr};
 ghost use Rattle.am_pool.specs.declared.limits.TheConstants.{MAX_WORKERS};
-ghost use Rattle.am_scenario.specs.Told.{TellsScenario};
+ghost use Rattle.am_scenario.specs.Decoding.{DecodesToScenario};
 ghost use Rattle.serde_json.specs.View.{members_view, view};
 
 use super::{Lane, LaneCall, MAX_LANES, Phase, Scenario, Script};
 use am_alerts::limits::MAX_MOMENT;
 use am_cli::config::read_config;
-use am_cli::fault::{InputFault, Word};
+use am_cli::fault::{FaultKind, InputFault};
 use am_cli::reader::{FromJson, Object, Reader};
 use am_pool::MAX_WORKERS;
 use serde_json::Value;
@@ -19,7 +19,7 @@ const USUAL_WORKERS: usize = 2;
 
 /// Reads a whole scenario. The first fault in the order of reading is answered.
 pub fn read_scenario(alloc: Global, value: &Value) -> Result<Scenario, InputFault>
-    ensures { IfOk result (TellsScenario (view value.now)) }
+    ensures { IfOk result (DecodesToScenario (view value.now)) }
 {
     let reader = Reader::top(alloc, value);
     let top = reader.object()?;
@@ -45,7 +45,7 @@ fn read_workers(top: &Object<'_, '_>) -> Result<usize, InputFault>
         Some(member) => {
             let number = member.number()?;
             if number < 1 || number > MAX_WORKERS as u64 {
-                return Err(member.refuse(Word::Value));
+                return Err(member.refuse(FaultKind::BadValue));
             }
             Ok(number as usize)
         }
@@ -53,9 +53,9 @@ fn read_workers(top: &Object<'_, '_>) -> Result<usize, InputFault>
 }
 
 impl<'v> FromJson<'v> for Phase {
-    ghost use Rattle.am_scenario.specs.Told.{TellsPhase};
+    ghost use Rattle.am_scenario.specs.Decoding.{DecodesToPhase};
 
-    ghost tells = { λ manner value phase. TellsPhase manner value phase };
+    ghost decodes_to = { λ dialect value phase. DecodesToPhase dialect value phase };
 
     fn read(reader: &Reader<'v, '_>) -> Result<Phase, InputFault> {
         let phase = reader.object()?;
@@ -67,9 +67,9 @@ impl<'v> FromJson<'v> for Phase {
 }
 
 impl<'v> FromJson<'v> for Lane {
-    ghost use Rattle.am_scenario.specs.Told.{TellsLane};
+    ghost use Rattle.am_scenario.specs.Decoding.{DecodesToLane};
 
-    ghost tells = { λ manner value lane. TellsLane manner value lane };
+    ghost decodes_to = { λ dialect value lane. DecodesToLane dialect value lane };
 
     fn read(reader: &Reader<'v, '_>) -> Result<Lane, InputFault> {
         let calls = reader.list::<LaneCall>()?;

@@ -3,10 +3,10 @@ ghost use Rattle.std.specs.Prelude.{◌≡◌, Some, IfOk};
 ghost use Rattle.serde_json.specs.Find.{as_str};
 ghost use Rattle.serde_json.specs.View.{view};
 ghost use Rattle.am_scenario.specs.Scripts.{answer_to, at_once, sent_at};
-ghost use Rattle.am_scenario.specs.Told.{answer_text};
+ghost use Rattle.am_scenario.specs.Decoding.{answer_text};
 
 use am_alerts::limits::MAX_DURATION;
-use am_cli::fault::{InputFault, Word};
+use am_cli::fault::{FaultKind, InputFault};
 use am_cli::reader::{FromJson, Reader};
 use am_pool::Sent;
 use am_retry::Answer;
@@ -17,20 +17,20 @@ use am_retry::Answer;
 pub struct Script {
     pub ticket: u64,
     pub integration: u64,
-    pub answers: Vec<Planned>,
+    pub answers: Vec<ScriptedAnswer>,
 }
 
 /// The answer to an attempt.
 #[derive(Clone, Copy)]
-pub struct Planned {
+pub struct ScriptedAnswer {
     pub answer: Answer,
-    /// How long the attempt lasts, in milliseconds.
-    pub lasts: u64,
+    /// How long the attempt takes, in milliseconds.
+    pub takes: u64,
 }
 
 impl Script {
     /// The answer to the attempt of this number, from 1.
-    pub fn answer_to(&self, attempt: u64) -> Planned
+    pub fn answer_to(&self, attempt: u64) -> ScriptedAnswer
         ensures { result ≡ answer_to attempt self.now.answers.items }
     {
         let answers = self.answers.as_slice();
@@ -39,19 +39,19 @@ impl Script {
             answers.last(),
         ) {
             (Some(planned), _) | (None, Some(planned)) => *planned,
-            (None, None) => Planned::at_once(),
+            (None, None) => ScriptedAnswer::at_once(),
         }
     }
 }
 
-impl Planned {
+impl ScriptedAnswer {
     /// Done, in no time.
-    pub fn at_once() -> Planned
+    pub fn at_once() -> ScriptedAnswer
         ensures { result ≡ at_once }
     {
-        Planned {
+        ScriptedAnswer {
             answer: Answer::Done,
-            lasts: 0,
+            takes: 0,
         }
     }
 
@@ -61,36 +61,36 @@ impl Planned {
     {
         Sent {
             answer: self.answer,
-            ended: at.saturating_add(self.lasts),
+            ended: at.saturating_add(self.takes),
         }
     }
 }
 
 impl<'v> FromJson<'v> for Script {
-    ghost use Rattle.am_scenario.specs.Told.{TellsScript};
+    ghost use Rattle.am_scenario.specs.Decoding.{DecodesToScript};
 
-    ghost tells = { λ manner value script. TellsScript value script };
+    ghost decodes_to = { λ dialect value script. DecodesToScript value script };
 
     fn read(reader: &Reader<'v, '_>) -> Result<Script, InputFault> {
         let script = reader.object()?;
         Ok(Script {
             ticket: script.required("ticket")?.number()?,
             integration: script.required("integration")?.number()?,
-            answers: script.required("script")?.list::<Planned>()?,
+            answers: script.required("script")?.list::<ScriptedAnswer>()?,
         })
     }
 }
 
-impl<'v> FromJson<'v> for Planned {
-    ghost use Rattle.am_scenario.specs.Told.{TellsPlanned};
+impl<'v> FromJson<'v> for ScriptedAnswer {
+    ghost use Rattle.am_scenario.specs.Decoding.{DecodesToPlanned};
 
-    ghost tells = { λ manner value planned. TellsPlanned value planned };
+    ghost decodes_to = { λ dialect value planned. DecodesToPlanned value planned };
 
-    fn read(reader: &Reader<'v, '_>) -> Result<Planned, InputFault> {
-        let (word, lasts) = reader.pair()?;
+    fn read(reader: &Reader<'v, '_>) -> Result<ScriptedAnswer, InputFault> {
+        let (word, takes) = reader.pair()?;
         let answer = read_answer(&word)?;
-        let lasts = lasts.number_up_to(MAX_DURATION)?;
-        Ok(Planned { answer, lasts })
+        let takes = takes.number_up_to(MAX_DURATION)?;
+        Ok(ScriptedAnswer { answer, takes })
     }
 }
 
@@ -101,6 +101,6 @@ fn read_answer(reader: &Reader<'_, '_>) -> Result<Answer, InputFault>
         "done" => Ok(Answer::Done),
         "again" => Ok(Answer::Again),
         "never" => Ok(Answer::Never),
-        _ => Err(reader.refuse(Word::Value)),
+        _ => Err(reader.refuse(FaultKind::BadValue)),
     }
 }

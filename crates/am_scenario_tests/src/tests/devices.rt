@@ -63,7 +63,7 @@ fn statuses(rt: HostRuntime) -> Result<(), Fail> {
     let place = String::new(rt.alloc());
     let refused = RunFault::Refused {
         place,
-        word: Word::Full,
+        word: FaultKind::Full,
     };
     assert_eq!(rt; RunFault::Unreadable.status(), 1);
     assert_eq!(rt; RunFault::NotJson.status(), 2);

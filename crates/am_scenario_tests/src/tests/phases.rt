@@ -10,7 +10,7 @@ use am_desk::{Blank, Brand, Closed, Name};
 use am_play::courier::{Answering, Scripts, couriers_for};
 use am_play::phase::Run;
 use am_play::run::{blank_for, open};
-use am_pool::{Courier, Journal, Sent, Tried};
+use am_pool::{AttemptTrace, Courier, Sent, Tried};
 use am_retry::Answer;
 use am_scenario::scenario::{Phase, Scenario, read_scenario};
 use serde_json::Value;
@@ -18,17 +18,17 @@ use serde_json::Value;
 /// A courier that is asked to come again, and then refuses for want of memory.
 #[derive(Drop)]
 struct Exhausted {
-    journal: Journal,
+    trace: AttemptTrace,
 }
 
 impl Courier for Exhausted {
-    ghost tries = { λ c. c.journal.tries };
+    ghost tries = { λ c. c.trace.tries };
 
-    ghost refusals = { λ c. c.journal.refusals };
+    ghost refusals = { λ c. c.trace.refusals };
 
     fn send(&mut self, notice: &Notice, attempt: u64, at: u64) -> Result<Sent, AllocError> {
         if attempt > 1 {
-            self.journal.add_refusal();
+            self.trace.add_refusal();
             return Err(AllocError);
         }
         let sent = Sent {
@@ -36,7 +36,7 @@ impl Courier for Exhausted {
             ended: at,
         };
         let tried = Tried::new(notice, attempt, at, &sent);
-        self.journal.add_try(&tried);
+        self.trace.add_try(&tried);
         Ok(sent)
     }
 }
@@ -151,7 +151,7 @@ fn starved_report_is_want_of_memory(rt: HostRuntime) -> Result<(), Fail> {
     } = read(alloc, FIRST)?;
     let blank = blank_for(alloc, phases.as_slice())?;
     let mut couriers = [Exhausted {
-        journal: Journal::new(),
+        trace: AttemptTrace::new(),
     }];
     let (outcome, _closed) = run_until_fault::<Brand, _, _>(
         &rt,

@@ -17,7 +17,7 @@ use am_cli::reader::Reader;
 use am_mute::silence::Silence;
 use am_rehearsal::MAX_UNTIL;
 use am_rehearsal::play::{Played, play as rehearse};
-use am_rehearsal::rehearsal::{Act, Outage, Plan, Rehearsal};
+use am_rehearsal::rehearsal::{Action, Outage, Rehearsal, TimedAction};
 use cases::{CASES, Case, Pairs, Step};
 use serde_json::Value;
 
@@ -51,24 +51,24 @@ fn silence_of(alloc: Global, name: &str, from: u64, to: u64) -> Result<Silence, 
     Ok(Silence::new(1, matchers, from, to)?)
 }
 
-fn plan_of(alloc: Global, step: Step) -> Result<Plan, Fail> {
+fn plan_of(alloc: Global, step: Step) -> Result<TimedAction, Fail> {
     match step {
-        Step::Fires(pairs, from) => Ok(Plan {
+        Step::Fires(pairs, from) => Ok(TimedAction {
             at: from,
-            act: Act::Insert(alert_of(alloc, pairs, from, None)?),
+            act: Action::Insert(alert_of(alloc, pairs, from, None)?),
         }),
-        Step::Ends(pairs, from, to) => Ok(Plan {
+        Step::Ends(pairs, from, to) => Ok(TimedAction {
             at: to,
-            act: Act::Insert(alert_of(alloc, pairs, from, Some(to))?),
+            act: Action::Insert(alert_of(alloc, pairs, from, Some(to))?),
         }),
-        Step::Silenced(name, from, to) => Ok(Plan {
+        Step::Silenced(name, from, to) => Ok(TimedAction {
             at: from,
-            act: Act::Silence(silence_of(alloc, name, from, to)?),
+            act: Action::Silence(silence_of(alloc, name, from, to)?),
         }),
     }
 }
 
-fn add_plans(alloc: Global, steps: &[Step], plans: &mut Vec<Plan>) -> Result<(), Fail> {
+fn add_plans(alloc: Global, steps: &[Step], plans: &mut Vec<TimedAction>) -> Result<(), Fail> {
     for step in steps {
         plans.push(plan_of(alloc, *step)?)?;
     }

@@ -1,12 +1,12 @@
 //! A JSON object that is being made.
-use crate::clock::Clock;
+use crate::clock::TimeFormat;
 use crate::groups::push_integration;
 use crate::shown::push_hex;
 use am_alerts::alert::Alert;
 use am_alerts::labels::Labels;
 use am_board::config::Config;
 use am_board::group::GroupName;
-use am_board::outlook::MutedAlert;
+use am_board::preview::MutedAlert;
 use am_mute::mute::MuteCause;
 use serde_json::{Map, Value};
 use std::alloc::{AllocError, Global};
@@ -19,7 +19,7 @@ pub(super) struct Object {
 
 impl Object {
     /// An object on an event at a moment, with its group.
-    pub(super) fn new<C: Clock>(
+    pub(super) fn new<C: TimeFormat>(
         alloc: Global,
         config: &Config,
         clock: &C,

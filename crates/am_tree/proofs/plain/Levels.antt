@@ -7,25 +7,25 @@ use Rattle.std.proofs.lemmas.List.Elements.{All-head, All-map, All-tail}
 use Rattle.am_alerts.specs.declared.limits.TheConstants.{MAX_CHILDREN, MAX_MATCHERS}
 use Rattle.am_alerts.specs.declared.route.Child.{Child}
 use Rattle.am_alerts.specs.declared.route.Route.{Route}
-use Rattle.am_tree.specs.Flat.{laid_tree, refusals_from}
-use Rattle.am_tree.specs.Forest.{Forest, bare, below_of, count, forest, rule_of, settled}
+use Rattle.am_tree.specs.Flat.{flattened_tree, refusals_from}
+use Rattle.am_tree.specs.RouteForest.{RouteForest, no_routes, below_of, count, forest, rule_of, with_inherited}
 use Rattle.am_tree.specs.Laws.{continues_on_top, plain_child, plain_children, plain_list}
 use Rattle.am_tree.specs.Laws.{IsLaidPlain, IsNeverRefusedForContinue, NeedsOnlyRoom, IsItsOwnList, NeedsOnlyItsOwnRoom}
-use Rattle.am_tree.specs.Open.{are_closed, is_grown}
+use Rattle.am_tree.specs.FallThrough.{have_no_continue, is_grown}
 use Rattle.am_tree.specs.declared.tree.Cause.TheVariants.{Continue}
 use Rattle.am_tree.specs.declared.tree.Node.{Node}
 use Rattle.am_tree.specs.declared.tree.Node.TheViews.{out-Node}
 use Rattle.am_tree.specs.declared.tree.Refusal.{Refusal}
 use Rattle.am_tree.specs.declared.tree.Tree.{Tree}
 use Rattle.am_tree.proofs.Forests.{forest-cons}
-use Rattle.am_tree.proofs.plain.Entries.{said, children-said, laid-plain, length-plain}
+use Rattle.am_tree.proofs.plain.Entries.{said, children-said, flattened-plain, length-plain}
 use Rattle.am_tree.proofs.plain.Refusals.{are_said-plain, fits, unrefused}
 
 -- ---- a tree with `continue` at most on top
 
 module _ (tree : Tree) (top : continues_on_top (forest tree.routes.items) ≡ true) where
-  entries-are : laid_tree tree ≡ map said (plain_list tree)
-  entries-are = laid-plain (forest tree.routes.items) [] tree.root top
+  entries-are : flattened_tree tree ≡ map said (plain_list tree)
+  entries-are = flattened-plain (forest tree.routes.items) [] tree.root top
 
   pub plain-top : IsLaidPlain tree
   plain-top = ap (λ es. map (λ e. e.child) es) entries-are ∙ children-said (plain_list tree)
@@ -50,8 +50,8 @@ either_way true = refl
 either_way false = refl
 
 -- a route without routes below it has `continue` at most on top
-top_of_low : (on : Bool) (below : Forest) → below ≡ bare → (if on then not (is_grown below) else are_closed below) ≡ true
-top_of_low on below none = ap (λ f. if on then not (is_grown f) else are_closed f) none ∙ either_way on
+top_of_low : (on : Bool) (below : RouteForest) → below ≡ no_routes → (if on then not (is_grown below) else have_no_continue below) ≡ true
+top_of_low on below none = ap (λ f. if on then not (is_grown f) else have_no_continue f) none ∙ either_way on
 
 pub on_top-low : (ns : List Node) → All IsLow ns → continues_on_top (forest ns) ≡ true
 on_top-low [] low = refl
@@ -64,7 +64,7 @@ plain-low : (root : Route) (ns : List Node) → All IsLow ns → plain_children 
 plain-low root [] low = refl
 plain-low root (n ∷ ns) low =
     ap (λ f. plain_children [] root f) (forest-cons n ns)
-    ∙ ap (λ f. plain_children (rule_of n).matchers (settled root (rule_of n)) f ++ plain_child [] root (rule_of n) ∷ plain_children [] root (forest ns)) (ap forest (All-head IsLow n ns low))
+    ∙ ap (λ f. plain_children (rule_of n).matchers (with_inherited root (rule_of n)) f ++ plain_child [] root (rule_of n) ∷ plain_children [] root (forest ns)) (ap forest (All-head IsLow n ns low))
     ∙ ap (λ cs. plain_child [] root (rule_of n) ∷ cs) (plain-low root ns (All-tail IsLow n ns low))
 
 module _ (tree : Tree) (low : All IsLow tree.routes.items) where

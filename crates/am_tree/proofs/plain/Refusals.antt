@@ -26,20 +26,20 @@ cause-false : (holds : Bool) (number : ℕ) (cause : Cause) → not holds ≡ tr
 cause-false true number cause off = absurd (false≢true off)
 cause-false false number cause off = All-nil NotContinue
 
-causes-said : (number : ℕ) (e : Entry) → not e.unsaid ≡ true → All NotContinue (causes number e)
+causes-said : (number : ℕ) (e : Entry) → not e.not_excludable ≡ true → All NotContinue (causes number e)
 causes-said number e said =
     let many = cause_where (nat_eq number (MAX_CHILDREN + 1)) number TooManyRoutes in
-    let left = cause_where e.unsaid number Continue in
+    let left = cause_where e.not_excludable number Continue in
     let crowded = cause_where (nat_lt MAX_MATCHERS (length e.child.matchers)) number TooManyMatchers in
     All-append NotContinue (many ++ left) crowded
-    (All-append NotContinue many left (cause-other _ number TooManyRoutes (λ e. cc)) (cause-false e.unsaid number Continue said))
+    (All-append NotContinue many left (cause-other _ number TooManyRoutes (λ e. cc)) (cause-false e.not_excludable number Continue said))
     (cause-other _ number TooManyMatchers (λ e. cc))
 
 -- no entry is refused for a `continue` where nothing is left unsaid
 pub unrefused : (number : ℕ) (es : List Entry) → are_said es ≡ true → All (λ r. r.cause ≢ Continue) (refusals_from number es)
 unrefused number [] said = All-nil NotContinue
 unrefused number (e ∷ es) said =
-    let parts = and_parts (not e.unsaid) (are_said es) said in
+    let parts = and_parts (not e.not_excludable) (are_said es) said in
     All-append NotContinue (causes number e) (refusals_from (number + 1) es) (causes-said number e parts.0) (unrefused (number + 1) es parts.1)
 
 pub are_said-plain : (cs : List Child) → are_said (map said cs) ≡ true

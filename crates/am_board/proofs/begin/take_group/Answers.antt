@@ -6,10 +6,10 @@ use Rattle.am_model.specs.Begin.{asked_of, notice_for}
 use Rattle.am_model.specs.Causes.{begin_cause, opens_by}
 use Rattle.am_model.specs.Notice.{NoticeData}
 use Rattle.am_model.proofs.configuration.FewAsked.{few_asked}
-use Rattle.am_board.specs.Kept.{state_of, group_state}
+use Rattle.am_board.specs.Refinement.{state_of, group_state}
 use Rattle.am_mute.specs.Sources.{AreLearnt}
 use Rattle.am_board.specs.Beginning.{IsPlan, IsChosen, IsEnd, IsPlannedFlush}
-use Rattle.am_board.specs.Step.{IsGood, Stays}
+use Rattle.am_board.specs.Step.{StateInvariant, LeavesUnchanged}
 use Rattle.am_board.specs.declared.group.Group.{Group}
 use Rattle.am_board.specs.declared.plan.PlannedFlush.{PlannedFlush}
 use Rattle.am_board.specs.declared.state.State.{State}
@@ -54,7 +54,7 @@ pub put_in_order-requires-clause-apart : goal.put_in_order-requires-clause-apart
 put_in_order-requires-clause-apart c = c.requires.good.consistent.members
 
 pub plan-requires-clause-good : goal.plan-requires-clause-good
-plan-requires-clause-good c = subst (IsGood c.args.config.now) (sym c.put_in_order.ensures) c.requires.good
+plan-requires-clause-good c = subst (StateInvariant c.args.config.now) (sym c.put_in_order.ensures) c.requires.good
 
 pub plan-requires-clause-sources : goal.plan-requires-clause-sources
 plan-requires-clause-sources c =
@@ -76,7 +76,7 @@ returns-in_err-plan c =
     let plan = subst (Plans c.args.config.now c.args.id (chosen at) (Err c.in_err-plan.field-0.0)) same c.in_err-plan.ensures in
     rw (p.1, p.2) (
       planned_err c.args.config.now c.args.id c.args.state.now (chosen at) c.at.result.now (takes at) (c.has_room.ensures.0 c.if-not-has_room.false) c.in_err-plan.field-0.0 plan,
-      subst (Stays c.args.config.now c.args.state.now) (sym same) (stays_itself c.args.config.now c.args.state.now c.requires.good),
+      subst (LeavesUnchanged c.args.config.now c.args.state.now) (sym same) (stays_itself c.args.config.now c.args.state.now c.requires.good),
     )
 
 -- the flush that is opened, where the begin takes the group
@@ -122,7 +122,7 @@ returns-in-None c =
     let g = c.at.result.now in
     let none = planned_none config c.args.id s (chosen at) g (takes at) c.in_ok-plan.field-0 (subst (Plans config c.args.id (chosen at) (Ok c.in_ok-plan.field-0)) same c.in_ok-plan.ensures) c.in-None.is in
     let cause = cause-quiet config c.args.id s (chosen at) g (takes at) (c.has_room.ensures.0 c.if-not-has_room.false) none in
-    let ends = subst (λ (x : State). IsGood config x → IsChosen config x (chosen at) g → asked_of config (state_of x) c.moment-t.result (group_state g) ≡ [] → IsEnd config c.args.id c.args.pass c.args.now x c.begin_quiet.new.state c.begin_quiet.result)
+    let ends = subst (λ (x : State). StateInvariant config x → IsChosen config x (chosen at) g → asked_of config (state_of x) c.moment-t.result (group_state g) ≡ [] → IsEnd config c.args.id c.args.pass c.args.now x c.begin_quiet.new.state c.begin_quiet.result)
     same (c.begin_quiet.ensures config c.args.id g) in
     told config c.args.id c.args.pass c.args.now s c.begin_quiet.new.state (begin_cause config (vec_len s.history) (state_of s) (moment (state_of s) c.args.now)) c.begin_quiet.result cause
     (ends c.requires.good (takes at) none)
@@ -135,7 +135,7 @@ returns-in-Some-2 c =
     let g = c.at.result.now in
     let plan = opened (goal.at.returns-in-Some-2 c).In-Some-2 (takes at) in
     let cause = cause-few config s c.args.now c.moment-t.result c.moment-t.ensures (c.has_room.ensures.0 c.if-not-has_room.false) plan.1 in
-    let ends = subst (λ (x : State). IsGood config x → IsChosen config x (chosen at) g → asked_of config (state_of x) c.moment-t.result (group_state g) ≢ []
+    let ends = subst (λ (x : State). StateInvariant config x → IsChosen config x (chosen at) g → asked_of config (state_of x) c.moment-t.result (group_state g) ≢ []
     → IsPlannedFlush config c.args.id (state_of x) c.moment-t.result (group_state g) c.in-Some-2.planned → IsEnd config c.args.id c.args.pass c.args.now x c.begin_flush.new.state c.begin_flush.result)
     c.put_in_order.ensures (c.begin_flush.ensures config g) in
     told config c.args.id c.args.pass c.args.now s c.begin_flush.new.state (begin_cause config (vec_len s.history) (state_of s) (moment (state_of s) c.args.now)) c.begin_flush.result cause

@@ -1,8 +1,8 @@
 use Rattle.std.proofs.Common.{◌≡◌, ◌<◌, length, Vec, Global, refl, ap, ◌∙◌, arith}
 use Rattle.am_board.specs.declared.dedup.Update.{Update}
-use Rattle.am_board.specs.Beginning.{needs_told}
+use Rattle.am_board.specs.Beginning.{needs_update_for}
 use Rattle.am_board.specs.LogRows.{log_rows}
-use Rattle.am_board.proofs.beginning.Updates.{asked-more, asked-same, needs_told-key}
+use Rattle.am_board.proofs.beginning.Updates.{asked-more, asked-same, needs_update_for-key}
 use Rattle.am_board.proofs.dedup.asked_of.Goals as goal
 use Rattle.am_board.proofs.dedup.asked_of.Goals.{then-needs_update+in_ok-push, else-needs_update}
 
@@ -12,9 +12,9 @@ loop-integration-preserved c =
     let i = c.loop-integration.integration-index in
     let within : i < length c.args.integrations.now = omega arith in
     let integration = c.integration-item.result in
-    let test = needs_told (log_rows c.args.log.now) c.args.group.now c.args.told.now c.args.repeat_interval c.args.t in
+    let test = needs_update_for (log_rows c.args.log.now) c.args.group.now c.args.sets.now c.args.repeat_interval c.args.t in
     let same : test (i, integration) ≡ c.needs_update.result =
-    needs_told-key _ (λ a b. refl) c.args.log.now c.loop-integration.key c.args.group.now c.args.told.now i integration c.args.repeat_interval c.args.t _ _ _ c.needs_update.result c.get.ensures.distinct inv.group inv.integration c.get.ensures.row c.as_slice.ensures.all c.as_slice-in-loop-integration.ensures.all c.needs_update.ensures in
+    needs_update_for-key _ (λ a b. refl) c.args.log.now c.loop-integration.key c.args.group.now c.args.sets.now i integration c.args.repeat_interval c.args.t _ _ _ c.needs_update.result c.get.ensures.distinct inv.group inv.integration c.get.ensures.row c.as_slice.ensures.all c.as_slice-in-loop-integration.ensures.all c.needs_update.ensures in
     record {
       group = inv.group;
       integration = omega (arith, inv.integration);

@@ -5,12 +5,12 @@ use Rattle.std.proofs.lemmas.List.{get_or_default}
 use Rattle.am_retry.specs.declared.outcome.Outcome.{Outcome}
 use Rattle.am_model.specs.Finish.{all_succeeded, has_succeeded, leaves_by}
 use Rattle.am_model.specs.Records.{entry}
-use Rattle.am_board.specs.Kept.{IsAsked, asked_state_of, flush_state, group_state}
+use Rattle.am_board.specs.Refinement.{IsAsked, asked_state_of, flush_state, group_state}
 use Rattle.am_board.specs.LogRows.{log_rows}
 use Rattle.am_model.specs.Lists.{changed_where, without}
 use Rattle.am_board.specs.Finishing.{leaves_where, logged_of, rows_with}
 use Rattle.am_model.specs.State.{MemberState, is_named, members_in}
-use Rattle.am_board.specs.Step.{Accepts}
+use Rattle.am_board.specs.Step.{AppliesCall}
 use Rattle.am_board.specs.declared.flush.OpenFlush.{OpenFlush}
 use Rattle.am_model.specs.declared.record.Call.TheVariants.{Finish}
 use Rattle.am_model.specs.declared.record.Reply.TheVariants as replies
@@ -51,7 +51,7 @@ returns-clause-accepted c config good id o =
     c.as_slice.ensures.value (c.log_rest-successes.ensures.rows c.remove-number.result refl asked) in
     let history = subst (λ (outcomes : List (ℕ × Outcome)). c.push_reserved.new.self.items ≡ c.args.state.now.history.items ++ entry c.args.pass (Finish c.args.now c.remove-number.result.number outcomes) (replies.Finished (record { logged = c.log_rest-successes.result.logged; removed = c.take_out-removed.result })) ∷ [])
     c.from.ensures c.push_reserved.ensures.items in
-    subst (λ n. Accepts config id (entry c.args.pass (Finish c.args.now n c.args.outcomes.items) (replies.Finished (record { logged = c.log_rest-successes.result.logged; removed = c.take_out-removed.result }))) old new) (sym number)
+    subst (λ n. AppliesCall config id (entry c.args.pass (Finish c.args.now n c.args.outcomes.items) (replies.Finished (record { logged = c.log_rest-successes.result.logged; removed = c.take_out-removed.result }))) old new) (sym number)
     (finish-accepted config id old new c.args.f c.remove-number.result within c.remove-number.ensures.value good c.args.pass c.args.now c.args.outcomes.items (record { logged = c.log_rest-successes.result.logged; removed = c.take_out-removed.result })
     (record {
       clock = c.moment-t.ensures;

@@ -5,7 +5,7 @@ use Rattle.std.proofs.Math.Bool.{and-false}
 use Rattle.std.proofs.lemmas.Iterator.Adapters.{YieldsList-from_vec}
 use Rattle.std.proofs.lemmas.Iterator.Consumers.{YieldsList-turn}
 use Rattle.am_model.specs.Finish.{has_succeeded}
-use Rattle.am_board.specs.Kept.{asked_state_of}
+use Rattle.am_board.specs.Refinement.{asked_state_of}
 use Rattle.am_board.specs.LogRows.{log_rows}
 use Rattle.am_board.proofs.finishing.Logging.{all-more, logged-at-most, logged-same, rows_with-same}
 use Rattle.am_board.proofs.finish.log_rest.Goals as goal

@@ -2,7 +2,7 @@ use Rattle.std.proofs.Common.{◌≡◌, length}
 use Rattle.std.specs.Prelude.{All, IsPermutation}
 use Rattle.std.specs.List.{list_all}
 use Rattle.am_model.specs.Finish.{has_succeeded}
-use Rattle.am_board.specs.Kept.{IsAsked, asked_state_of}
+use Rattle.am_board.specs.Refinement.{IsAsked, asked_state_of}
 use Rattle.am_board.specs.LogRows.{log_rows}
 use Rattle.am_board.specs.Finishing.{logged_of, rows_with, KnowTheSame}
 use Rattle.am_board.specs.declared.flush.OpenFlush.{OpenFlush}

@@ -2,7 +2,7 @@ use Rattle.std.proofs.Common.{◌≡◌, ◌∙◌, true, Some, None, map, count
 use Rattle.std.specs.Prelude.{position}
 use Rattle.am_board.specs.Finishing.{leaves_where, without_leaving}
 use Rattle.am_board.specs.Group.{names_of}
-use Rattle.am_board.specs.Kept.{group_state}
+use Rattle.am_board.specs.Refinement.{group_state}
 use Rattle.am_model.specs.Lists.{changed_where}
 use Rattle.am_model.specs.State.{same_name, is_named, members_in}
 use Rattle.am_board.specs.declared.group.Group.{Group}

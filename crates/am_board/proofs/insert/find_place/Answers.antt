@@ -3,7 +3,7 @@ use Rattle.std.specs.List.{position}
 use Rattle.am_alerts.specs.AlertData.{AlertData}
 use Rattle.am_alerts.specs.Labels.{same_label_set}
 use Rattle.am_alerts.specs.declared.labels.Label.{Label}
-use Rattle.am_board.specs.Kept.{state_of}
+use Rattle.am_board.specs.Refinement.{state_of}
 use Rattle.am_board.proofs.inserting.Inserting.{answer_names, names_many, names_few, names_known, none_told}
 use Rattle.am_board.proofs.insert.find_place.Goals as goal
 use Rattle.am_board.proofs.insert.find_place.Goals.{else-is_none-via-then-is_none+else-len-config, else-is_none-via-else-is_none}

@@ -10,7 +10,7 @@ use Rattle.am_model.proofs.lists.Distinct.{IsDistinct-last}
 use Rattle.am_board.specs.declared.insert.Placement.{Placement}
 use Rattle.am_board.specs.Group.{names_of, HasRoom}
 use Rattle.am_model.specs.Insert.{put_into_group}
-use Rattle.am_board.specs.Kept.{group_state}
+use Rattle.am_board.specs.Refinement.{group_state}
 use Rattle.am_board.specs.Inserting.{IsEmptyWithRoom, HaveRoom, IsFound, AreApart, target_of, IsPlacementOf}
 use Rattle.am_board.proofs.keeping.GroupNames.{routed_added}
 use Rattle.am_board.proofs.insert.place_all.Goals as goal

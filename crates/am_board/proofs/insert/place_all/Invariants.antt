@@ -4,7 +4,7 @@ use Rattle.am_alerts.specs.RoutingTree.{RoutingTree}
 use Rattle.am_alerts.specs.declared.limits.TheConstants.{MAX_MOMENT}
 use Rattle.am_board.specs.Group.{names_of, AreRouted}
 use Rattle.am_model.specs.Insert.{put_into_group}
-use Rattle.am_board.specs.Kept.{group_state}
+use Rattle.am_board.specs.Refinement.{group_state}
 use Rattle.am_board.specs.Inserting.{IsEmptyWithRoom, HaveRoom, AreFound, AreApart, AreRoutedPlacements, IsPlacementOf}
 use Rattle.am_model.specs.State.{MemberState}
 use Rattle.am_model.specs.declared.config.Config.{Config}

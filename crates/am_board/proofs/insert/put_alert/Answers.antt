@@ -10,15 +10,15 @@ use Rattle.am_model.specs.declared.record.Inserted.{Inserted}
 use Rattle.am_model.specs.declared.record.Call.TheVariants as call
 use Rattle.am_model.specs.declared.record.Reply.TheVariants as reply
 use Rattle.am_model.specs.Insert.{names_for, same_alert}
-use Rattle.am_model.specs.Lists.{put_in}
+use Rattle.am_model.specs.Lists.{upsert}
 use Rattle.am_model.specs.Records.{entry}
-use Rattle.am_board.specs.Destinations.{AreKept}
+use Rattle.am_board.specs.GroupNameCache.{AreKept}
 use Rattle.am_model.specs.Causes.{insert_cause}
-use Rattle.am_board.specs.Kept.{state_of}
-use Rattle.am_board.specs.Step.{Accepts, Stays, IsAnswer}
+use Rattle.am_board.specs.Refinement.{state_of}
+use Rattle.am_board.specs.Step.{AppliesCall, LeavesUnchanged, IsAnswer}
 use Rattle.am_board.specs.declared.insert.Target.{Target}
 use Rattle.am_board.specs.declared.state.State as kept
-use Rattle.am_board.proofs.keeping.Destinations.{kept_put, known_then, known_still, put_at, put_within}
+use Rattle.am_board.proofs.keeping.GroupNameCache.{kept_put, known_then, known_still, put_at, put_within}
 use Rattle.am_board.proofs.insert.put_alert.Goals as goal
 use Rattle.am_board.proofs.insert.put_alert.Goals.{then-is_ok, else-is_ok}
 
@@ -26,8 +26,8 @@ module _ (config : Config) (old new : kept.State) (alert : AlertData) (pass now 
   abbrev Was : Result Inserted Fault → (Inserted → Type 0) → (Fault → Type 0) → Type 0
   Was r P Q =
       MatchResult r
-      (λ told. P told × ((id : ℕ) → Accepts config id (entry pass (call.Insert now alert) (reply.Inserted told)) old new))
-      (λ fault. Q fault × Stays config old new)
+      (λ told. P told × ((id : ℕ) → AppliesCall config id (entry pass (call.Insert now alert) (reply.Inserted told)) old new))
+      (λ fault. Q fault × LeavesUnchanged config old new)
 
   -- the names that are kept are of the known alerts after the call too
   still : (P : Inserted → Type 0) (Q : Fault → Type 0) (r : Result Inserted Fault) → Was r P Q → AreKept config old.known.items names → AreKept config new.known.items names
@@ -36,7 +36,7 @@ module _ (config : Config) (old new : kept.State) (alert : AlertData) (pass now 
   still P Q (Err fault) h are = subst (λ known. AreKept config known names) (sym (known_still config old new h.1)) are
 
   -- an alert that was put is known
-  put_there : (P : Inserted → Type 0) (Q : Fault → Type 0) (r : Result Inserted Fault) → is_ok r ≡ true → Was r P Q → new.known.items ≡ put_in same_alert alert old.known.items
+  put_there : (P : Inserted → Type 0) (Q : Fault → Type 0) (r : Result Inserted Fault) → is_ok r ≡ true → Was r P Q → new.known.items ≡ upsert same_alert alert old.known.items
   put_there P Q (Ok told) e h = known_then config 0 pass now alert (reply.Inserted told) old new (h.1 0)
   put_there P Q (Err fault) e h = absurd (cc)
 

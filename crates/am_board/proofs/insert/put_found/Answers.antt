@@ -13,7 +13,7 @@ use Rattle.am_model.specs.declared.group.GroupName.{GroupName}
 use Rattle.am_alerts.proofs.Positions.{routes_of-exist}
 use Rattle.am_alerts.specs.RoutingTree.{routes_of}
 use Rattle.am_alerts.specs.declared.labels.Label.{Label}
-use Rattle.am_board.specs.Kept.{state_of, IsPrepared}
+use Rattle.am_board.specs.Refinement.{state_of, IsPrepared}
 use Rattle.am_model.specs.declared.config.Config.{Config}
 use Rattle.am_board.specs.declared.flush.OpenFlush.{OpenFlush}
 use Rattle.am_model.specs.declared.record.Inserted.{Inserted}

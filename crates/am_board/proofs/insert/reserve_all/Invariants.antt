@@ -1,6 +1,6 @@
 use Rattle.std.proofs.Common.{◌≡◌, ◌<◌, ℕ, map, get_or, length}
 use Rattle.am_board.specs.Group.{names_of, HasRoom}
-use Rattle.am_board.specs.Kept.{group_state}
+use Rattle.am_board.specs.Refinement.{group_state}
 use Rattle.am_board.specs.declared.insert.Placement.{Placement}
 use Rattle.am_board.proofs.insert.reserve_all.Given as goal
 

@@ -6,7 +6,7 @@ use Rattle.am_model.specs.declared.record.Call.TheVariants.{Maintain}
 use Rattle.am_model.specs.declared.record.Reply.TheVariants.{Maintained}
 use Rattle.am_model.specs.declared.views.RowView.{RowView}
 use Rattle.am_model.specs.Records.{entry}
-use Rattle.am_board.specs.Kept.{state_of, IsPrepared}
+use Rattle.am_board.specs.Refinement.{state_of, IsPrepared}
 use Rattle.am_board.specs.LogRows.{log_rows}
 use Rattle.am_model.specs.Lists.{without}
 use Rattle.am_model.specs.State.{State, GroupState, moment}

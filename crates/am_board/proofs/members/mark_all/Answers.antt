@@ -2,7 +2,7 @@ use Rattle.std.proofs.Common.{◌≡◌, ◌∙◌, ◌++◌, ◌∷◌, [], ◌
 use Rattle.std.specs.Prelude.{All}
 use Rattle.std.specs.Map.{values_of}
 use Rattle.std.proofs.lemmas.List.{take_more}
-use Rattle.am_board.specs.Kept.{member_state}
+use Rattle.am_board.specs.Refinement.{member_state}
 use Rattle.am_board.specs.declared.flush.LeavingAlert.{LeavingAlert}
 use Rattle.am_board.specs.declared.group.Member.{Member}
 use Rattle.am_board.proofs.finishing.LeavingAlerts.{IsMarkedBy, are_marked, states-marked}

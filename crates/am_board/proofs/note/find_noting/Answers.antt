@@ -3,7 +3,7 @@ use Rattle.std.specs.Prelude.{position, slice_get, IfErr}
 use Rattle.std.specs.Option.{option_map}
 use Rattle.am_model.specs.Notice.{NoticeData}
 use Rattle.am_model.specs.Causes.{flush_cause, asked_cause}
-use Rattle.am_board.specs.Kept.{flush_state}
+use Rattle.am_board.specs.Refinement.{flush_state}
 use Rattle.am_model.specs.Note.{asked_by}
 use Rattle.am_model.specs.State.{flush_numbered}
 use Rattle.am_model.specs.Ticket.{outcome_of}

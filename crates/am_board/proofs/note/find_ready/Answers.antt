@@ -1,7 +1,7 @@
 use Rattle.std.proofs.Common.{◌≡◌, ◌∙◌, ◌==◌, Option, Some, None, sym, ap, subst, rules}
 use Rattle.std.specs.Prelude.{position, IfErr}
 use Rattle.am_model.specs.Causes.{asked_cause}
-use Rattle.am_board.specs.Kept.{asked_state_of, flush_state}
+use Rattle.am_board.specs.Refinement.{asked_state_of, flush_state}
 use Rattle.am_model.specs.Note.{asked_by}
 use Rattle.am_model.specs.State.{AskedState}
 use Rattle.am_board.specs.declared.flush.Asked.{Asked}

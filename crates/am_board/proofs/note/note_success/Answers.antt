@@ -3,10 +3,10 @@ use Rattle.std.specs.Prelude.{IfErr, slice_get}
 use Rattle.std.specs.Vec.{with_item}
 use Rattle.am_model.specs.Causes.{is_full, flush_cause}
 use Rattle.am_model.specs.Records.{entry}
-use Rattle.am_board.specs.Kept.{flush_state, state_of}
+use Rattle.am_board.specs.Refinement.{flush_state, state_of}
 use Rattle.am_board.specs.Noting.{IsNoteTarget}
 use Rattle.am_model.specs.State.{flush_numbered}
-use Rattle.am_board.specs.Step.{Stays, IsNoteAnswer}
+use Rattle.am_board.specs.Step.{LeavesUnchanged, IsNoteAnswer}
 use Rattle.am_model.specs.Ticket.{outcome_of}
 use Rattle.am_model.specs.declared.fault.NoteFault.TheVariants as note
 use Rattle.am_board.specs.declared.flush.OpenFlush.{OpenFlush}
@@ -34,7 +34,7 @@ returns-in_err-found c =
     let kept : map flush_state c.args.state.now.flushes.items ≡ map flush_state c.as_slice.result.now = ap (map flush_state) (sym c.as_slice.ensures.value) in
     let cause : IfErr c.from_residual.result (λ fault. flush_cause c.args.config.now (vec_len c.args.state.now.history) (state_of c.args.state.now) c.args.ticket.now c.args.place (flush_numbered (map flush_state c.args.state.now.flushes.items) c.args.ticket.now.number) ≡ Some fault) =
     search (rules, c.in_err-found.ensures.cause c.args.config.now (vec_len c.args.state.now.history) (state_of c.args.state.now) kept) in
-    refused c.from_residual.result _ (flush_cause c.args.config.now (vec_len c.args.state.now.history) (state_of c.args.state.now) c.args.ticket.now c.args.place (flush_numbered (map flush_state c.args.state.now.flushes.items) c.args.ticket.now.number)) (Stays c.args.config.now c.args.state.now c.args.state.now) c.from_residual.ensures.0 cause
+    refused c.from_residual.result _ (flush_cause c.args.config.now (vec_len c.args.state.now.history) (state_of c.args.state.now) c.args.ticket.now c.args.place (flush_numbered (map flush_state c.args.state.now.flushes.items) c.args.ticket.now.number)) (LeavesUnchanged c.args.config.now c.args.state.now c.args.state.now) c.from_residual.ensures.0 cause
     (stays_itself c.args.config.now c.args.state.now c.requires.good)
 
 pub returns-then-not-has_room : goal.returns-then-not-has_room

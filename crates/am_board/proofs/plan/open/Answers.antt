@@ -1,8 +1,8 @@
 use Rattle.std.proofs.Common.{◌≡◌, ◌∙◌, ◌+◌, ◌*◌, refl, ap, max, min, arith}
 use Rattle.am_alerts.specs.declared.route.Route.{Route}
-use Rattle.am_model.specs.declared.notice.TheConstants.{LEAST_TIME}
+use Rattle.am_model.specs.declared.notice.TheConstants.{MIN_FLUSH_TIMEOUT}
 use Rattle.am_model.specs.Begin.{asked_of, deadline_of}
-use Rattle.am_board.specs.Kept.{group_state, state_of}
+use Rattle.am_board.specs.Refinement.{group_state, state_of}
 use Rattle.am_board.proofs.beginning.PlannedFlushes.{all-spare, deadline-is, flush-is, kept_for-is, notices-are}
 use Rattle.am_board.proofs.plan.open.Goals as goal
 
@@ -16,7 +16,7 @@ returns c =
     let route = c.route-route.ensures.route in
     let deadline : c.saturating_add-deadline.result ≡ deadline_of config t (group_state g) =
     deadline-is c.route-route.result.now t c.max.result c.saturating_add-deadline.result c.route-route.ensures.intervals c.requires.moment c.max.ensures c.saturating_add-deadline.ensures
-    ∙ ap (λ (r : Route). t + max r.group_interval LEAST_TIME) route in
+    ∙ ap (λ (r : Route). t + max r.group_interval MIN_FLUSH_TIMEOUT) route in
     let notices = c.in_ok-notices.ensures.items ∙ notices-are config s t g c.args.unmuted.now c.requires.unmuted asked c.args.id c.saturating_add-deadline.result c.args.asked.now c.requires.asked deadline in
     record {
       flush = flush-is config s t g c.args.unmuted.now c.requires.unmuted asked c.min-kept_for.result c.args.asked.now c.requires.asked c.in_ok-flush_of.field-0 c.in_ok-flush_of.ensures;

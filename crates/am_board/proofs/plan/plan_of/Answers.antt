@@ -2,7 +2,7 @@ use Rattle.std.proofs.Common.{◌≡◌, ◌∙◌, length, map, sym, ap, arith,
 use Rattle.std.proofs.lemmas.Bool.Decides.{nat_tests}
 use Rattle.am_model.specs.Begin.{asked_of}
 use Rattle.am_board.specs.Beginning.{update_of}
-use Rattle.am_board.specs.Kept.{group_state, state_of}
+use Rattle.am_board.specs.Refinement.{group_state, state_of}
 use Rattle.am_board.proofs.beginning.Updates.{no-updates, nothing-asks, something-asks}
 use Rattle.am_board.proofs.beginning.WhatIsUnmuted.{unmuted-rises}
 use Rattle.am_board.proofs.plan.plan_of.Goals as goal
@@ -12,10 +12,10 @@ use Rattle.am_board.proofs.plan.plan_of.Goals.{In_ok-asked}
 asked-are : (c : In_ok-asked) → c.in_ok-asked.asked.items ≡ map update_of (asked_of c.args.config.now (state_of c.args.state.now) c.args.t (group_state c.args.group.now))
 asked-are c =
     c.in_ok-asked.ensures ∙ ap (map update_of) (something-asks c.args.config.now (state_of c.args.state.now) c.args.t (group_state c.args.group.now) c.in_ok-unmuted.unmuted c.in_ok-unmuted.ensures c.is_empty.result c.is_empty.ensures
-    c.in_ok-told.told c.if-is_empty.false c.in_ok-told.ensures)
+    c.in_ok-sets.sets c.if-is_empty.false c.in_ok-sets.ensures)
 
-pub told-requires : goal.told-requires
-told-requires c = unmuted-rises c.args.config.now (state_of c.args.state.now) c.args.t (group_state c.args.group.now) c.in_ok-unmuted.unmuted c.requires.apart c.in_ok-unmuted.ensures
+pub sets-requires : goal.sets-requires
+sets-requires c = unmuted-rises c.args.config.now (state_of c.args.state.now) c.args.t (group_state c.args.group.now) c.in_ok-unmuted.unmuted c.requires.apart c.in_ok-unmuted.ensures
 
 pub returns-then-is_empty : goal.returns-then-is_empty
 returns-then-is_empty c = nothing-asks c.args.config.now (state_of c.args.state.now) c.args.t (group_state c.args.group.now) c.in_ok-unmuted.unmuted c.in_ok-unmuted.ensures c.is_empty.result c.is_empty.ensures c.if-is_empty.true

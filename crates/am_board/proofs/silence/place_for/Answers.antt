@@ -5,7 +5,7 @@ use Rattle.std.proofs.lemmas.Bool.Decides.{nat_tests}
 use Rattle.am_alerts.specs.Fault.{ok_unless}
 use Rattle.am_mute.specs.Silence.{SilenceData}
 use Rattle.am_model.specs.Causes.{is_full}
-use Rattle.am_board.specs.Kept.{state_of}
+use Rattle.am_board.specs.Refinement.{state_of}
 use Rattle.am_model.specs.Upkeep.{same_silence}
 use Rattle.am_model.specs.declared.fault.Fault.{Fault}
 use Rattle.am_model.specs.declared.fault.Fault.TheVariants.{TooManySilences, HistoryFull}

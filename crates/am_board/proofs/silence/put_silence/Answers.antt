@@ -6,8 +6,8 @@ use Rattle.am_model.specs.declared.record.Call.TheVariants.{Silence}
 use Rattle.am_model.specs.declared.record.Reply.TheVariants.{Silenced}
 use Rattle.am_model.specs.Causes.{silence_cause}
 use Rattle.am_model.specs.Records.{entry}
-use Rattle.am_board.specs.Kept.{state_of}
-use Rattle.am_model.specs.Lists.{put_in}
+use Rattle.am_board.specs.Refinement.{state_of}
+use Rattle.am_model.specs.Lists.{upsert}
 use Rattle.am_model.specs.State.{State}
 use Rattle.am_model.specs.Upkeep.{same_silence}
 use Rattle.am_model.proofs.lists.Places.{is_some-position}
@@ -30,7 +30,7 @@ returns c =
         told = ap (λ b. Some (Silenced (record { replaced = b }))) (sym replaced);
         state = record {
           rows = IsPermutation-refl _;
-          rest = with_silences (state_of c.args.state.now) c.moment-state.result _ c.keep_silence.new.silences.items _ c.moment-state.ensures (c.keep_silence.ensures ∙ ap (put_in same_silence c.args.silence) c.in_ok-reserve-2.ensures.items);
+          rest = with_silences (state_of c.args.state.now) c.moment-state.result _ c.keep_silence.new.silences.items _ c.moment-state.ensures (c.keep_silence.ensures ∙ ap (upsert same_silence c.args.silence) c.in_ok-reserve-2.ensures.items);
         };
         routed = c.requires.good.routed;
         prepared = c.requires.good.prepared;

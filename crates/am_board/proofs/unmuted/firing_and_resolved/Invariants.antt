@@ -1,6 +1,6 @@
 use Rattle.std.proofs.Common.{map, take}
 use Rattle.am_board.specs.Beginning.{AreUnmuted}
-use Rattle.am_board.specs.Kept.{state_of}
+use Rattle.am_board.specs.Refinement.{state_of}
 use Rattle.am_board.proofs.unmuted.firing_and_resolved.Given as goal
 
 -- what the members so far give

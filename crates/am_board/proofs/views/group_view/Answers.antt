@@ -3,7 +3,7 @@ use Rattle.std.specs.List.{IsDistinct}
 use Rattle.am_board.specs.declared.group.Member.{Member}
 use Rattle.am_model.specs.Begin.{alert_cmp}
 use Rattle.am_model.specs.Insert.{same_alert}
-use Rattle.am_board.specs.Kept.{member_state}
+use Rattle.am_board.specs.Refinement.{member_state}
 use Rattle.am_model.specs.Lists.{in_order}
 use Rattle.am_model.proofs.states.InOrder.{IsDistinct-alerts}
 use Rattle.am_board.proofs.keeping.Shown.{alerts_kept}

@@ -1,6 +1,6 @@
 use Rattle.std.proofs.Common.{◌≡◌, rules, map, ap, ◌∙◌}
 use Rattle.am_board.specs.declared.group.Group.{Group}
-use Rattle.am_board.specs.Kept.{group_state}
+use Rattle.am_board.specs.Refinement.{group_state}
 use Rattle.am_model.specs.Views.{group_view}
 use Rattle.am_model.proofs.states.InOrder.{sorted_by_group}
 use Rattle.am_board.proofs.keeping.Shown.{views_kept}

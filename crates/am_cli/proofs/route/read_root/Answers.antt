@@ -1,7 +1,7 @@
 use Rattle.std.proofs.Common.{◌≡◌, subst, sym, ap, ◌∙◌}
 use Rattle.serde_json.specs.View.{members_view}
 use Rattle.am_alerts.specs.declared.route.Route.{Route}
-use Rattle.am_cli.specs.Configured.{TellsOptions}
+use Rattle.am_cli.specs.Configured.{DecodesToOptions}
 use Rattle.am_cli.specs.Routed.{routed}
 use Rattle.am_cli.proofs.route.read_root.Goals as goal
 
@@ -12,6 +12,6 @@ returns c =
     record {
       members = members;
       object = sym c.in_ok-root.ensures.members;
-      options = subst (λ (r : Route). TellsOptions members r) (sym route) (c.in_ok-options.ensures c.in_ok-new.field-0);
+      options = subst (λ (r : Route). DecodesToOptions members r) (sym route) (c.in_ok-options.ensures c.in_ok-new.field-0);
       name = ap (λ (r : Route). r.name) route ∙ c.in_ok-new.ensures;
     }

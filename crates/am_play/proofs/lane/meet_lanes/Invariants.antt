@@ -1,11 +1,11 @@
 use Rattle.std.proofs.Common.{◌≡◌, length}
-use Rattle.am_play.specs.Seats.{passes_in}
+use Rattle.am_play.specs.LaneStates.{passes_in}
 use Rattle.am_play.proofs.Meetings.{MetSoFar}
 use Rattle.am_play.proofs.lane.meet_lanes.Given as goal
 
--- the passes of the seats so far were met
-abbrev pub invariant-loop-seat : goal.invariant-loop-seat
-invariant-loop-seat g l = record {
-  count : length l.seats ≡ length l.fn.seats;
-  met : MetSoFar l.seat-index l.fn.main l.main (passes_in l.fn.seats) (passes_in l.seats);
+-- the passes of the lane states so far were met
+abbrev pub invariant-loop-lane_state : goal.invariant-loop-lane_state
+invariant-loop-lane_state g l = record {
+  count : length l.lane_states ≡ length l.fn.lane_states;
+  met : MetSoFar l.lane_state-index l.fn.main l.main (passes_in l.fn.lane_states) (passes_in l.lane_states);
 }

@@ -1,7 +1,7 @@
 use Rattle.std.proofs.Common.{get_or, subst}
-use Rattle.am_play.specs.Seats.{Ran}
-use Rattle.am_play.specs.declared.lane.Seat.{Seat}
-use Rattle.am_play.proofs.Seats.{by_place}
+use Rattle.am_play.specs.LaneStates.{Ran}
+use Rattle.am_play.specs.declared.lane.LaneState.{LaneState}
+use Rattle.am_play.proofs.LaneStates.{by_place}
 use denote.Param.Send.{IsSync}
 use Rattle.am_desk.proofs.Crossing.{crossing}
 use Rattle.am_desk.proofs.pass.Pass.TheSendSync as pass
@@ -19,10 +19,10 @@ for_each_mut-requires-sync-F g c κs within =
 
 pub returns : goal.returns
 returns g c =
-    let ss = c.args.seats.now in
+    let ss = c.args.lane_states.now in
     let ts = c.for_each_mut.new.s in
     let at = c.args.at in
     by_place (Ran at) ss ts c.for_each_mut.auto.s
     (λ i d lt.
     let k = (c.for_each_mut.ensures i d lt).1 in
-    subst (λ (x : Seat g.row.N.Denot). Ran at x (get_or ts i d)) k.argument_is (subst (λ (y : Seat g.row.N.Denot). Ran at k.argument.now y) k.left k.call))
+    subst (λ (x : LaneState g.row.N.Denot). Ran at x (get_or ts i d)) k.argument_is (subst (λ (y : LaneState g.row.N.Denot). Ran at k.argument.now y) k.left k.call))

@@ -1,8 +1,8 @@
 use Rattle.std.proofs.Common.{take}
-use Rattle.am_play.specs.Seats.{NoneRefused}
-use Rattle.am_play.specs.Troubles.{AreNone}
+use Rattle.am_play.specs.LaneStates.{NoneRefused}
+use Rattle.am_play.specs.PhaseFaults.{HasNoFault}
 use Rattle.am_play.proofs.phase.hear_lanes.Given as goal
 
--- the refused calls of the lanes so far are troubles
+-- the refused calls of the lanes so far are faults of the phase
 abbrev pub invariant-loop-lane : goal.invariant-loop-lane
-invariant-loop-lane g l = AreNone l.troubles → AreNone l.fn.troubles × NoneRefused (take l.lane l.seats)
+invariant-loop-lane g l = HasNoFault l.faults → HasNoFault l.fn.faults × NoneRefused (take l.lane l.lane_states)

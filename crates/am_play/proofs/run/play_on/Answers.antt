@@ -12,15 +12,15 @@ use Rattle.am_desk.proofs.Crossing.{every}
 use Rattle.am_desk.specs.Plans.{Plan}
 use Rattle.am_desk.specs.Terms.{terms}
 use Rattle.am_desk.specs.declared.word.Terms.{Terms}
-use Rattle.am_trail.proofs.trail.Trail.TheSendSync as trail
-use Rattle.am_play.specs.Beside.{HadParts}
-use Rattle.am_play.specs.Parts.{ArePartsOf}
+use Rattle.am_ghost.proofs.ghost_list.GhostList.TheSendSync as trail
+use Rattle.am_play.specs.Interleaving.{AfterPhases}
+use Rattle.am_play.specs.Parts.{SplitsByPhase}
 use Rattle.am_report.specs.Report.{report_text}
 use Rattle.am_play.specs.Runs.{lanes_of}
 use Rattle.am_scenario.specs.Scripts.{IsAsPlanned}
-use Rattle.am_play.specs.Seats.{HaveMade}
-use Rattle.am_play.specs.Turns.{AreTurnsOf, Turn}
-use Rattle.am_play.specs.declared.lane.Seat.{Seat}
+use Rattle.am_play.specs.LaneStates.{HaveMade}
+use Rattle.am_play.specs.Turns.{AreAllMainStepsOf, MainSteps}
+use Rattle.am_play.specs.declared.lane.LaneState.{LaneState}
 use Rattle.am_play.specs.declared.run.TheConstants.{BOARD_ID}
 use Rattle.am_scenario.specs.declared.scenario.Phase.{Phase}
 use Rattle.am_scenario.specs.declared.scenario.script.Script.{Script}
@@ -106,19 +106,19 @@ returns-clause-report g c =
     let desk = g.N.Name.terms in
     let all_taken = take_all n ls (omega (arith, end.1, length-enumerate_from 0 ls)) in
     let have : HaveMade 0 ls (lanes_of run) = subst (λ (xs : List Phase). HaveMade 0 xs (lanes_of run)) all_taken c.loop-index.invariant.lanes in
-    let had : HadParts answers desk ls run.main (lanes_of run) c.as_slice-2.result.now =
-    subst (λ (rs : List Report). HadParts answers desk ls run.main (lanes_of run) rs) (sym reports)
-    (subst (λ (xs : List Phase). HadParts answers desk xs run.main (lanes_of run) run.reports.items) all_taken c.loop-index.invariant.main)
+    let had : AfterPhases answers desk ls run.main (lanes_of run) c.as_slice-2.result.now =
+    subst (λ (rs : List Report). AfterPhases answers desk ls run.main (lanes_of run) rs) (sym reports)
+    (subst (λ (xs : List Phase). AfterPhases answers desk xs run.main (lanes_of run) run.reports.items) all_taken c.loop-index.invariant.main)
     in
     let stand = turns_stand answers desk ls run.main c.as_slice-2.result.now closed.history had.main c.in_ok-closed.ensures.main in
-    let parts : ArePartsOf ls stand.turns closed.history =
-    subst (λ (us : List Turn). ArePartsOf ls us closed.history) (sym (turns_stay answers desk ls run.main c.as_slice-2.result.now closed.history had.main c.in_ok-closed.ensures.main))
+    let parts : SplitsByPhase ls stand.turns closed.history =
+    subst (λ (us : List MainSteps). SplitsByPhase ls us closed.history) (sym (turns_stay answers desk ls run.main c.as_slice-2.result.now closed.history had.main c.in_ok-closed.ensures.main))
     (parts_stand answers desk ls run.main (lanes_of run) c.as_slice-2.result.now closed.history have had c.in_ok-closed.ensures.main c.in_ok-closed.ensures.lanes
     c.in_ok-closed.ensures.others)
     in
     let told =
-    subst (λ (t : Terms). (turns : AreTurnsOf (IsAsPlanned c.args.scenario.scripts.items) t 0 closed.history ls c.as_slice-2.result.now) × ArePartsOf ls turns.turns closed.history) played
-    (subst (λ (scripts : List Script). (turns : AreTurnsOf (IsAsPlanned scripts) desk 0 closed.history ls c.as_slice-2.result.now) × ArePartsOf ls turns.turns closed.history)
+    subst (λ (t : Terms). (turns : AreAllMainStepsOf (IsAsPlanned c.args.scenario.scripts.items) t 0 closed.history ls c.as_slice-2.result.now) × SplitsByPhase ls turns.turns closed.history) played
+    (subst (λ (scripts : List Script). (turns : AreAllMainStepsOf (IsAsPlanned scripts) desk 0 closed.history ls c.as_slice-2.result.now) × SplitsByPhase ls turns.turns closed.history)
     (sym c.requires.scripts) (stand, parts))
     in
     record {
@@ -136,7 +136,7 @@ returns-clause-report g c =
             stand = c.in_ok-closed.ensures.lanes;
             others = c.in_ok-closed.ensures.others;
             few = c.requires.lanes;
-            seated = omega (arith, passes, run.seated, run.seats.ok.0, length-map run.seats.items (λ (s : Seat g.row.N.Denot). s.pass));
+            seated = omega (arith, passes, run.seated, run.lane_states.ok.0, length-map run.lane_states.items (λ (s : LaneState g.row.N.Denot). s.pass));
           };
       main = told.0;
       parts = told.1;

@@ -7,4 +7,4 @@ use Rattle.am_timeline.proofs.muted.push_more_muted.Given as goal
 abbrev pub invariant-loop-alert : goal.invariant-loop-alert
 invariant-loop-alert g l =
     string_bytes l.out
-    ≡ string_bytes l.fn.out ++ flat_map (λ m. codes "; " ++ muted_alert_text (g.C.Clock.times l.clock) m) (take l.alert-index l.muted)
+    ≡ string_bytes l.fn.out ++ flat_map (λ m. codes "; " ++ muted_alert_text (g.C.TimeFormat.times l.clock) m) (take l.alert-index l.muted)

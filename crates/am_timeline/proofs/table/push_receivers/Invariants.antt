@@ -7,4 +7,4 @@ use Rattle.am_timeline.proofs.table.push_receivers.Given as goal
 abbrev pub invariant-loop-receiver : goal.invariant-loop-receiver
 invariant-loop-receiver g l =
     string_bytes l.out
-    ≡ string_bytes l.fn.out ++ flat_map (receiver_line l.story (g.C.Clock.times l.clock)) (take l.receiver-index l.receivers)
+    ≡ string_bytes l.fn.out ++ flat_map (receiver_line l.playback (g.C.TimeFormat.times l.clock)) (take l.receiver-index l.receivers)

@@ -1,4 +1,4 @@
-use Rattle.am_tree.specs.Forest.{forest}
+use Rattle.am_tree.specs.RouteForest.{forest}
 use Rattle.am_tree.proofs.plain.Entries.{on_top-closed}
 use Rattle.am_tree.proofs.plain.Levels.{fits-top, plain-top, unrefused-top}
 use Rattle.am_tree.proofs.law.trees_without_continue_need_only_room.Goals as goal

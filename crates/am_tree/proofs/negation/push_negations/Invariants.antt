@@ -1,5 +1,5 @@
 use Rattle.std.proofs.Common.{◌≡◌, ◌++◌, drop}
-use Rattle.am_tree.specs.Forest.{forest}
+use Rattle.am_tree.specs.RouteForest.{forest}
 use Rattle.am_tree.specs.Negation.{negations}
 use Rattle.am_tree.proofs.negation.push_negations.Given as goal
 

@@ -20,8 +20,8 @@ returns-clause-recorded c =
     recorded c.self.inside c.self.invariant c.args.self.now c.self.view_is c.take_group.new.state c.args.pass (Begin c.args.now) reply_of _
     (λ x h. h.1) _ c.take_group.result c.take_group.ensures
 
-pub returns-clause-told : goal.returns-clause-told
-returns-clause-told c =
+pub returns-clause-reply : goal.returns-clause-reply
+returns-clause-reply c =
     told_now c.self.inside c.self.invariant c.args.self.now c.self.view_is c.take_group.new.state c.args.pass (Begin c.args.now) reply_of _
     (λ x h. h.1) _ c.take_group.result c.take_group.ensures
 

@@ -29,11 +29,11 @@ returns-clause-recorded c =
     finish_recorded c.self.inside c.self.invariant c.args.self.now c.self.view_is c.finish_flush.new.state c.args.pass c.args.now c.in-Some.f c.ticket.inside.number c.ticket.inside.outcomes.items c.args.ticket
     (ap (λ (t : TicketData). t.number) c.ticket.view_is) (ap (λ (t : TicketData). t.outcomes) c.ticket.view_is) c.finish_flush.result (c.in-Some.ensures.first ∙ ap (position (λ (flush : OpenFlush). flush.number == c.ticket.inside.number)) c.as_slice.ensures.value) c.finish_flush.ensures.accepted
 
-pub returns-clause-told : goal.returns-clause-told
-returns-clause-told c =
+pub returns-clause-reply : goal.returns-clause-reply
+returns-clause-reply c =
     finish_told c.self.inside c.self.invariant c.args.self.now c.self.view_is c.finish_flush.new.state c.args.pass c.args.now c.in-Some.f c.ticket.inside.number c.ticket.inside.outcomes.items c.args.ticket
     (ap (λ (t : TicketData). t.number) c.ticket.view_is) (ap (λ (t : TicketData). t.outcomes) c.ticket.view_is) c.finish_flush.result (c.in-Some.ensures.first ∙ ap (position (λ (flush : OpenFlush). flush.number == c.ticket.inside.number)) c.as_slice.ensures.value) c.finish_flush.ensures.accepted
 
 pub returns-clause-not_open : goal.returns-clause-not_open
 returns-clause-not_open c =
-    (λ e. absurd e, λ h. not_none _ _ _ (returns-clause-told c) h.1)
+    (λ e. absurd e, λ h. not_none _ _ _ (returns-clause-reply c) h.1)

@@ -42,8 +42,8 @@ returns-clause-recorded c =
     recorded c.self.inside c.self.invariant c.args.self.now c.self.view_is c.put_alert-inserted.new.state c.args.pass (Insert c.args.now c.args.alert) replies.Inserted _
     (λ x h. h.1 c.self.inside.id) _ c.put_alert-inserted.result c.put_alert-inserted.ensures.put
 
-pub returns-clause-told : goal.returns-clause-told
-returns-clause-told c =
+pub returns-clause-reply : goal.returns-clause-reply
+returns-clause-reply c =
     told_now c.self.inside c.self.invariant c.args.self.now c.self.view_is c.put_alert-inserted.new.state c.args.pass (Insert c.args.now c.args.alert) replies.Inserted _
     (λ x h. h.1 c.self.inside.id) _ c.put_alert-inserted.result c.put_alert-inserted.ensures.put
 

@@ -18,8 +18,8 @@ returns-clause-recorded c =
     recorded c.self.inside c.self.invariant c.args.self.now c.self.view_is c.sweep.new.state c.args.pass (Maintain c.args.now) replies.Maintained _
     (λ x h. h.1 c.self.inside.id) _ c.sweep.result c.sweep.ensures
 
-pub returns-clause-told : goal.returns-clause-told
-returns-clause-told c =
+pub returns-clause-reply : goal.returns-clause-reply
+returns-clause-reply c =
     told_now c.self.inside c.self.invariant c.args.self.now c.self.view_is c.sweep.new.state c.args.pass (Maintain c.args.now) replies.Maintained _
     (λ x h. h.1 c.self.inside.id) _ c.sweep.result c.sweep.ensures
 

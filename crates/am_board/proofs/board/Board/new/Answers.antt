@@ -8,9 +8,9 @@ use Rattle.am_model.specs.declared.fault.BoardFault.{BoardFault}
 use Rattle.am_model.specs.declared.fault.BoardFault.TheVariants.{BadConfig}
 use Rattle.am_model.specs.declared.record.Record.{Record}
 use Rattle.am_model.specs.Config.{config_fault}
-use Rattle.am_board.specs.Destinations.{AreKept}
+use Rattle.am_board.specs.GroupNameCache.{AreKept}
 use Rattle.am_board.specs.History.{BoardData, opening}
-use Rattle.am_board.proofs.keeping.Destinations.{kept_none}
+use Rattle.am_board.proofs.keeping.GroupNameCache.{kept_none}
 use Rattle.am_board.proofs.keeping.Sound.{new_sound}
 use Rattle.am_board.proofs.keeping.Staying.{no_fault}
 use Rattle.am_board.proofs.board.Board.new.Goals as goal

@@ -18,8 +18,8 @@ returns-clause-recorded c =
     recorded c.self.inside c.self.invariant c.args.self.now c.self.view_is c.put_silence.new.state c.args.pass (call_of_silence c.args.now c.args.silence) replies.Silenced _
     (λ x h. h.1 c.self.inside.id) _ c.put_silence.result c.put_silence.ensures
 
-pub returns-clause-told : goal.returns-clause-told
-returns-clause-told c =
+pub returns-clause-reply : goal.returns-clause-reply
+returns-clause-reply c =
     told_now c.self.inside c.self.invariant c.args.self.now c.self.view_is c.put_silence.new.state c.args.pass (call_of_silence c.args.now c.args.silence) replies.Silenced _
     (λ x h. h.1 c.self.inside.id) _ c.put_silence.result c.put_silence.ensures
 

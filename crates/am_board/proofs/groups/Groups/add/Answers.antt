@@ -6,12 +6,12 @@ use Rattle.indexmap.specs.IndexMap.{insert_entry}
 use Rattle.am_board.specs.Due.{AreDue}
 use Rattle.am_board.specs.GroupList.{GroupList, name_of}
 use Rattle.am_board.specs.Keyed.{AreKeyed}
-use Rattle.am_model.specs.Lists.{put_in}
+use Rattle.am_model.specs.Lists.{upsert}
 use Rattle.am_model.specs.State.{same_name}
 use Rattle.am_board.specs.declared.group.Group.{Group}
 use Rattle.am_model.specs.declared.group.GroupName.{GroupName}
 use Rattle.am_board.proofs.keeping.DueKeys.{due_push}
-use Rattle.am_board.proofs.keeping.Keyed.{same_key, put_in-entries, AreKeyed-insert}
+use Rattle.am_board.proofs.keeping.Keyed.{same_key, upsert-entries, AreKeyed-insert}
 use Rattle.am_model.proofs.lists.Places.{put_new}
 use Rattle.am_board.proofs.groups.Groups.add.Goals as goal
 use Rattle.am_board.proofs.groups.Groups.add.Goals.{After-unwrap}
@@ -31,8 +31,8 @@ added c =
     let like = same_key same_name name_of in
     let missing : position (like c.args.group) c.args.self.now.items ≡ None = ap (λ (n : GroupName). position (λ (g : Group). same_name n g.name) c.args.self.now.items) (sym c.requires.name) ∙ c.requires.missing in
     ap values_of (entered c)
-    ∙ put_in-entries same_name name_of c.args.group c.self.inside.groups.entries c.self.invariant.keyed
-    ∙ ap (λ (k : GroupList). put_in like c.args.group k.items) c.self.view_is
+    ∙ upsert-entries same_name name_of c.args.group c.self.inside.groups.entries c.self.invariant.keyed
+    ∙ ap (λ (k : GroupList). upsert like c.args.group k.items) c.self.view_is
     ∙ put_new like c.args.group c.args.self.now.items missing
 
 pub invariant_of-self : goal.invariant_of-self

@@ -9,7 +9,7 @@ use Rattle.am_model.specs.declared.group.GroupName.{GroupName}
 use Rattle.am_board.specs.Group.{names_of, AreRouted}
 use Rattle.am_board.specs.GroupList.{GroupList, name_of}
 use Rattle.am_board.specs.Keyed.{AreKeyed}
-use Rattle.am_board.specs.Kept.{group_state}
+use Rattle.am_board.specs.Refinement.{group_state}
 use Rattle.am_model.specs.Lists.{without}
 use Rattle.am_model.specs.State.{same_name}
 use Rattle.am_model.specs.Upkeep.{is_deserted}

@@ -3,7 +3,7 @@ use Rattle.indexmap.specs.IndexMap.{spare}
 use Rattle.am_board.proofs.inserting.GroupRoom.{changes_at}
 use Rattle.am_board.proofs.keeping.DueKeys.{had_at, tied_change}
 use Rattle.am_board.specs.Group.{Gets}
-use Rattle.am_board.specs.Kept.{member_state}
+use Rattle.am_board.specs.Refinement.{member_state}
 use Rattle.am_board.proofs.groups.Groups.insert.Goals as goal
 
 pub change-requires : goal.change-requires

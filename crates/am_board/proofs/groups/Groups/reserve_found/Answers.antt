@@ -1,7 +1,7 @@
 use Rattle.std.proofs.Common.{map, ap, sym, ◌∙◌}
 use Rattle.std.proofs.lemmas.Result.{on_ok_weaker}
 use Rattle.am_board.specs.Group.{names_of}
-use Rattle.am_board.specs.Kept.{group_state}
+use Rattle.am_board.specs.Refinement.{group_state}
 use Rattle.am_board.specs.declared.group.Group.{Group}
 use Rattle.am_board.proofs.keeping.GroupNames.{names_set, states_set}
 use Rattle.am_board.proofs.inserting.GroupRoom.{room_missing, room_reserved}

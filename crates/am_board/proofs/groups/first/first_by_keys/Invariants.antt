@@ -2,7 +2,7 @@ use Rattle.std.proofs.Common.{map}
 use Rattle.std.specs.List.Sorted.{IsStrictlySortedBy}
 use Rattle.std.specs.Map.{values_of}
 use Rattle.am_board.specs.Due.{key_cmp}
-use Rattle.am_board.specs.Kept.{flush_state}
+use Rattle.am_board.specs.Refinement.{flush_state}
 use Rattle.am_board.proofs.beginning.DueWalk.{AreAhead}
 use Rattle.am_board.proofs.groups.first.first_by_keys.Given as goal
 

@@ -1,7 +1,7 @@
 use Rattle.std.proofs.Common.{◌≡◌, ◌-◌, Some, map, drop, ap, sym, subst, ◌∙◌, arith}
 use Rattle.std.specs.Prelude.{Option, slice_index_or}
 use Rattle.am_model.specs.Begin.{due_cmp}
-use Rattle.am_board.specs.Kept.{group_state, flush_state}
+use Rattle.am_board.specs.Refinement.{group_state, flush_state}
 use Rattle.am_model.specs.Lists.{lesser}
 use Rattle.am_model.specs.State.{GroupState}
 use Rattle.am_board.specs.Beginning.{first_of, IsFirst}

@@ -1,6 +1,6 @@
 use Rattle.std.proofs.Common.{◌<◌, length, drop, map}
 use Rattle.std.specs.Prelude.{IfSome}
-use Rattle.am_board.specs.Kept.{group_state, flush_state}
+use Rattle.am_board.specs.Refinement.{group_state, flush_state}
 use Rattle.am_board.specs.Beginning.{first_of, IsFirst}
 use Rattle.am_board.proofs.groups.first.first_by_walk.Given as goal
 

@@ -10,8 +10,8 @@ use Rattle.am_alerts.specs.declared.labels.Label.{Label}
 use Rattle.am_model.specs.Insert.{same_alert}
 use Rattle.am_board.specs.Keyed.{AreKeyed}
 use Rattle.am_board.specs.Known.{KnownAlerts, labels_of}
-use Rattle.am_model.specs.Lists.{put_in}
-use Rattle.am_board.proofs.keeping.Keyed.{place_of-keys, put_in-entries, set-insert, AreKeyed-insert}
+use Rattle.am_model.specs.Lists.{upsert}
+use Rattle.am_board.proofs.keeping.Keyed.{place_of-keys, upsert-entries, set-insert, AreKeyed-insert}
 use Rattle.am_board.proofs.known.Known.put.Goals as goal
 use Rattle.am_board.proofs.known.Known.put.Goals.{in-Some-1, in-None-1, After-unwrap}
 
@@ -24,8 +24,8 @@ module _ (a : AlertData) (es : List (List Label × AlertData)) (keyed : AreKeyed
   keyed_after : AreKeyed labels_of (insert_entry same_label_set es a.labels a)
   keyed_after = AreKeyed-insert same_label_set labels_of (λ k l. (same_label_set-decides k l).0) a es keyed
 
-  put_after : (items : List AlertData) → values_of es ≡ items → values_of (insert_entry same_label_set es a.labels a) ≡ put_in same_alert a items
-  put_after items seen = put_in-entries same_label_set labels_of a es keyed ∙ ap (put_in same_alert a) seen
+  put_after : (items : List AlertData) → values_of es ≡ items → values_of (insert_entry same_label_set es a.labels a) ≡ upsert same_alert a items
+  put_after items seen = upsert-entries same_label_set labels_of a es keyed ∙ ap (upsert same_alert a) seen
 
 pub invariant_of-self : goal.invariant_of-self
 invariant_of-self c =

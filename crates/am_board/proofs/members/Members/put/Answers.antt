@@ -5,8 +5,8 @@ use Rattle.indexmap.specs.IndexMap.{insert_entry}
 use Rattle.am_alerts.specs.Labels.{same_label_set}
 use Rattle.am_alerts.specs.declared.labels.Label.{Label}
 use Rattle.am_model.specs.Insert.{same_member}
-use Rattle.am_model.specs.Lists.{put_in}
-use Rattle.am_board.specs.Kept.{member_state}
+use Rattle.am_model.specs.Lists.{upsert}
+use Rattle.am_board.specs.Refinement.{member_state}
 use Rattle.am_board.specs.Members.{MemberList, AreMembers}
 use Rattle.am_board.specs.Order.{IsOrder}
 use Rattle.am_board.specs.declared.group.Member.{Member}
@@ -43,4 +43,4 @@ returns-clause-members c =
     let at = (goal.at.returns-clause-members c).After-unwrap in
     ap (λ es. map member_state (values_of es)) (entered at)
     ∙ members_put (unmarked c.args.member) c.self.inside.members.entries c.self.invariant.members
-    ∙ ap (λ (k : MemberList). put_in same_member (member_state c.args.member) (map member_state k.items)) c.self.view_is
+    ∙ ap (λ (k : MemberList). upsert same_member (member_state c.args.member) (map member_state k.items)) c.self.view_is

@@ -1,7 +1,7 @@
 use Rattle.std.proofs.Common.{List, map, sym, ap, ◌∙◌, subst}
 use Rattle.std.specs.List.{IsDistinct}
 use Rattle.am_model.specs.Insert.{same_member}
-use Rattle.am_board.specs.Kept.{member_state}
+use Rattle.am_board.specs.Refinement.{member_state}
 use Rattle.am_board.specs.Members.{MemberList}
 use Rattle.am_board.specs.Order.{IsOrder}
 use Rattle.am_board.specs.declared.group.Member.{Member}

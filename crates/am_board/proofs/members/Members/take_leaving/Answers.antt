@@ -2,7 +2,7 @@ use Rattle.std.proofs.Common.{◌≡◌, ◌∙◌, eqb-true, length, not, map, 
 use Rattle.indexmap.proofs.CallerLemmas.{filter-RetainsPairs}
 use Rattle.am_model.specs.Finish.{is_leaving}
 use Rattle.am_model.specs.Lists.{without}
-use Rattle.am_board.specs.Kept.{member_state, stamped}
+use Rattle.am_board.specs.Refinement.{member_state, stamped}
 use Rattle.std.specs.Map.{values_of}
 use Rattle.am_board.specs.Members.{MemberList}
 use Rattle.am_board.specs.Order.{IsOrder}

@@ -4,7 +4,7 @@ use Rattle.indexmap.proofs.CallerLemmas.{filter-RetainsPairs}
 use Rattle.am_alerts.specs.AlertData.{is_resolved}
 use Rattle.am_model.specs.Lists.{without}
 use Rattle.am_model.specs.State.{MemberState}
-use Rattle.am_board.specs.Kept.{member_state}
+use Rattle.am_board.specs.Refinement.{member_state}
 use Rattle.std.specs.Map.{values_of}
 use Rattle.am_board.specs.Members.{MemberList}
 use Rattle.am_board.specs.Order.{IsOrder}

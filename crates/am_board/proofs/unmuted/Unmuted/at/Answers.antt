@@ -1,5 +1,5 @@
 use Rattle.std.proofs.Common.{map, ap, ◌∙◌}
-use Rattle.am_board.specs.Kept.{state_of}
+use Rattle.am_board.specs.Refinement.{state_of}
 use Rattle.am_board.proofs.beginning.WhatIsUnmuted.{is_found}
 use Rattle.am_board.proofs.unmuted.Unmuted.at.Goals as goal
 

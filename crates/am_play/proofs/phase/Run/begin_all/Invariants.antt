@@ -1,14 +1,14 @@
 use Rattle.std.proofs.Common.{◌-◌, length, true}
 use Rattle.am_play.specs.Runs.{Keeps}
 use Rattle.am_play.specs.Steps.{Begins}
-use Rattle.am_play.specs.Troubles.{AreNone}
+use Rattle.am_play.specs.PhaseFaults.{HasNoFault}
 use Rattle.am_play.proofs.phase.Run.begin_all.Given as goal
 
 -- all begins so far found a group due
 abbrev pub invariant-loop : goal.invariant-loop
 invariant-loop g l = record {
   keeps : Keeps l.initial.self l.self;
-  begins : AreNone l.self.troubles → Begins g.N.Name.terms true true l.at l.initial.self.main l.self.main l.initial.tickets.items l.tickets.items;
+  begins : HasNoFault l.self.faults → Begins g.N.Name.terms true true l.at l.initial.self.main l.self.main l.initial.tickets.items l.tickets.items;
 }
 
 -- how many records there may be more

@@ -1,13 +1,13 @@
 use Rattle.std.proofs.Common.{vec_len}
 use Rattle.am_play.specs.Runs.{Keeps}
-use Rattle.am_play.specs.Troubles.{AreNone}
+use Rattle.am_play.specs.PhaseFaults.{HasNoFault}
 use Rattle.am_play.proofs.Turns.{FinishesSoFar}
 use Rattle.am_play.proofs.phase.Run.finish_all.Given as goal
 
 abbrev pub invariant-loop-left : goal.invariant-loop-left
 invariant-loop-left g l = record {
   keeps : Keeps l.fn.self l.self;
-  finished : AreNone l.self.troubles → FinishesSoFar l.at l.reports l.fn.tickets.items l.left.items l.fn.self.main l.self.main;
+  finished : HasNoFault l.self.faults → FinishesSoFar l.at l.reports l.fn.tickets.items l.left.items l.fn.self.main l.self.main;
 }
 
 abbrev pub decreases-loop-left : goal.decreases-loop-left

@@ -1,12 +1,12 @@
 use Rattle.std.proofs.Common.{take}
 use Rattle.am_play.specs.Runs.{Keeps}
 use Rattle.am_play.specs.Steps.{Notes, notes_of_all}
-use Rattle.am_play.specs.Troubles.{AreNone}
+use Rattle.am_play.specs.PhaseFaults.{HasNoFault}
 use Rattle.am_play.proofs.phase.Run.note_all.Given as goal
 
 -- the successes of the tickets so far are noted
 abbrev pub invariant-loop-own : goal.invariant-loop-own
 invariant-loop-own g l = record {
   keeps : Keeps l.fn.self l.self;
-  noted : AreNone l.self.troubles → Notes g.N.Name.terms (notes_of_all l.at l.reports (take l.own-index l.tickets)) l.fn.self.main l.self.main;
+  noted : HasNoFault l.self.faults → Notes g.N.Name.terms (notes_of_all l.at l.reports (take l.own-index l.tickets)) l.fn.self.main l.self.main;
 }

@@ -4,9 +4,9 @@ use Rattle.std.proofs.lemmas.List.{take_at}
 use Rattle.am_desk.specs.Known.{Seen}
 use Rattle.am_model.specs.Notice.{NoticeData}
 use Rattle.am_pool.specs.declared.worker.Job.{Job}
-use Rattle.am_play.specs.Beside.{RanBeside}
+use Rattle.am_play.specs.Interleaving.{RanConcurrently}
 use Rattle.am_play.specs.Runs.{lanes_of}
-use Rattle.am_play.specs.Seats.{MadeLanes, passes_in}
+use Rattle.am_play.specs.LaneStates.{MadeLanes, passes_in}
 use Rattle.am_play.specs.Sendings.{IsSendingOf, IsSentFrom}
 use Rattle.am_play.proofs.Meetings.{between_meetings, ran_beside}
 use Rattle.am_play.proofs.Sendings.{sent_each}
@@ -20,12 +20,12 @@ returns-clause-lanes g c none =
     let is = c.hear_couriers.new.self in
     let kept = c.hear_couriers.ensures.keeps in
     let heard = c.hear_joined.ensures.heard (kept.2 none) in
-    let first = rw c.as_mut_slice-seats.ensures.value at c.meet_lanes.ensures in
+    let first = rw c.as_mut_slice-lane_states.ensures.value at c.meet_lanes.ensures in
     let made = c.run_beside-sent.ensures.lanes heard.1 in
-    let long : length c.hear_joined.new.seats ≡ was.seats.len =
-    omega (arith, c.hear_joined.auto.seats, c.run_beside-sent.auto.seats, c.meet_lanes.auto.seats, ap length c.as_mut_slice-seats.ensures.value, was.seats.ok.0)
+    let long : length c.hear_joined.new.lane_states ≡ was.lane_states.len =
+    omega (arith, c.hear_joined.auto.lane_states, c.run_beside-sent.auto.lane_states, c.meet_lanes.auto.lane_states, ap length c.as_mut_slice-lane_states.ensures.value, was.lane_states.ok.0)
     in
-    let items : is.seats.items ≡ c.hear_joined.new.seats = ap (λ v. v.items) kept.0 ∙ take_at c.hear_joined.new.seats _ _ long in (
+    let items : is.lane_states.items ≡ c.hear_joined.new.lane_states = ap (λ v. v.items) kept.0 ∙ take_at c.hear_joined.new.lane_states _ _ long in (
       heard.0,
       subst (λ ss. MadeLanes at xs (lanes_of was) (passes_in ss)) (sym items) (between_meetings at xs _ _ _ _ _ _ _ first made c.hear_joined.ensures.met),
     )
@@ -38,14 +38,14 @@ returns-clause-beside g c none =
     let is = c.hear_couriers.new.self in
     let kept = c.hear_couriers.ensures.keeps in
     let heard = c.hear_joined.ensures.heard (kept.2 none) in
-    let first = rw c.as_mut_slice-seats.ensures.value at c.meet_lanes.ensures in
+    let first = rw c.as_mut_slice-lane_states.ensures.value at c.meet_lanes.ensures in
     let made = c.run_beside-sent.ensures.lanes heard.1 in
-    let long : length c.hear_joined.new.seats ≡ was.seats.len =
-    omega (arith, c.hear_joined.auto.seats, c.run_beside-sent.auto.seats, c.meet_lanes.auto.seats, ap length c.as_mut_slice-seats.ensures.value, was.seats.ok.0)
+    let long : length c.hear_joined.new.lane_states ≡ was.lane_states.len =
+    omega (arith, c.hear_joined.auto.lane_states, c.run_beside-sent.auto.lane_states, c.meet_lanes.auto.lane_states, ap length c.as_mut_slice-lane_states.ensures.value, was.lane_states.ok.0)
     in
-    let items : is.seats.items ≡ c.hear_joined.new.seats = ap (λ v. v.items) kept.0 ∙ take_at c.hear_joined.new.seats _ _ long in
-    subst (λ ss. RanBeside was.main is.main (lanes_of was) (passes_in ss)) (sym items)
-    (subst (λ (r : Seen). RanBeside was.main r (lanes_of was) (passes_in c.hear_joined.new.seats)) (sym c.hear_couriers.ensures.rests.0)
+    let items : is.lane_states.items ≡ c.hear_joined.new.lane_states = ap (λ v. v.items) kept.0 ∙ take_at c.hear_joined.new.lane_states _ _ long in
+    subst (λ ss. RanConcurrently was.main is.main (lanes_of was) (passes_in ss)) (sym items)
+    (subst (λ (r : Seen). RanConcurrently was.main r (lanes_of was) (passes_in c.hear_joined.new.lane_states)) (sym c.hear_couriers.ensures.rests.0)
     (ran_beside at xs _ _ _ _ _ _ _ first made c.hear_joined.ensures.met))
 
 pub returns-clause-sent : goal.returns-clause-sent

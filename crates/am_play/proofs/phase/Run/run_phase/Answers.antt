@@ -2,11 +2,11 @@ use Rattle.std.proofs.Common.{◌≡◌, ◌∙◌, List, [], ◌++◌, IsOk, tr
 use Rattle.am_model.specs.Ticket.{TicketData}
 use Rattle.am_model.specs.declared.notice.Report.{Report}
 use Rattle.am_desk.specs.Known.{Seen}
-use Rattle.am_play.specs.Beside.{RanFirst, TookPart}
+use Rattle.am_play.specs.Interleaving.{RanBefore, RunsPhase}
 use Rattle.am_play.specs.Runs.{lanes_of}
-use Rattle.am_play.specs.Seats.{passes_in}
+use Rattle.am_play.specs.LaneStates.{passes_in}
 use Rattle.am_play.specs.Steps.{Begins, Finishes, Sends}
-use Rattle.am_play.specs.Troubles.{AreNone}
+use Rattle.am_play.specs.PhaseFaults.{HasNoFault}
 use Rattle.am_play.proofs.Steps.{begins_asked, begins_none, same_records}
 use Rattle.am_play.proofs.Turns.{if_ok, part_taken}
 use Rattle.am_play.proofs.phase.Run.run_phase.Goals as goal
@@ -26,13 +26,13 @@ returns-clause-turn g c =
     let reports : List Report = c.send_all-reports.result.items in
     let since : List Report = c.keep.new.self.reports.items in
     let t = g.N.Name.terms in
-    let begins : AreNone c.if-flush.self.troubles → Begins t phase.flush false phase.at p q [] ts =
+    let begins : HasNoFault c.if-flush.self.faults → Begins t phase.flush false phase.at p q [] ts =
     elim c.if-flush.branch [
       | then-flush w ↦ λ none.
           begins_asked t phase.flush phase.at p q c.new-tickets.result.items [] ts c.new-tickets.ensures.items w.if-flush.true
           (subst (λ (xs : List TicketData). Begins t true false phase.at p q c.new-tickets.result.items xs) (sym (ap (λ v. v.items) w.tickets-is))
           (subst (λ x. Begins t true false phase.at p x.main c.new-tickets.result.items w.begin_all.new.tickets.items) (sym w.self-is)
-          (w.begin_all.ensures.begins (subst (λ x. AreNone x.troubles) w.self-is none))))
+          (w.begin_all.ensures.begins (subst (λ x. HasNoFault x.faults) w.self-is none))))
       | else-flush w ↦ λ none.
           begins_none t phase.flush phase.at p q [] ts w.if-flush.false (ap (λ v. v.items) w.tickets-is ∙ c.new-tickets.ensures.items) (same_records p q (ap (λ x. x.main) w.self-is))
     ]
@@ -43,15 +43,15 @@ returns-clause-turn g c =
       | else-flush w ↦ ap (λ x. x.reports) w.self-is
     ]
     in
-    let seats : c.if-flush.self.seats ≡ was.seats =
+    let lane_states : c.if-flush.self.lane_states ≡ was.lane_states =
     elim c.if-flush.branch [
-      | then-flush w ↦ ap (λ x. x.seats) w.self-is ∙ w.begin_all.ensures.keeps.0
-      | else-flush w ↦ ap (λ x. x.seats) w.self-is
+      | then-flush w ↦ ap (λ x. x.lane_states) w.self-is ∙ w.begin_all.ensures.keeps.0
+      | else-flush w ↦ ap (λ x. x.lane_states) w.self-is
     ]
     in
     let ls : List Seen = lanes_of was in
     let ms : List Seen = lanes_of c.keep.new.self in
-    if_ok c.verdict.result (TookPart answers t phase p c.keep.new.self.main ls ms was.reports.items since)
+    if_ok c.verdict.result (RunsPhase answers t phase p c.keep.new.self.main ls ms was.reports.items since)
     (λ (ok : IsOk c.verdict.result).
     let more = c.keep.ensures.more (c.verdict.ensures.none.0 ok) in
     let finish = c.finish_all.ensures in
@@ -60,10 +60,10 @@ returns-clause-turn g c =
     let finishes : Finishes phase.at reports us r s = subst (λ (rs : List Report). Finishes phase.at rs us r s) c.as_slice.ensures.value (finish.finished more.0) in
     let same : c.finish_all.new.self.reports.items ≡ was.reports.items = ap (λ v. v.items) (finish.keeps.1 ∙ (c.send_all-reports.ensures.reports ∙ kept)) in
     let now : since ≡ was.reports.items ++ reports = more.1 ∙ (ap (λ (rs : List Report). rs ++ c.as_slice-2.result.now) same ∙ ap (λ (rs : List Report). was.reports.items ++ rs) c.as_slice-2.ensures.value) in
-    let stay : c.keep.new.self.seats ≡ c.send_all-reports.new.self.seats = c.keep.ensures.seats ∙ finish.keeps.0 in
-    let first : RanFirst q r ls ms =
-    subst (λ v. RanFirst q r ls (passes_in v.items)) (sym stay)
-    (subst (λ v. RanFirst q r (passes_in v.items) (lanes_of c.send_all-reports.new.self)) seats (c.send_all-reports.ensures.beside (finish.keeps.2 more.0)))
+    let stay : c.keep.new.self.lane_states ≡ c.send_all-reports.new.self.lane_states = c.keep.ensures.lane_states ∙ finish.keeps.0 in
+    let first : RanBefore q r ls ms =
+    subst (λ v. RanBefore q r ls (passes_in v.items)) (sym stay)
+    (subst (λ v. RanBefore q r (passes_in v.items) (lanes_of c.send_all-reports.new.self)) lane_states (c.send_all-reports.ensures.beside (finish.keeps.2 more.0)))
     in
-    subst (λ (x : Seen). TookPart answers t phase p x ls ms was.reports.items since) (sym c.keep.ensures.main)
+    subst (λ (x : Seen). RunsPhase answers t phase p x ls ms was.reports.items since) (sym c.keep.ensures.main)
     (part_taken answers t phase p q r s ls ms ts us was.reports.items reports since begun sends finishes now first))

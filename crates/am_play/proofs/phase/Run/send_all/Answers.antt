@@ -1,7 +1,7 @@
 use Rattle.std.proofs.Common.{subst, sym}
-use Rattle.am_play.specs.Beside.{RanBeside}
+use Rattle.am_play.specs.Interleaving.{RanConcurrently}
 use Rattle.am_play.specs.Runs.{lanes_of}
-use Rattle.am_play.specs.Seats.{passes_in}
+use Rattle.am_play.specs.LaneStates.{passes_in}
 use Rattle.am_play.proofs.Meetings.{quiet_first}
 use Rattle.am_play.proofs.phase.Run.send_all.Goals as goal
 
@@ -13,7 +13,7 @@ returns-clause-beside g c none =
     let ran = c.run_beside-reports.ensures.beside (settled.keeps.2 none) in
     record {
       joined = joined.main;
-      ran = subst (λ v. RanBeside was.main joined.main (lanes_of was) (passes_in v.items)) (sym settled.keeps.0) ran;
+      ran = subst (λ v. RanConcurrently was.main joined.main (lanes_of was) (passes_in v.items)) (sym settled.keeps.0) ran;
       begins = (settled.noted none).made.2;
     }
 

@@ -6,7 +6,7 @@ use Rattle.am_model.specs.Notice.{NoticeData, is_nothing}
 use Rattle.am_model.specs.Ticket.{TicketData, outcome_of}
 use Rattle.am_desk.specs.Known.{Seen}
 use Rattle.am_play.specs.Steps.{Notes, end_on, is_recorded_success, notes_of}
-use Rattle.am_play.specs.Troubles.{AreNone}
+use Rattle.am_play.specs.PhaseFaults.{HasNoFault}
 use Rattle.am_play.specs.Turns.{report_on}
 use Rattle.am_play.proofs.Noting.{noted_next, passed_next}
 use Rattle.am_play.proofs.phase.Run.settle.Goals as goal
@@ -45,17 +45,17 @@ loop-place-preserved g c =
           cc (w.end_on-end.ensures, w.number.ensures, ap (λ (x : TicketData). x.number) ticket, ap (λ (x : NoticeData). x.integration) c.notice.view_is)
           in
           record {
-            keeps = (ap (λ s. s.seats) w.self-is ∙ (k.0 ∙ i.keeps.0), ap (λ s. s.reports) w.self-is ∙ (k.1 ∙ i.keeps.1), λ none. i.keeps.2 (k.2 (subst (λ s. AreNone s.troubles) w.self-is none)));
+            keeps = (ap (λ s. s.lane_states) w.self-is ∙ (k.0 ∙ i.keeps.0), ap (λ s. s.reports) w.self-is ∙ (k.1 ∙ i.keeps.1), λ none. i.keeps.2 (k.2 (subst (λ s. HasNoFault s.faults) w.self-is none)));
             noted = λ none.
-                let now : AreNone w.note.new.self.troubles = subst (λ s. AreNone s.troubles) w.self-is none in
+                let now : HasNoFault w.note.new.self.faults = subst (λ s. HasNoFault s.faults) w.self-is none in
                 subst (λ x. Notes top due p x.main) (sym w.self-is)
                 (noted_next top at reports t t.notices place (place + 1) w.end_on-end.result n p q s refl within here (sym is ∙ w.if-succeeded.true) end (i.noted (k.2 now)) (w.note.ensures.noted now n there));
           }
       | else-succeeded w ↦
           record {
-            keeps = (ap (λ s. s.seats) w.self-is ∙ i.keeps.0, ap (λ s. s.reports) w.self-is ∙ i.keeps.1, λ none. i.keeps.2 (subst (λ s. AreNone s.troubles) w.self-is none));
+            keeps = (ap (λ s. s.lane_states) w.self-is ∙ i.keeps.0, ap (λ s. s.reports) w.self-is ∙ i.keeps.1, λ none. i.keeps.2 (subst (λ s. HasNoFault s.faults) w.self-is none));
             noted = λ none.
-                let was : AreNone c.loop-place.self.troubles = subst (λ s. AreNone s.troubles) w.self-is none in
+                let was : HasNoFault c.loop-place.self.faults = subst (λ s. HasNoFault s.faults) w.self-is none in
                 subst (λ x. Notes top due p x.main) (sym w.self-is)
                 (passed_next top at reports t t.notices place (place + 1) n p q refl within here (sym is ∙ w.if-succeeded.false) (i.noted was));
           }

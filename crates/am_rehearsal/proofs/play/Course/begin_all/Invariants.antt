@@ -1,7 +1,7 @@
 use Rattle.std.proofs.Common.{◌≡◌}
-use Rattle.am_rehearsal.specs.Planned.{doings}
+use Rattle.am_rehearsal.specs.Planned.{input_trace}
 use Rattle.am_rehearsal.proofs.play.Course.begin_all.Given as goal
 
 -- nothing that is planned is done
 abbrev pub invariant-loop : goal.invariant-loop
-invariant-loop l = doings l.self.board.board ≡ doings l.fn.self.board.board
+invariant-loop l = input_trace l.self.board.board ≡ input_trace l.fn.self.board.board

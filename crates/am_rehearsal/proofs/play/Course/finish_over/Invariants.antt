@@ -1,4 +1,4 @@
-use Rattle.am_rehearsal.specs.Planned.{doings}
+use Rattle.am_rehearsal.specs.Planned.{input_trace}
 use Rattle.std.proofs.Common.{◌≡◌, vec_len}
 use Rattle.am_rehearsal.proofs.play.Course.finish_over.Given as goal
 
@@ -7,4 +7,4 @@ decreases-loop-place l = vec_len l.self.sendings
 
 -- nothing that is planned is done
 abbrev pub invariant-loop-place : goal.invariant-loop-place
-invariant-loop-place l = doings l.self.board.board ≡ doings l.initial.self.board.board
+invariant-loop-place l = input_trace l.self.board.board ≡ input_trace l.initial.self.board.board

@@ -2,8 +2,8 @@
 use Rattle.std.proofs.Common.{rules, ◌≡◌, ℕ, ◌+◌, ◌<◌, [], ◌∷◌, ◌++◌, sym, subst, ap, ◌∙◌, arith}
 use Rattle.am_retry.specs.declared.retry.Step.{Step}
 use Rattle.am_retry.specs.declared.retry.Step.TheVariants.{Attempt}
-use Rattle.am_retry.specs.Attempts.{Told}
-use Rattle.am_retry.specs.Progress.{Progress, IsDue, time_left, Stands}
+use Rattle.am_retry.specs.Attempts.{Response}
+use Rattle.am_retry.specs.Progress.{Progress, IsDue, time_left, IsAfterResponses}
 use Rattle.std.proofs.Common.{◌≤◌, ◌*◌, ◌/◌, min}
 use Rattle.std.proofs.Math.Numerals.{suc-eq-add-one}
 use Rattle.am_retry.specs.Attempts.{latest, wait_of}
@@ -38,14 +38,14 @@ pub returns-clause-value : goal.returns-clause-value
 returns-clause-value c = search rules
 
 pub returns-clause-stands : goal.returns-clause-stands
-returns-clause-stands c start deadline at told is stands =
-    let t : Told = record { answer = c.args.answer; ended = c.args.ended } in
-    subst (λ (p : Progress). Stands start deadline (told ++ t ∷ []) p) (sym (returns-clause-value c))
-    (stands_more start deadline at told c.args.self.now c.args.answer c.args.ended is stands)
+returns-clause-stands c start deadline at responses is stands =
+    let t : Response = record { answer = c.args.answer; ended = c.args.ended } in
+    subst (λ (p : Progress). IsAfterResponses start deadline (responses ++ t ∷ []) p) (sym (returns-clause-value c))
+    (stands_more start deadline at responses c.args.self.now c.args.answer c.args.ended is stands)
 
 pub returns-clause-tries : goal.returns-clause-tries
-returns-clause-tries c start deadline at told is stands =
-    tries_more start deadline at told c.args.self.now c.args.answer c.args.ended is stands
+returns-clause-tries c start deadline at responses is stands =
+    tries_more start deadline at responses c.args.self.now c.args.answer c.args.ended is stands
 
 pub returns-clause-sooner : goal.returns-clause-sooner
 returns-clause-sooner c at is =

@@ -1,5 +1,5 @@
 use Rattle.std.proofs.Common.{◌≤◌, ◌+◌, ◌-◌, ap, sym, ◌∙◌, arith}
-use Rattle.am_timeline.specs.Dated.{DayData, day_after, next_day}
+use Rattle.am_timeline.specs.UtcDates.{DayData, day_after, next_day}
 use Rattle.am_timeline.proofs.Days.{day_after-next, year-next_day}
 use Rattle.am_timeline.proofs.dated.Day.after.Goals as goal
 

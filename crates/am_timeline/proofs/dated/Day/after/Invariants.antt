@@ -1,5 +1,5 @@
 use Rattle.std.proofs.Common.{◌≡◌, ◌≤◌, ◌+◌, ◌-◌}
-use Rattle.am_timeline.specs.Dated.{day_after}
+use Rattle.am_timeline.specs.UtcDates.{day_after}
 use Rattle.am_timeline.proofs.dated.Day.after.Given as goal
 
 -- so many days are gone, in no more years

@@ -7,5 +7,5 @@ use Rattle.am_timeline.proofs.expectation.Expectation.has_wanted.Given as goal
 -- none so far tells what is wanted
 abbrev pub invariant-loop-event : goal.invariant-loop-event
 invariant-loop-event l =
-    let is_found = is_wanted_by l.story l.self (option_copied l.firing) (option_copied l.resolved) in
-    list_any is_found l.story.events ≡ list_any is_found (drop l.event-index l.story.events)
+    let is_found = is_wanted_by l.playback l.self (option_copied l.firing) (option_copied l.resolved) in
+    list_any is_found l.playback.events ≡ list_any is_found (drop l.event-index l.playback.events)

@@ -1,0 +1,17 @@
+use Rattle.std.proofs.Common.{◌≡◌, Option, subst}
+use Rattle.std.specs.Prelude.{IfOk}
+use Rattle.am_model.specs.declared.preview.Preview.{Preview}
+use Rattle.am_board.proofs.keeping.Calls.{preview_now, rows_timely}
+use Rattle.am_board.proofs.keeping.Sound.{good}
+use Rattle.am_board.proofs.board.Board.preview.Goals as goal
+
+pub preview_of-requires-clause-good : goal.preview_of-requires-clause-good
+preview_of-requires-clause-good c = good c.self.inside c.self.invariant
+
+pub preview_of-requires-clause-moments : goal.preview_of-requires-clause-moments
+preview_of-requires-clause-moments c = rows_timely c.self.inside c.self.invariant c.args.self.now c.self.view_is
+
+pub returns : goal.returns
+returns c =
+    subst (λ (told : Option Preview). IfOk c.preview_of.result (λ x. x ≡ told)) (preview_now c.self.inside c.self.invariant c.args.self.now c.self.view_is c.args.now)
+    c.preview_of.ensures

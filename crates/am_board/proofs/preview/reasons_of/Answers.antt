@@ -1,0 +1,34 @@
+use Rattle.std.proofs.Common.{◌≡◌, ◌+◌, ◌<◌, ◌^◌, List, ◌++◌, ◌∷◌, [], map, take, refl, ap, ◌∙◌, sym, subst, arith}
+use Rattle.std.specs.Prelude.{IfSome}
+use Rattle.std.specs.List.{enumerate_from}
+use Rattle.am_model.specs.declared.reason.Reason.{Reason}
+use Rattle.am_board.specs.LogRows.{log_rows}
+use Rattle.am_board.specs.Preview.{reason_among, reason_told_by}
+use Rattle.am_board.proofs.beginning.Previews.{reasons-more, kept-entry, kept-holds}
+use Rattle.am_board.proofs.preview.reasons_of.Goals as goal
+
+pub reason-requires : goal.reason-requires
+reason-requires c =
+    let inv = c.loop-integration.invariant in
+    subst (λ o. IfSome o (λ row. row.moment + c.args.repeat_interval + 1 < 2 ^ 64)) (sym c.get-row.ensures.row)
+    (kept-holds _ (λ a b. refl) c.args.log.now c.loop-integration.key c.args.group.now c.loop-integration.integration-index c.get-row.ensures.distinct inv.group inv.integration
+    (λ n. n + c.args.repeat_interval + 1 < 2 ^ 64) c.requires.fits)
+
+pub loop-integration-preserved : goal.loop-integration-preserved
+loop-integration-preserved c =
+    let inv = c.loop-integration.invariant in
+    let i = c.loop-integration.integration-index in
+    let one = c.integration-item.result in
+    let reason = reason_among (log_rows c.args.log.now) c.args.group.now c.args.sets.now c.args.repeat_interval c.args.t in
+    let entry = kept-entry _ (λ a b. refl) c.args.log.now c.loop-integration.key c.args.group.now i c.get-row.ensures.distinct inv.group inv.integration in
+    let is : c.reason.result ≡ reason (i, one) =
+    c.reason.ensures ∙ ap (λ o. reason_told_by o c.args.sets.now one.send_resolved c.args.repeat_interval c.args.t) (c.get-row.ensures.row ∙ sym entry) in
+    record {
+      group = inv.group;
+      integration = omega (arith, inv.integration);
+      reasons =
+          c.in_ok-push.ensures.items
+          ∙ (ap (λ (l : List Reason). l ++ c.reason.result ∷ []) inv.reasons
+          ∙ (ap (λ (r : Reason). map reason (enumerate_from 0 (take i c.args.integrations.now)) ++ r ∷ []) is
+          ∙ sym (reasons-more reason c.args.integrations.now i one (omega arith) c.integration-item.is)));
+    }

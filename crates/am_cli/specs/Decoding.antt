@@ -1,0 +1,42 @@
+-- What JSON values tell: texts, numbers, lists, and members with what stands for one that isn't there.
+use Rattle.std.specs.Prelude.{◌≡◌, ℕ, Bool, List, [], ◌∷◌, Some, MatchOption}
+use Rattle.serde_json.specs.Data.{Data, Items, no_items, item, Members}
+use Rattle.serde_json.specs.Find.{as_array, as_bool, as_str, get_member}
+use Rattle.am_cli.specs.Read.{number_in, duration_in, interval_in}
+
+abbrev pub IsText : Data → List ℕ → Type 0
+IsText value text = as_str value ≡ Some text
+
+abbrev pub IsFlag : Data → Bool → Type 0
+IsFlag value flag = as_bool value ≡ Some flag
+
+-- from 0 to 2^64 - 1, written without point or exponent
+abbrev pub IsNumber : Data → ℕ → Type 0
+IsNumber value number = number_in value ≡ Some number
+
+-- in milliseconds
+abbrev pub IsDuration : Data → ℕ → Type 0
+IsDuration value duration = duration_in value ≡ Some duration
+
+-- a duration that isn't zero, in milliseconds
+abbrev pub IsInterval : Data → ℕ → Type 0
+IsInterval value interval = interval_in value ≡ Some interval
+
+-- the items of an array tell those of a list, one by one
+abbrev pub DecodeEach : {X : Type 0} → (Data → X → Type 0) → Items → List X → Type 0
+DecodeEach decodes_to no_items [] = Unit {0}
+DecodeEach decodes_to no_items (x ∷ xs) = ⊥
+DecodeEach decodes_to (item value values) [] = ⊥
+DecodeEach decodes_to (item value values) (x ∷ xs) = decodes_to value x × DecodeEach decodes_to values xs
+
+-- an array of what tells the items of a list
+abbrev pub IsList : {X : Type 0} → (Data → X → Type 0) → Data → List X → Type 0
+IsList decodes_to value xs = MatchOption (as_array value) ⊥ (λ items. DecodeEach decodes_to items xs)
+
+-- the member of this name is there, and tells this
+abbrev pub Has : {X : Type 0} → (Data → X → Type 0) → List ℕ → Members → X → Type 0
+Has decodes_to name members x = MatchOption (get_member name members) ⊥ (λ value. decodes_to value x)
+
+-- the member of this name tells this, or it isn't there, and this is what stands for it
+abbrev pub HasOr : {X : Type 0} → (Data → X → Type 0) → X → List ℕ → Members → X → Type 0
+HasOr decodes_to absent name members x = MatchOption (get_member name members) (x ≡ absent) (λ value. decodes_to value x)

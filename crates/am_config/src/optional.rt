@@ -1,0 +1,104 @@
+//! Members that say something.
+use crate::faults::Faults;
+use am_cli::duration::{duration, interval};
+use am_cli::fault::{FaultKind, InputFault};
+use am_cli::reader::{Object, Reader};
+
+/// A member that says something: `null` says nothing.
+pub(crate) fn non_null<'v, 'q>(
+    object: &'q Object<'v, '_>,
+    name: &'q str,
+) -> Option<Reader<'v, 'q>> {
+    match object.optional(name) {
+        Some(member) if !member.is_null() => Some(member),
+        _ => None,
+    }
+}
+
+/// A member that has to say something, or `Missing`.
+pub(crate) fn required<'v, 'q>(
+    object: &'q Object<'v, '_>,
+    name: &'q str,
+) -> Result<Reader<'v, 'q>, InputFault> {
+    let member = object.required(name)?;
+    if member.is_null() {
+        return Err(member.refuse(FaultKind::Missing));
+    }
+    Ok(member)
+}
+
+/// A text that isn't null and isn't empty.
+pub(crate) fn optional_text<'v>(
+    faults: &mut Faults,
+    object: &Object<'v, '_>,
+    name: &str,
+) -> Result<Option<&'v str>, InputFault> {
+    let Some(member) = non_null(object, name) else {
+        return Ok(None);
+    };
+    let text = faults.kept(member.text())?;
+    Ok(text.filter(|text| !text.is_empty()))
+}
+
+/// A flag, or what it is where it is null or absent.
+pub(crate) fn flag_or(
+    faults: &mut Faults,
+    object: &Object<'_, '_>,
+    name: &str,
+    not_excludable: bool,
+) -> Result<bool, InputFault> {
+    match non_null(object, name) {
+        None => Ok(not_excludable),
+        Some(member) => Ok(faults.kept(member.flag())?.unwrap_or(not_excludable)),
+    }
+}
+
+/// A duration that isn't null, in milliseconds.
+pub(crate) fn optional_duration(
+    faults: &mut Faults,
+    object: &Object<'_, '_>,
+    name: &str,
+) -> Result<Option<u64>, InputFault> {
+    match non_null(object, name) {
+        None => Ok(None),
+        Some(member) => faults.kept(duration(&member)),
+    }
+}
+
+/// A duration that isn't null, in milliseconds; zero is refused.
+pub(crate) fn optional_interval(
+    faults: &mut Faults,
+    object: &Object<'_, '_>,
+    name: &str,
+) -> Result<Option<u64>, InputFault> {
+    match non_null(object, name) {
+        None => Ok(None),
+        Some(member) => faults.kept(interval(&member)),
+    }
+}
+
+/// Whether an array that isn't null has an item. Another kind is refused.
+pub(crate) fn has_items(
+    faults: &mut Faults,
+    object: &Object<'_, '_>,
+    name: &str,
+) -> Result<bool, InputFault> {
+    let Some(member) = non_null(object, name) else {
+        return Ok(false);
+    };
+    let items = faults.kept(member.array())?;
+    Ok(items.is_some_and(|items| !items.is_empty()))
+}
+
+/// Whether an object that isn't null has a member. Another kind is refused.
+pub(crate) fn has_members(
+    faults: &mut Faults,
+    object: &Object<'_, '_>,
+    name: &str,
+) -> Result<bool, InputFault> {
+    let Some(member) = non_null(object, name) else {
+        return Ok(false);
+    };
+    let members = faults.kept(member.object())?;
+    Ok(members.is_some_and(|object| !object.members().is_empty()))
+}

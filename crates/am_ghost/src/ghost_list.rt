@@ -1,0 +1,51 @@
+//! A list that exists in proofs alone.
+ghost use Rattle.std.specs.Prelude.{◌≡◌, List, [], ◌∷◌, ◌++◌};
+ghost use base.Fml.{ftrue};
+
+use std::marker::{Model, PhantomData};
+
+/// What happened so far, in its order. It takes no memory, and its calls do nothing at run time.
+#[derive(Drop)]
+pub struct GhostList<T> {
+    of: PhantomData<T>,
+    pub ghost items: { List T },
+}
+
+impl<T> Model for GhostList<T> {
+    ghost also_owns = { λ _. ftrue };
+}
+
+// It owns nothing.
+unsafe impl<T: Send> Send for GhostList<T> {}
+
+impl<T> GhostList<T> {
+    /// The trail of nothing.
+    pub fn new() -> GhostList<T>
+        ensures { result.items ≡ [] }
+    {
+        GhostList { of: PhantomData }
+    }
+
+    /// Adds an item at the end.
+    pub fn add(&mut self, item: &T)
+        ensures { self.new.items ≡ self.old.items ++ item.now ∷ [] }
+    {
+        *self = self.and(item);
+    }
+
+    /// Adds these items at the end, in their order.
+    pub fn add_all(&mut self, items: &[T])
+        ensures { self.new.items ≡ self.old.items ++ items.now }
+    {
+        for item in items {
+            self.add(item);
+        }
+    }
+
+    /// This trail, with one more item.
+    fn and(&self, _item: &T) -> GhostList<T>
+        ensures { result.items ≡ self.now.items ++ _item.now ∷ [] }
+    {
+        GhostList { of: PhantomData }
+    }
+}

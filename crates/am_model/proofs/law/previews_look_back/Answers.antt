@@ -1,0 +1,5 @@
+use Rattle.am_model.proofs.looking_back.Previews.{preview-found}
+use Rattle.am_model.proofs.law.previews_look_back.Goals as goal
+
+pub returns : goal.returns
+returns c = preview-found

@@ -1,0 +1,12 @@
+use Rattle.am_model.proofs.looking_back.ReasonsAreExact.{begins_have_reasons, not_yet_ends}
+use Rattle.am_model.proofs.looking_back.ReasonsSay.{reasons_are_so}
+use Rattle.am_model.proofs.law.reasons_are_exact.Goals as goal
+
+pub returns-clause-asked : goal.returns-clause-asked
+returns-clause-asked c = begins_have_reasons
+
+pub returns-clause-so : goal.returns-clause-so
+returns-clause-so c = reasons_are_so
+
+pub returns-clause-waits : goal.returns-clause-waits
+returns-clause-waits c = not_yet_ends

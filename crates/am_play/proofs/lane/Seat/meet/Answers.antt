@@ -1,5 +1,0 @@
-use Rattle.am_play.proofs.Meetings.{passes_met}
-use Rattle.am_play.proofs.lane.Seat.meet.Goals as goal
-
-pub returns : goal.returns
-returns g c = passes_met _ _ _ _ _ c.meet.ensures.p c.meet.ensures.q

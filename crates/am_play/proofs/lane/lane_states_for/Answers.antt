@@ -1,0 +1,16 @@
+use Rattle.std.proofs.Common.{◌∙◌, arith}
+use Rattle.am_desk.specs.Known.{Seen}
+use Rattle.am_play.specs.declared.lane.LaneState.{LaneState}
+use Rattle.am_play.proofs.Lanes.{seat_more}
+use Rattle.am_play.proofs.lane.lane_states_for.Goals as goal
+
+pub loop-alloc-preserved : goal.loop-alloc-preserved
+loop-alloc-preserved g c =
+    let i = c.loop-alloc.invariant in
+    record {
+      passes = rw (c.push_reserved.ensures.items, c.remove.ensures.items)
+          (seat_more {S = LaneState g.row.N.Denot} {P = Seen} (λ s. s.pass) c.loop-alloc.lane_states.items c.new.result c.loop-alloc.passes.items c.remove.result
+          (omega (arith, c.remove.ensures.len, c.loop-alloc.passes.ok.0)) c.remove.ensures.value c.new.ensures ∙ i.passes);
+      count = omega arith;
+      room = omega arith;
+    }

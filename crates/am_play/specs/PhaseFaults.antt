@@ -1,0 +1,7 @@
+-- Trouble in a phase.
+use Rattle.std.specs.Prelude.{◌≡◌, false, None}
+use Rattle.am_play.specs.declared.phase_faults.PhaseFaults.{PhaseFaults}
+
+-- nothing has gone wrong: no memory was refused, and no call
+abbrev pub HasNoFault : PhaseFaults → Type 0
+HasNoFault faults = (faults.no_memory ≡ false) × (faults.first_refused ≡ None)

@@ -1,0 +1,103 @@
+//! What goes wrong in a phase.
+ghost use Rattle.std.specs.Prelude.{◌≡◌, ◌↔◌, IfErr, IsOk, IsTrue};
+ghost use Rattle.am_cli.specs.Read.{IsRefusedBy};
+ghost use Rattle.am_play.specs.PhaseFaults.{HasNoFault};
+
+use am_board::fault::Fault;
+use am_cli::fault::{FaultKind, InputFault};
+use am_cli::place::JsonPointer;
+use std::alloc::Global;
+
+/// Which call of a phase was refused.
+#[derive(Clone, Copy, Debug, PartialEq, Eq)]
+pub enum Refused {
+    /// A begin.
+    Begin,
+    /// A call of a lane.
+    Call { lane: usize, call: usize },
+    /// A report, a note or a finish, or all jobs. None is ever refused.
+    Ending,
+}
+
+/// What has gone wrong so far.
+#[derive(Clone, Copy, Debug)]
+pub struct PhaseFaults {
+    no_memory: bool,
+    first_refused: Option<Refused>,
+}
+
+impl Refused {
+    /// The fault of the scenario, in whose phase of this index a call was refused.
+    fn fault(self, alloc: Global, phase: usize) -> InputFault
+        ensures { IsRefusedBy FaultKind.Full result }
+    {
+        let top = JsonPointer::Root;
+        let phases = top.member("phases");
+        let phase = phases.item(phase);
+        match self {
+            Refused::Begin => phase.member("flush").refuse(alloc, FaultKind::Full),
+            Refused::Call { lane, call } => {
+                let lanes = phase.member("lanes");
+                let lane = lanes.item(lane);
+                lane.item(call).refuse(alloc, FaultKind::Full)
+            }
+            Refused::Ending => top.refuse(alloc, FaultKind::Full),
+        }
+    }
+}
+
+impl PhaseFaults {
+    pub fn none() -> PhaseFaults
+        ensures { HasNoFault result }
+    {
+        PhaseFaults {
+            no_memory: false,
+            first_refused: None,
+        }
+    }
+
+    pub fn are_none(&self) -> bool
+        ensures { IsTrue result ↔ HasNoFault self.now }
+    {
+        !self.no_memory && self.first_refused.is_none()
+    }
+
+    pub fn add_no_memory(&mut self)
+        ensures { ¬ HasNoFault self.new }
+    {
+        self.no_memory = true;
+    }
+
+    /// Adds a call that was refused for this cause.
+    pub fn refuse(&mut self, fault: Fault, refused: Refused)
+        ensures { ¬ HasNoFault self.new }
+    {
+        match fault {
+            Fault::NoMemory => self.add_no_memory(),
+            _ => self.add(refused),
+        }
+    }
+
+    /// Adds a refusal. The first one counts.
+    pub fn add(&mut self, refused: Refused)
+        ensures { ¬ HasNoFault self.new }
+    {
+        if self.first_refused.is_none() {
+            self.first_refused = Some(refused);
+        }
+    }
+
+    /// The fault of the phase of this index, if there was trouble: want of memory comes first.
+    pub fn verdict(&self, alloc: Global, phase: usize) -> Result<(), InputFault>
+        ensures none { IsOk result ↔ HasNoFault self.now }
+        ensures refused { IfErr result (IsRefusedBy FaultKind.Full) }
+    {
+        if self.no_memory {
+            return Err(InputFault::NoMemory);
+        }
+        match self.first_refused {
+            None => Ok(()),
+            Some(refused) => Err(refused.fault(alloc, phase)),
+        }
+    }
+}

@@ -1,0 +1,22 @@
+use Rattle.std.proofs.Common.{refl}
+use Rattle.std.proofs.lemmas.Result.{IfOk-weaker}
+use Rattle.am_model.specs.declared.record.Call.TheVariants.{Insert}
+use Rattle.am_model.specs.declared.record.Reply.TheVariants.{Inserted}
+use Rattle.am_model.specs.Records.{entry}
+use Rattle.am_rehearsal.specs.declared.limits.TheConstants.{BOARD_ID}
+use Rattle.am_rehearsal.proofs.Standing.{stands_over}
+use Rattle.am_rehearsal.proofs.Doing.{input_trace-more}
+use Rattle.am_rehearsal.proofs.previewing.PreviewingBoard.insert.Goals as goal
+
+pub invariant_of-self : goal.invariant_of-self
+invariant_of-self c =
+    let was = c.args.self.now in
+    let stands =
+    stands_over BOARD_ID was.begins.items was.board c.insert.new.self (was.ours, was.previews) c.insert.result
+    (IfOk-weaker c.insert.result _ _ (λ inserted recorded. (entry 0 (Insert c.args.now c.args.alert) (Inserted inserted), refl, recorded)) c.insert.ensures.recorded)
+    c.insert.ensures.refused in
+    record { ours = stands.0; previews = stands.1; begun = was.begun }
+
+pub returns : goal.returns
+returns c =
+    input_trace-more c.args.self.now.board c.insert.new.self (entry 0 (Insert c.args.now c.args.alert) (Inserted c.in_ok-_inserted._inserted)) refl c.in_ok-_inserted.ensures.recorded

@@ -1,0 +1,22 @@
+use Rattle.std.proofs.Common.{refl}
+use Rattle.std.proofs.lemmas.Result.{IfOk-weaker}
+use Rattle.am_model.specs.declared.record.Call.TheVariants.{Maintain}
+use Rattle.am_model.specs.declared.record.Reply.TheVariants.{Maintained}
+use Rattle.am_model.specs.Records.{entry}
+use Rattle.am_rehearsal.specs.declared.limits.TheConstants.{BOARD_ID}
+use Rattle.am_rehearsal.proofs.Standing.{stands_over}
+use Rattle.am_rehearsal.proofs.Doing.{input_trace-same}
+use Rattle.am_rehearsal.proofs.previewing.PreviewingBoard.maintain.Goals as goal
+
+pub invariant_of-self : goal.invariant_of-self
+invariant_of-self c =
+    let was = c.args.self.now in
+    let stands =
+    stands_over BOARD_ID was.begins.items was.board c.maintain.new.self (was.ours, was.previews) c.maintain.result
+    (IfOk-weaker c.maintain.result _ _ (λ maintained recorded. (entry 0 (Maintain c.args.now) (Maintained maintained), refl, recorded)) c.maintain.ensures.recorded)
+    c.maintain.ensures.refused in
+    record { ours = stands.0; previews = stands.1; begun = was.begun }
+
+pub returns : goal.returns
+returns c =
+    input_trace-same c.args.self.now.board c.maintain.new.self (entry 0 (Maintain c.args.now) (Maintained c.in_ok-_maintained._maintained), refl, c.in_ok-_maintained.ensures.recorded)

@@ -1,0 +1,22 @@
+use Rattle.std.proofs.Common.{ℕ, ap, length, ◌∙◌, sym}
+use Rattle.std.specs.List.{range_with_len}
+use Rattle.am_board.specs.History.{BoardData}
+use Rattle.am_board.proofs.keeping.Staying.{unless_value}
+use Rattle.am_rehearsal.specs.EventOrder.{begin_indices}
+use Rattle.am_rehearsal.specs.Previews.{previews_of}
+use Rattle.am_rehearsal.specs.Planned.{input_trace}
+use Rattle.am_rehearsal.specs.declared.limits.TheConstants.{BOARD_ID}
+use Rattle.am_rehearsal.proofs.Doing.{input_trace-opening}
+use Rattle.am_rehearsal.proofs.previewing.PreviewingBoard.new.Goals as goal
+
+pub invariant_of-result : goal.invariant_of-result
+invariant_of-result c =
+    let opened = unless_value _ _ _ c.in_ok-board.ensures in
+    record {
+      ours = ap (λ (b : BoardData). b.id) opened;
+      previews = c.new-2.ensures.items ∙ sym (ap (λ (b : BoardData). previews_of b.config b.history) opened);
+      begun = ap begin_indices c.new-3.ensures.items ∙ sym (ap (λ (n : ℕ). range_with_len 0 n) (c.new-2.result.ok.0 ∙ ap length c.new-2.ensures.items));
+    }
+
+pub returns : goal.returns
+returns c = ap input_trace (unless_value _ _ _ c.in_ok-board.ensures) ∙ input_trace-opening c.args.config BOARD_ID

@@ -1,0 +1,23 @@
+use Rattle.std.proofs.Common.{ap}
+use Rattle.std.proofs.lemmas.Result.{on_ok_weaker}
+use Rattle.am_model.specs.declared.record.Record.{Record}
+use Rattle.am_rehearsal.specs.Previews.{takes_group}
+use Rattle.am_rehearsal.specs.declared.limits.TheConstants.{BOARD_ID}
+use Rattle.am_rehearsal.proofs.Standing.{stands_over}
+use Rattle.am_rehearsal.specs.Planned.{input_of}
+use Rattle.am_rehearsal.proofs.Doing.{input_trace-same}
+use Rattle.am_rehearsal.proofs.previewing.PreviewingBoard.note.Goals as goal
+
+pub invariant_of-self : goal.invariant_of-self
+invariant_of-self c =
+    let was = c.args.self.now in
+    let stands =
+    stands_over BOARD_ID was.begins.items was.board c.note.new.self (was.ours, was.previews) c.note.result
+    (on_ok_weaker c.note.result (λ noted. (noted.0, ap (λ (r : Record). takes_group r.reply) noted.1.2, noted.2)) c.note.ensures.noted)
+    c.note.ensures.refused in
+    record { ours = stands.0; previews = stands.1; begun = was.begun }
+
+pub returns : goal.returns
+returns c =
+    let noted = c.in_ok-_noted.ensures.noted in
+    input_trace-same c.args.self.now.board c.note.new.self (noted.0, ap (λ (r : Record). input_of r.call) noted.1.2, noted.2)

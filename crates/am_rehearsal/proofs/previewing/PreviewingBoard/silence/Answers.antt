@@ -1,0 +1,21 @@
+use Rattle.std.proofs.Common.{refl}
+use Rattle.std.proofs.lemmas.Result.{IfOk-weaker}
+use Rattle.am_model.specs.declared.record.Reply.TheVariants.{Silenced}
+use Rattle.am_model.specs.Records.{entry, call_of_silence}
+use Rattle.am_rehearsal.specs.declared.limits.TheConstants.{BOARD_ID}
+use Rattle.am_rehearsal.proofs.Standing.{stands_over}
+use Rattle.am_rehearsal.proofs.Doing.{input_trace-more}
+use Rattle.am_rehearsal.proofs.previewing.PreviewingBoard.silence.Goals as goal
+
+pub invariant_of-self : goal.invariant_of-self
+invariant_of-self c =
+    let was = c.args.self.now in
+    let stands =
+    stands_over BOARD_ID was.begins.items was.board c.silence.new.self (was.ours, was.previews) c.silence.result
+    (IfOk-weaker c.silence.result _ _ (λ silenced recorded. (entry 0 (call_of_silence c.args.now c.args.silence) (Silenced silenced), refl, recorded)) c.silence.ensures.recorded)
+    c.silence.ensures.refused in
+    record { ours = stands.0; previews = stands.1; begun = was.begun }
+
+pub returns : goal.returns
+returns c =
+    input_trace-more c.args.self.now.board c.silence.new.self (entry 0 (call_of_silence c.args.now c.args.silence) (Silenced c.in_ok-_silenced._silenced)) refl c.in_ok-_silenced.ensures.recorded

@@ -1,0 +1,14 @@
+-- Happened: what the events of a rehearsal tell of its begins.
+use Rattle.std.specs.Prelude.{ℕ, List, Option, Some, None}
+use Rattle.std.specs.List.{filter_map}
+use Rattle.am_rehearsal.specs.declared.event.Event.{Event}
+use Rattle.am_rehearsal.specs.declared.event.Event.TheVariants.{Begun, Sent}
+
+-- the place of the begin that an event tells of, if it tells of one
+abbrev pub begin_index_of : Event → Option ℕ
+begin_index_of (Begun begin) = Some begin
+begin_index_of (Sent begin report) = None
+
+-- the places of the begins that events tell of, in their order
+abbrev pub begin_indices : List Event → List ℕ
+begin_indices events = filter_map begin_index_of events

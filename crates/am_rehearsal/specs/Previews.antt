@@ -1,0 +1,40 @@
+-- Told: what each begin of a history was to do, told from the records before it.
+use Rattle.std.specs.Prelude.{ℕ, Bool, true, false, List, [], ◌∷◌, ◌++◌, length, Option, Some, None}
+use Rattle.am_model.specs.declared.config.Config.{Config}
+use Rattle.am_model.specs.declared.preview.Preview.{Preview}
+use Rattle.am_model.specs.declared.record.Record.{Record}
+use Rattle.am_model.specs.declared.record.Reply.{Reply}
+use Rattle.am_model.specs.declared.record.Reply.TheVariants.{Inserted, Silenced, NothingDue, Quiet, Flush, Finished, Maintained, Noted}
+use Rattle.am_model.specs.look_back.Preview.{preview}
+use Rattle.am_model.specs.Records.{now_of}
+use Rattle.am_rehearsal.specs.declared.event.PreviewedBegin.{PreviewedBegin}
+
+-- whether a reply is that of a begin that took a group
+abbrev pub takes_group : Reply → Bool
+takes_group (Inserted inserted) = false
+takes_group (Silenced silenced) = false
+takes_group NothingDue = false
+takes_group (Quiet group removed) = true
+takes_group (Flush number group deadline notices) = true
+takes_group (Finished finished) = false
+takes_group (Maintained maintained) = false
+takes_group Noted = false
+
+-- what is told of the record at a place, where this is what it was to do
+abbrev pub preview_where : Bool → ℕ → Option Preview → List PreviewedBegin
+preview_where false place is_to_do = []
+preview_where true place None = []
+preview_where true place (Some is_to_do) = record { place = place; preview = is_to_do } ∷ []
+
+-- what is told of a record after these: if it is of a begin that took a group, what that was to do
+abbrev pub preview_of : Config → List Record → Record → List PreviewedBegin
+preview_of config before r = preview_where (takes_group r.reply) (length before) (preview config before (now_of r.call))
+
+-- what is told of records after these
+abbrev pub previews_after : Config → List Record → List Record → List PreviewedBegin
+previews_after config before [] = []
+previews_after config before (r ∷ rs) = preview_of config before r ++ previews_after config (before ++ r ∷ []) rs
+
+-- told: of each begin of a history that took a group, in their order, what it was to do
+abbrev pub previews_of : Config → List Record → List PreviewedBegin
+previews_of config history = previews_after config [] history

@@ -1,0 +1,220 @@
+//! A board of which is kept what each of its begins was to do, and why, and what happened.
+ghost use Rattle.std.specs.Prelude.{◌≡◌, ◌≤◌, ◌+◌, ◌++◌, ◌∷◌, [], IfOk, vec_len, vec_capacity};
+ghost use Rattle.std.specs.List.{range_with_len};
+ghost use Rattle.am_board.specs.History.{reply_of, IsFresh};
+ghost use Rattle.am_model.specs.Records.{call_of_silence};
+ghost use Rattle.am_model.specs.declared.record.Call.TheVariants.{Insert};
+ghost use Rattle.am_rehearsal.specs.EventOrder.{begin_indices};
+ghost use Rattle.am_rehearsal.specs.Planned.{input_trace, no_inputs, with_inputs};
+ghost use Rattle.am_rehearsal.specs.Previews.{takes_group, previews_of, preview_where};
+ghost use Rattle.am_rehearsal.specs.declared.limits.TheConstants.{BOARD_ID};
+
+use crate::event::{Event, PreviewedBegin};
+use crate::limits::BOARD_ID;
+use am_alerts::alert::Alert;
+use am_board::begin::Begun;
+use am_board::board::Board;
+use am_board::config::Config;
+use am_board::fault::{BoardFault, Fault, FinishFault, NoteFault};
+use am_board::notice::Report;
+use am_board::preview::Preview;
+use am_board::ticket::Ticket;
+use am_mute::silence::Silence;
+use std::alloc::{AllocError, Global};
+
+/// The pass of each call: there is one thread.
+const PASS: u32 = 0;
+
+/// A board, what each of its begins that took a group was to do, and what happened.
+#[derive(Drop)]
+pub(crate) struct PreviewingBoard {
+    board: Board,
+    begins: Vec<PreviewedBegin>,
+    events: Vec<Event>,
+    ghost ours: { board.id ≡ BOARD_ID },
+    ghost previews: { begins.items ≡ previews_of board.config board.history },
+    ghost begun: { begin_indices events.items ≡ range_with_len 0 (vec_len begins) },
+}
+
+/// A ticket that the board gave.
+pub(crate) struct OwnTicket {
+    ticket: Ticket,
+    ghost ours: { ticket.desk ≡ BOARD_ID },
+}
+
+/// What a begin came to. A ticket must be spent.
+pub(crate) enum Taken {
+    /// No group is due.
+    Nothing,
+    /// A group was taken, and nobody is asked.
+    Quiet,
+    /// A flush was opened.
+    Flush(OwnTicket),
+}
+
+impl OwnTicket {
+    pub(crate) fn ticket(&self) -> &Ticket {
+        &self.ticket
+    }
+
+    /// Records how a notice went. A report on another notice changes nothing, nor does a second one.
+    pub(crate) fn record(&mut self, report: Report) {
+        let _ = self.ticket.record(report);
+    }
+}
+
+impl PreviewingBoard {
+    /// A board of this configuration, with nothing in it.
+    pub(crate) fn new(alloc: Global, config: Config) -> Result<PreviewingBoard, BoardFault>
+        ensures { IfOk result (λ opened. input_trace opened.board ≡ no_inputs config) }
+    {
+        let board = Board::new(alloc, config, BOARD_ID)?;
+        Ok(PreviewingBoard {
+            board,
+            begins: Vec::new(alloc),
+            events: Vec::new(alloc),
+        })
+    }
+
+    /// The board, what its begins were to do, and what happened.
+    pub(crate) fn into_parts(self) -> (Board, Vec<PreviewedBegin>, Vec<Event>)
+        ensures board { result.0 ≡ self.board }
+        ensures ours { result.0.id ≡ BOARD_ID }
+        ensures previews { result.1.items ≡ previews_of result.0.config result.0.history }
+        ensures begun { begin_indices result.2.items ≡ range_with_len 0 (vec_len result.1) }
+    {
+        let PreviewingBoard {
+            board,
+            begins,
+            events,
+        } = self;
+        (board, begins, events)
+    }
+
+    pub(crate) fn config(&self) -> &Config {
+        self.board.config()
+    }
+
+    /// How many begins took a group.
+    pub(crate) fn taken(&self) -> usize {
+        self.begins.len()
+    }
+
+    /// When the next group is due that has no open flush, in milliseconds.
+    pub(crate) fn next_due(&self) -> Option<u64> {
+        self.board.next_due()
+    }
+
+    pub(crate) fn insert(&mut self, alloc: Global, now: u64, alert: Alert) -> Result<(), Fault>
+        ensures { IfOk result (λ _. input_trace self.new.board ≡ with_inputs (input_trace self.old.board) (Insert now alert ∷ [])) }
+    {
+        let _inserted = self.board.insert(alloc, PASS, now, alert)?;
+        Ok(())
+    }
+
+    pub(crate) fn silence(&mut self, alloc: Global, now: u64, silence: Silence) -> Result<(), Fault>
+        ensures { IfOk result (λ _. input_trace self.new.board ≡ with_inputs (input_trace self.old.board) (call_of_silence now silence ∷ [])) }
+    {
+        let _silenced = self.board.silence(alloc, PASS, now, silence)?;
+        Ok(())
+    }
+
+    pub(crate) fn maintain(&mut self, alloc: Global, now: u64) -> Result<(), Fault>
+        ensures { input_trace self.new.board ≡ input_trace self.old.board }
+    {
+        let _maintained = self.board.maintain(alloc, PASS, now)?;
+        Ok(())
+    }
+
+    /// Keeps that the sending of a notice came to its end, whose flush was opened by the begin at this
+    /// place among those that took a group.
+    pub(crate) fn keep_sent(&mut self, begin: usize, report: Report) -> Result<(), AllocError>
+        ensures { input_trace self.new.board ≡ input_trace self.old.board }
+    {
+        self.events.reserve(1)?;
+        self.events.push_reserved(Event::Sent { begin, report });
+        Ok(())
+    }
+
+    /// Logs the success of the notice at a place of a ticket.
+    pub(crate) fn note(
+        &mut self,
+        alloc: Global,
+        own: &OwnTicket,
+        place: usize,
+        now: u64,
+    ) -> Result<(), NoteFault>
+        ensures { input_trace self.new.board ≡ input_trace self.old.board }
+    {
+        let _noted = self.board.note(alloc, PASS, &own.ticket, place, now)?;
+        Ok(())
+    }
+
+    /// Finishes a flush. Answers whether it was open.
+    pub(crate) fn finish(&mut self, own: OwnTicket, now: u64) -> bool
+        ensures { input_trace self.new.board ≡ input_trace self.old.board }
+    {
+        let OwnTicket { ticket } = own;
+        match self.board.finish(PASS, ticket, now) {
+            Ok(_finished) => true,
+            Err(FinishFault::NotOpen) => false,
+            Err(FinishFault::Foreign(_ticket)) => unreachable!(),
+        }
+    }
+
+    /// Takes the group that is due first, and keeps what is to be done with it.
+    pub(crate) fn begin(&mut self, alloc: Global, now: u64) -> Result<Taken, Fault>
+        ensures { input_trace self.new.board ≡ input_trace self.old.board }
+    {
+        self.begins.reserve(1)?;
+        self.events.reserve(1)?;
+        let place = self.board.history().len();
+        let preview = self.board.preview(alloc, now)?;
+        let begun = match self.board.begin(alloc, PASS, now) {
+            Ok(begun) => begun,
+            Err(fault) => return Err(fault),
+        };
+        tell(&mut self.begins, &mut self.events, place, preview, &begun);
+        Ok(own(begun))
+    }
+}
+
+/// What a begin of the board came to.
+fn own(begun: Begun) -> Taken
+    requires { IsFresh BOARD_ID begun }
+{
+    match begun {
+        Begun::NothingDue => Taken::Nothing,
+        Begun::Quiet {
+            group: _,
+            removed: _,
+        } => Taken::Quiet,
+        Begun::Flush(ticket) => Taken::Flush(OwnTicket { ticket }),
+    }
+}
+
+/// Adds what a begin was to do whose record is at this place, and that it was made, if it took a
+/// group.
+fn tell(
+    begins: &mut Vec<PreviewedBegin>,
+    events: &mut Vec<Event>,
+    place: usize,
+    preview: Option<Preview>,
+    begun: &Begun,
+)
+    requires room { vec_len begins.old + 1 ≤ vec_capacity begins.old }
+    requires events_room { vec_len events.old + 1 ≤ vec_capacity events.old }
+    requires begun { begin_indices events.old.items ≡ range_with_len 0 (vec_len begins.old) }
+    ensures previews { begins.new.items ≡ begins.old.items ++ preview_where (takes_group (reply_of begun.now)) place preview }
+    ensures begun { begin_indices events.new.items ≡ range_with_len 0 (vec_len begins.new) }
+{
+    match (begun, preview) {
+        (Begun::NothingDue, _) | (_, None) => {}
+        (_, Some(preview)) => {
+            events.push_reserved(Event::Begun {
+                begin: begins.len(),
+            });
+            begins.push_reserved(PreviewedBegin { place, preview });
+        }
+    }
+}

@@ -1,5 +1,0 @@
-use Rattle.am_rehearse.proofs.Tales.{told_by}
-use Rattle.am_rehearse.proofs.run.told_of.Goals as goal
-
-pub returns : goal.returns
-returns c = told_by _ _ _ _ _ _ _ c.in_ok-value.ensures.value c.in_ok-input.ensures c.in_ok-tell.ensures

@@ -1,0 +1,55 @@
+-- Asked: what a rehearsal asks for.
+use Rattle.std.specs.Prelude.{◌≡◌, ℕ, List, codes, Option, Some, None, IsSomeAnd, if◌then◌else◌}
+use Rattle.std.specs.Option.{option_and_then}
+use Rattle.std.specs.Str.{bytes_eq}
+use Rattle.serde_json.specs.Data.{Data, Members}
+use Rattle.serde_json.specs.Find.{as_object, as_str, get_member}
+use Rattle.serde_json.specs.Read.{read}
+use Rattle.am_cli.specs.Read.{duration_in}
+use Rattle.am_timeline.specs.declared.expectation.Expectation.{Expectation}
+use Rattle.am_timeline.specs.UtcDates.{IsReadFrom, StartData, dated}
+use Rattle.am_timeline.specs.TimeFormatData.{TimeFormatData, counted}
+use Rattle.am_rehearse.specs.Expected.{AreExpectedIn}
+use Rattle.am_rehearse.specs.declared.input.Output.{Output}
+use Rattle.am_rehearse.specs.declared.input.Output.TheVariants.{Timeline, Notices, Json}
+
+-- the output of a name
+abbrev pub output_named : List ℕ → Option Output
+output_named name =
+    if bytes_eq name (codes "timeline") then Some Timeline
+    else (if bytes_eq name (codes "notices") then Some Notices else (if bytes_eq name (codes "json") then Some Json else None))
+
+-- the output that a member asks for; the timeline, where it isn't there
+abbrev pub output_in : Option Data → Option Output
+output_in None = Some Timeline
+output_in (Some member) = option_and_then output_named (as_str member)
+
+-- the start that a member tells, the moment that its text is read as; none, where it isn't there
+abbrev pub DecodesToStart : Option Data → Option StartData → Type 0
+DecodesToStart None start = start ≡ None
+DecodesToStart (Some member) start = IsSomeAnd (as_str member) (λ text. IsSomeAnd start (IsReadFrom text))
+
+-- moments are dates where a start is told, and counted where none is
+abbrev pub times_from : Option StartData → TimeFormatData
+times_from None = counted
+times_from (Some start) = dated start
+
+-- when a rehearsal ends
+abbrev pub until_in : Members → Option ℕ
+until_in members = option_and_then duration_in (get_member (codes "until") members)
+
+-- a rehearsal of these members asks for this output, tells this start and has these expectations
+pub record Requests (members : Members) (output : Output) (start : Option StartData) (expectations : List Expectation) : Type 0 where
+  pub tells : output_in (get_member (codes "output") members) ≡ Some output
+  pub starts : DecodesToStart (get_member (codes "start") members) start
+  pub expects : IsSomeAnd (until_in members) (λ until. AreExpectedIn until (get_member (codes "expect") members) expectations)
+
+-- a JSON value is an object whose members ask for this
+abbrev pub IsRequestIn : Data → Output → Option StartData → List Expectation → Type 0
+IsRequestIn value output start expectations =
+    IsSomeAnd (as_object value) (λ members. Requests members output start expectations)
+
+-- these bytes are a JSON text of such a value
+abbrev pub IsRequestBy : List ℕ → Output → Option StartData → List Expectation → Type 0
+IsRequestBy input output start expectations =
+    IsSomeAnd (read input) (λ value. IsRequestIn value output start expectations)

@@ -1,6 +1,0 @@
-use Rattle.std.proofs.Common.{◌≡◌, ◌++◌, take}
-use Rattle.am_trail.proofs.trail.Trail.add_all.Given as goal
-
--- the items so far were added
-abbrev pub invariant-loop-item : goal.invariant-loop-item
-invariant-loop-item g l = l.self.items ≡ l.fn.self.items ++ take l.item-index l.items

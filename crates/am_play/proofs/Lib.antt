@@ -1,14 +1,2 @@
-pub mod Answered
-pub mod Determined
-pub mod Calls
-pub mod Lanes
-pub mod Noting
-pub mod Phases
-pub mod LaneStates
-pub mod Crossing
-pub mod Sendings
-pub mod Steps
-pub mod Turns
-pub mod Parts
-pub mod Meetings
 pub mod Written
+pub mod lemmas

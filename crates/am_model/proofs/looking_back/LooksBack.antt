@@ -1,15 +1,15 @@
 -- What looking back says of every legal history, in one.
 use Rattle.am_model.specs.look_back.Laws.{EveryLegalHistory, LooksBack}
-use Rattle.am_model.proofs.looking_back.AlertsShown.{shown_alerts_are_found}
-use Rattle.am_model.proofs.looking_back.AskedRightly.{begins_notify_exactly_whom_needed, notices_list_present_alerts}
-use Rattle.am_model.proofs.looking_back.BeginIntervals.{begins_keep_the_interval}
+use Rattle.am_model.proofs.looking_back.alerts.AlertsShown.{shown_alerts_are_found}
+use Rattle.am_model.proofs.looking_back.reasons.AskedRightly.{begins_notify_exactly_whom_needed, notices_list_present_alerts}
+use Rattle.am_model.proofs.looking_back.flushes.BeginIntervals.{begins_keep_the_interval}
 use Rattle.am_model.proofs.legal.Consistent.{consistent_replay}
-use Rattle.am_model.proofs.looking_back.FlushesOnce.{flushes_end_once}
-use Rattle.am_model.proofs.looking_back.FoundAlerts.{alerts_are_found}
-use Rattle.am_model.proofs.looking_back.FoundRows.{rows_are_found}
-use Rattle.am_model.proofs.looking_back.ReasonsAreExact.{begins_have_reasons}
-use Rattle.am_model.proofs.looking_back.Refiring.{refiring_alerts_stay}
-use Rattle.am_model.proofs.looking_back.RowsDelivered.{shown_rows_are_found, only_delivered_is_logged, rows_come_by_delivery, rows_were_delivered}
+use Rattle.am_model.proofs.looking_back.flushes.FlushesOnce.{flushes_end_once}
+use Rattle.am_model.proofs.looking_back.alerts.FoundAlerts.{alerts_are_found}
+use Rattle.am_model.proofs.looking_back.rows.FoundRows.{rows_are_found}
+use Rattle.am_model.proofs.looking_back.reasons.ReasonsAreExact.{begins_have_reasons}
+use Rattle.am_model.proofs.looking_back.alerts.Refiring.{refiring_alerts_stay}
+use Rattle.am_model.proofs.looking_back.rows.RowsDelivered.{shown_rows_are_found, only_delivered_is_logged, rows_come_by_delivery, rows_were_delivered}
 
 pub histories_look_back : EveryLegalHistory LooksBack
 histories_look_back config id history legal =

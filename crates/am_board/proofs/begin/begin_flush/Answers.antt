@@ -2,7 +2,7 @@ use Rattle.std.proofs.Common.{◌≡◌, ◌+◌, [], ◌∷◌, ◌++◌, refl,
 use Rattle.am_model.specs.Records.{entry}
 use Rattle.am_model.specs.declared.record.Call.TheVariants.{Begin}
 use Rattle.am_model.specs.declared.record.Reply.TheVariants.{Flush}
-use Rattle.am_board.proofs.beginning.Ends.{begun_kept, accepts_flush}
+use Rattle.am_board.proofs.lemmas.begin.Ends.{begun_kept, accepts_flush}
 use Rattle.am_model.proofs.tickets.Outcomes.{count_unreported-le-length}
 use Rattle.am_board.proofs.begin.begin_flush.Goals as goal
 

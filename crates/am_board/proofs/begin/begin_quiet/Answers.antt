@@ -5,7 +5,7 @@ use Rattle.am_board.specs.Refinement.{group_state}
 use Rattle.am_board.specs.declared.group.Group.{Group}
 use Rattle.am_model.specs.declared.record.Call.TheVariants.{Begin}
 use Rattle.am_model.specs.declared.record.Reply.TheVariants.{Quiet}
-use Rattle.am_board.proofs.beginning.Ends.{begun_state, accepts_quiet}
+use Rattle.am_board.proofs.lemmas.begin.Ends.{begun_state, accepts_quiet}
 use Rattle.am_board.proofs.begin.begin_quiet.Goals as goal
 
 pub returns : goal.returns

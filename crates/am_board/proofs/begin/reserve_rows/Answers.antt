@@ -2,7 +2,7 @@ use Rattle.std.proofs.Common.{◌+◌, List, ap, sym, subst, arith}
 use Rattle.am_alerts.specs.declared.labels.Label.{Label}
 use Rattle.am_nflog.specs.Log.{Slots}
 use Rattle.am_model.specs.declared.group.GroupName.{GroupName}
-use Rattle.am_board.proofs.beginning.ReservedRows.{ReservingRows, reserving_rows_step}
+use Rattle.am_board.proofs.lemmas.begin.ReservedRows.{ReservingRows, reserving_rows_step}
 use Rattle.am_board.proofs.begin.reserve_rows.Goals as goal
 
 pub loop-asked-preserved : goal.loop-asked-preserved

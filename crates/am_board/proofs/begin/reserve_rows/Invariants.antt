@@ -1,4 +1,4 @@
-use Rattle.am_board.proofs.beginning.ReservedRows.{ReservingRows}
+use Rattle.am_board.proofs.lemmas.begin.ReservedRows.{ReservingRows}
 use Rattle.am_board.proofs.begin.reserve_rows.Given as goal
 
 -- no row changes, known keys stay known, and the keys so far are known

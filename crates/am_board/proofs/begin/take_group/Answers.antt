@@ -16,11 +16,11 @@ use Rattle.am_board.specs.declared.state.State.{State}
 use Rattle.am_model.specs.declared.config.Config.{Config}
 use Rattle.am_model.specs.declared.fault.Fault.{Fault}
 use Rattle.am_model.specs.State.{moment}
-use Rattle.am_board.proofs.beginning.Causes.{told, taken-none, cause-closed, cause-few, cause-quiet, planned_none, planned_some, planned_err, taking_found}
-use Rattle.am_board.proofs.keeping.GroupNames.{routed_at}
+use Rattle.am_board.proofs.lemmas.begin.Causes.{told, taken-none, cause-closed, cause-few, cause-quiet, planned_none, planned_some, planned_err, taking_found}
+use Rattle.am_board.proofs.lemmas.invariant.GroupNames.{routed_at}
 use Rattle.am_board.proofs.begin.take_group.Goals as goal
 use Rattle.am_board.proofs.begin.take_group.Goals.{After-at, After-due_again-due, In-Some-2}
-use Rattle.am_board.proofs.keeping.Staying.{stays_itself}
+use Rattle.am_board.proofs.lemmas.invariant.Staying.{stays_itself}
 
 within : (c : After-at) → c.in-Some.place < length c.args.state.now.groups.items
 within c = c.in-Some.ensures.within

@@ -4,7 +4,7 @@ use Rattle.am_alerts.specs.declared.route.Route.{Route}
 use Rattle.am_model.specs.Begin.{needs}
 use Rattle.am_board.specs.Beginning.{update_of}
 use Rattle.am_board.specs.Refinement.{state_of}
-use Rattle.am_board.proofs.beginning.Updates.{about-nobody, about-receiver, few-found}
+use Rattle.am_board.proofs.lemmas.begin.Updates.{about-nobody, about-receiver, few-found}
 use Rattle.am_board.proofs.dedup.asked.Goals as goal
 
 pub returns-in_default : goal.returns-in_default

@@ -2,7 +2,7 @@ use Rattle.std.proofs.Common.{◌≡◌, ◌<◌, length, Vec, Global, refl, ap,
 use Rattle.am_board.specs.declared.dedup.Update.{Update}
 use Rattle.am_board.specs.Beginning.{needs_update_for}
 use Rattle.am_board.specs.LogRows.{log_rows}
-use Rattle.am_board.proofs.beginning.Updates.{asked-more, asked-same, needs_update_for-key}
+use Rattle.am_board.proofs.lemmas.begin.Updates.{asked-more, asked-same, needs_update_for-key}
 use Rattle.am_board.proofs.dedup.asked_of.Goals as goal
 use Rattle.am_board.proofs.dedup.asked_of.Goals.{then-needs_update+in_ok-push, else-needs_update}
 

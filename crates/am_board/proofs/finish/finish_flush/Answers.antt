@@ -15,9 +15,9 @@ use Rattle.am_board.specs.declared.flush.OpenFlush.{OpenFlush}
 use Rattle.am_model.specs.declared.record.Call.TheVariants.{Finish}
 use Rattle.am_model.specs.declared.record.Reply.TheVariants as replies
 use Rattle.am_board.specs.declared.state.State as kept
-use Rattle.am_board.proofs.finishing.Finished.{finish-accepted}
-use Rattle.am_board.proofs.finishing.Flushes.{open-prepared}
-use Rattle.am_board.proofs.finishing.TakenOut.{all-kept}
+use Rattle.am_board.proofs.lemmas.finish.Finished.{finish-accepted}
+use Rattle.am_board.proofs.lemmas.finish.Flushes.{open-prepared}
+use Rattle.am_board.proofs.lemmas.finish.TakenOut.{all-kept}
 use Rattle.am_board.proofs.finish.finish_flush.Goals as goal
 
 pub returns-clause-accepted : goal.returns-clause-accepted

@@ -7,7 +7,7 @@ use Rattle.std.proofs.lemmas.Iterator.Consumers.{YieldsList-turn}
 use Rattle.am_model.specs.Finish.{has_succeeded}
 use Rattle.am_board.specs.Refinement.{asked_state_of}
 use Rattle.am_board.specs.LogRows.{log_rows}
-use Rattle.am_board.proofs.finishing.Logging.{all-more, logged-at-most, logged-same, rows_with-same}
+use Rattle.am_board.proofs.lemmas.finish.Logging.{all-more, logged-at-most, logged-same, rows_with-same}
 use Rattle.am_board.proofs.finish.log_rest.Goals as goal
 
 pub overflow_add-logged : goal.overflow_add-logged

@@ -12,7 +12,7 @@ use Rattle.am_board.specs.LogRows.{row_under, log_rows}
 use Rattle.am_model.specs.State.{same_name}
 use Rattle.am_model.specs.declared.group.GroupName.{GroupName}
 use Rattle.am_model.specs.declared.views.RowView.{RowView}
-use Rattle.am_board.proofs.keeping.LogRows.{with_row-rows}
+use Rattle.am_board.proofs.lemmas.invariant.LogRows.{with_row-rows}
 use Rattle.am_board.proofs.finish.log_sets.Goals as goal
 
 -- a row that is put leaves the keys as they were

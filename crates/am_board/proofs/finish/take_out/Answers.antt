@@ -6,8 +6,8 @@ use Rattle.am_board.specs.Refinement.{group_state}
 use Rattle.am_model.specs.Lists.{changed_where}
 use Rattle.am_model.specs.State.{same_name, is_named, members_in}
 use Rattle.am_board.specs.declared.group.Group.{Group}
-use Rattle.am_board.proofs.keeping.GroupNames.{names_set}
-use Rattle.am_board.proofs.finishing.TakenOut.{members-found, members-missing, changed-missing, changed-found, none-leave, groups-stay}
+use Rattle.am_board.proofs.lemmas.invariant.GroupNames.{names_set}
+use Rattle.am_board.proofs.lemmas.finish.TakenOut.{members-found, members-missing, changed-missing, changed-found, none-leave, groups-stay}
 use Rattle.am_board.proofs.finish.take_out.Goals as goal
 
 pub returns-then-not-all_succeeded-clause-groups : goal.returns-then-not-all_succeeded-clause-groups

@@ -4,7 +4,7 @@ use Rattle.std.proofs.lemmas.List.Elements.{All-push}
 use Rattle.am_board.specs.Inserting.{IsFound, place_in}
 use Rattle.am_board.specs.declared.insert.Target.{Target}
 use Rattle.am_model.specs.declared.group.GroupName.{GroupName}
-use Rattle.am_board.proofs.inserting.Placing.{named_more}
+use Rattle.am_board.proofs.lemmas.insert.Placing.{named_more}
 use Rattle.am_board.proofs.insert.find_named.Goals as goal
 
 pub loop-name-preserved : goal.loop-name-preserved

@@ -4,10 +4,10 @@ use Rattle.am_alerts.specs.AlertData.{AlertData}
 use Rattle.am_alerts.specs.Labels.{same_label_set}
 use Rattle.am_alerts.specs.declared.labels.Label.{Label}
 use Rattle.am_board.specs.Refinement.{state_of}
-use Rattle.am_board.proofs.inserting.Inserting.{answer_names, names_many, names_few, names_known, none_told}
+use Rattle.am_board.proofs.lemmas.insert.Inserting.{answer_names, names_many, names_few, names_known, none_told}
 use Rattle.am_board.proofs.insert.find_place.Goals as goal
 use Rattle.am_board.proofs.insert.find_place.Goals.{else-is_none-via-then-is_none+else-len-config, else-is_none-via-else-is_none}
-use Rattle.am_board.proofs.keeping.Staying.{has_room}
+use Rattle.am_board.proofs.lemmas.invariant.Staying.{has_room}
 
 abbrev found : List Label → List AlertData → Option ℕ
 found labels alerts = position (λ a. same_label_set labels a.labels) alerts

@@ -3,7 +3,7 @@ use Rattle.std.specs.Prelude.{All}
 use Rattle.std.proofs.lemmas.List.Elements.{All-push}
 use Rattle.am_board.specs.Inserting.{IsFound, name_at}
 use Rattle.am_board.specs.declared.insert.Target.{Target}
-use Rattle.am_board.proofs.inserting.Placing.{names_more}
+use Rattle.am_board.proofs.lemmas.insert.Placing.{names_more}
 use Rattle.am_board.proofs.insert.find_routed.Goals as goal
 
 pub find_target-requires : goal.find_target-requires

@@ -5,11 +5,11 @@ use Rattle.am_board.specs.Refinement.{group_state}
 use Rattle.am_board.specs.declared.group.Group.{Group}
 use Rattle.am_board.specs.Group.{names_of, HasRoom}
 use Rattle.am_board.specs.Inserting.{place_in}
-use Rattle.am_board.proofs.keeping.GroupNames.{names_set, names-push, room_set, room_push}
+use Rattle.am_board.proofs.lemmas.invariant.GroupNames.{names_set, names-push, room_set, room_push}
 use Rattle.std.specs.Prelude.{IfSome}
-use Rattle.am_board.proofs.inserting.Found.{found_within}
-use Rattle.am_board.proofs.inserting.GroupRoom.{named_at}
-use Rattle.am_board.proofs.inserting.Placing.{put_group_at, put_group_new, new_group_is}
+use Rattle.am_board.proofs.lemmas.insert.Found.{found_within}
+use Rattle.am_board.proofs.lemmas.insert.GroupRoom.{named_at}
+use Rattle.am_board.proofs.lemmas.insert.Placing.{put_group_at, put_group_new, new_group_is}
 use Rattle.am_board.proofs.insert.place.Goals as goal
 use Rattle.am_board.proofs.insert.place.Goals.{In-Some}
 

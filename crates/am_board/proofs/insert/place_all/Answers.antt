@@ -5,14 +5,14 @@ use Rattle.std.proofs.lemmas.List.Elements.{All-pop, All-weaker}
 use Rattle.std.proofs.lemmas.List.Sorted.{All-permutation}
 use Rattle.std.proofs.lemmas.Cmp.{nat_eq_equiv}
 use Rattle.std.proofs.lemmas.Map.Keys.{IsDistinct-IsPermutation}
-use Rattle.am_board.proofs.inserting.Found.{found_rest}
+use Rattle.am_board.proofs.lemmas.insert.Found.{found_rest}
 use Rattle.am_model.proofs.lists.Distinct.{IsDistinct-last}
 use Rattle.am_board.specs.declared.insert.Placement.{Placement}
 use Rattle.am_board.specs.Group.{names_of, HasRoom}
 use Rattle.am_model.specs.Insert.{put_into_group}
 use Rattle.am_board.specs.Refinement.{group_state}
 use Rattle.am_board.specs.Inserting.{IsEmptyWithRoom, HaveRoom, IsFound, AreApart, target_of, IsPlacementOf}
-use Rattle.am_board.proofs.keeping.GroupNames.{routed_added}
+use Rattle.am_board.proofs.lemmas.invariant.GroupNames.{routed_added}
 use Rattle.am_board.proofs.insert.place_all.Goals as goal
 
 pub loop-placement-init : goal.loop-placement-init

@@ -18,7 +18,7 @@ use Rattle.am_board.specs.Refinement.{state_of}
 use Rattle.am_board.specs.Step.{AppliesCall, LeavesUnchanged, IsAnswer}
 use Rattle.am_board.specs.declared.insert.Target.{Target}
 use Rattle.am_board.specs.declared.state.State as kept
-use Rattle.am_board.proofs.keeping.GroupNameCache.{kept_put, known_then, known_still, put_at, put_within}
+use Rattle.am_board.proofs.lemmas.invariant.GroupNameCache.{kept_put, known_then, known_still, put_at, put_within}
 use Rattle.am_board.proofs.insert.put_alert.Goals as goal
 use Rattle.am_board.proofs.insert.put_alert.Goals.{then-is_ok, else-is_ok}
 

@@ -6,7 +6,7 @@ use Rattle.am_board.specs.declared.insert.Target.{Target}
 use Rattle.am_board.specs.declared.group.Group.{Group}
 use Rattle.am_board.specs.declared.insert.Found.{Found}
 use Rattle.am_board.specs.Inserting.{IsFound, AreFound, IsWhereToPut, target_of}
-use Rattle.am_board.proofs.inserting.Found.{still_found, are_apart, names_apart}
+use Rattle.am_board.proofs.lemmas.insert.Found.{still_found, are_apart, names_apart}
 use Rattle.am_model.proofs.lists.Distinct.{all_from, all_to, all-map, all-told}
 use Rattle.am_model.specs.Insert.{name_in, names_for, inserted}
 use Rattle.am_model.specs.declared.group.GroupName.{GroupName}
@@ -22,9 +22,9 @@ use Rattle.am_model.specs.declared.record.Call.TheVariants as call
 use Rattle.am_model.specs.declared.record.Reply.TheVariants as reply
 use Rattle.am_model.specs.Records.{entry}
 use Rattle.am_board.specs.declared.state.State as kept
-use Rattle.am_board.proofs.inserting.Inserting.{answer_groups, no_cause, makes_many, makes_few, made_told, names_placed, count_is, told_is, insert_leaves, stays_reserved}
+use Rattle.am_board.proofs.lemmas.insert.Inserting.{answer_groups, no_cause, makes_many, makes_few, made_told, names_placed, count_is, told_is, insert_leaves, stays_reserved}
 use Rattle.am_board.proofs.insert.put_found.Goals as goal
-use Rattle.am_board.proofs.keeping.Staying.{stays_itself, agrees_same}
+use Rattle.am_board.proofs.lemmas.invariant.Staying.{stays_itself, agrees_same}
 
 -- what was found tells how many groups have to be made
 made_of : (config : Config) (s : kept.State) (alert : AlertData) (found : Found) (lent : List Target) (n : ℕ) → IsWhereToPut config s alert found → lent ≡ found.targets.items → n ≡ count_by (λ t. is_none t.place) lent → n ≡ (inserted config (state_of s) alert).made

@@ -6,7 +6,7 @@ use Rattle.am_board.specs.declared.insert.Placement.{Placement}
 use Rattle.std.specs.List.{IsDistinct}
 use Rattle.am_board.specs.Group.{names_of, HasRoom}
 use Rattle.am_board.specs.Inserting.{place_in, AreFound}
-use Rattle.am_board.proofs.inserting.Found.{still_found, found_within}
+use Rattle.am_board.proofs.lemmas.insert.Found.{still_found, found_within}
 use Rattle.am_model.specs.State.{same_name}
 use Rattle.am_board.proofs.insert.reserve_all.Goals as goal
 

@@ -11,9 +11,9 @@ use Rattle.am_board.specs.LogRows.{log_rows}
 use Rattle.am_model.specs.Lists.{without}
 use Rattle.am_model.specs.State.{State, GroupState, moment}
 use Rattle.am_model.specs.Upkeep.{has_expired}
-use Rattle.am_board.proofs.keeping.LogRows.{log_rows-collected, expired_count-rows}
-use Rattle.am_board.proofs.maintaining.Maintenance.{prepared-collected}
-use Rattle.am_board.proofs.keeping.Staying.{not_full}
+use Rattle.am_board.proofs.lemmas.invariant.LogRows.{log_rows-collected, expired_count-rows}
+use Rattle.am_board.proofs.lemmas.maintain.Maintenance.{prepared-collected}
+use Rattle.am_board.proofs.lemmas.invariant.Staying.{not_full}
 use Rattle.am_board.proofs.maintain.sweep.Goals as goal
 
 with_groups : (s : State) (rows : List RowView) (t u : ℕ) (gs hs : List GroupState) → t ≡ u → gs ≡ hs → ◌≡◌ {A = State} (record s { clock = t; groups = gs; rows = rows }) (record s { clock = u; groups = hs; rows = rows })

@@ -4,7 +4,7 @@ use Rattle.std.specs.Map.{keys_of}
 use Rattle.std.proofs.lemmas.Bool.{eq-eqb, ne_eqb}
 use Rattle.am_alerts.specs.Labels.{same_label_set}
 use Rattle.am_board.specs.Finishing.{marked}
-use Rattle.am_board.proofs.finishing.LeavingAlerts.{none_marked, one_marked, other_stays, keyed_still}
+use Rattle.am_board.proofs.lemmas.finish.LeavingAlerts.{none_marked, one_marked, other_stays, keyed_still}
 use Rattle.am_board.proofs.members.mark.Goals as goal
 use Rattle.am_board.proofs.members.mark.Goals.{In-Some}
 

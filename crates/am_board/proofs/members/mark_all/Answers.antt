@@ -5,7 +5,7 @@ use Rattle.std.proofs.lemmas.List.{take_more}
 use Rattle.am_board.specs.Refinement.{member_state}
 use Rattle.am_board.specs.declared.flush.LeavingAlert.{LeavingAlert}
 use Rattle.am_board.specs.declared.group.Member.{Member}
-use Rattle.am_board.proofs.finishing.LeavingAlerts.{IsMarkedBy, are_marked, states-marked}
+use Rattle.am_board.proofs.lemmas.finish.LeavingAlerts.{IsMarkedBy, are_marked, states-marked}
 use Rattle.am_board.proofs.members.mark_all.Goals as goal
 
 pub loop-found-preserved : goal.loop-found-preserved

@@ -4,7 +4,7 @@ use Rattle.std.specs.Map.{values_of}
 use Rattle.am_board.specs.Keyed.{AreKeyed}
 use Rattle.am_board.specs.Refinement.{member_state}
 use Rattle.am_board.specs.Members.{labels_of}
-use Rattle.am_board.proofs.finishing.LeavingAlerts.{IsMarkedBy}
+use Rattle.am_board.proofs.lemmas.finish.LeavingAlerts.{IsMarkedBy}
 use Rattle.am_board.proofs.members.mark_all.Given as goal
 
 -- those are marked that leave by the ones so far

@@ -8,7 +8,7 @@ use Rattle.am_model.specs.Note.{asked_by}
 use Rattle.am_model.specs.State.{flush_numbered}
 use Rattle.am_model.specs.Ticket.{outcome_of}
 use Rattle.am_board.specs.declared.flush.OpenFlush.{OpenFlush}
-use Rattle.am_board.proofs.noting.Noting.{flush-missing, flush-found, not-ready, notice-found, outcome-found}
+use Rattle.am_board.proofs.lemmas.note.Noting.{flush-missing, flush-found, not-ready, notice-found, outcome-found}
 use Rattle.am_board.proofs.note.find_noting.Goals as goal
 
 pub returns-in_default-clause-cause : goal.returns-in_default-clause-cause

@@ -5,7 +5,7 @@ use Rattle.am_board.specs.Refinement.{asked_state_of, flush_state}
 use Rattle.am_model.specs.Note.{asked_by}
 use Rattle.am_model.specs.State.{AskedState}
 use Rattle.am_board.specs.declared.flush.Asked.{Asked}
-use Rattle.am_board.proofs.noting.Noting.{asked-missing, asked-found}
+use Rattle.am_board.proofs.lemmas.note.Noting.{asked-missing, asked-found}
 use Rattle.am_board.proofs.note.find_ready.Goals as goal
 
 pub returns-in_default-clause-cause : goal.returns-in_default-clause-cause

@@ -13,10 +13,10 @@ use Rattle.am_board.specs.declared.flush.OpenFlush.{OpenFlush}
 use Rattle.am_model.specs.declared.record.Call.TheVariants.{Note}
 use Rattle.am_model.specs.declared.record.Reply.TheVariants as replies
 use Rattle.am_board.specs.declared.state.State as kept
-use Rattle.am_board.proofs.noting.Noted.{element, full-of, cause-left, note-accepted, answers, refused, the_notice, on-ok}
+use Rattle.am_board.proofs.lemmas.note.Noted.{element, full-of, cause-left, note-accepted, answers, refused, the_notice, on-ok}
 use Rattle.am_board.proofs.note.note_success.Goals as goal
 use Rattle.am_board.proofs.note.note_success.Goals.{In_ok-found}
-use Rattle.am_board.proofs.keeping.Staying.{stays_itself, has_room}
+use Rattle.am_board.proofs.lemmas.invariant.Staying.{stays_itself, has_room}
 
 -- what was found is among the flushes of the state
 found-in : (c : In_ok-found) → IsNoteTarget c.args.state.now.flushes.items c.args.ticket.now c.args.place c.in_ok-found.found

@@ -1,5 +1,5 @@
 use Rattle.std.proofs.Common.{◌++◌, ◌∷◌, [], sym, ap, ◌∙◌}
-use Rattle.am_board.proofs.keeping.Order.{counting}
+use Rattle.am_board.proofs.lemmas.invariant.Order.{counting}
 use Rattle.am_board.proofs.order.all_places.Goals as goal
 
 pub loop-place-preserved : goal.loop-place-preserved

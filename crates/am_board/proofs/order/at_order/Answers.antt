@@ -1,7 +1,7 @@
 use Rattle.std.proofs.Common.{slice_get, ap, ◌∙◌}
 use Rattle.std.specs.List.{filter_map}
 use Rattle.std.proofs.lemmas.Result.{IfOk-weaker}
-use Rattle.am_board.proofs.keeping.Order.{members_there}
+use Rattle.am_board.proofs.lemmas.invariant.Order.{members_there}
 use Rattle.am_board.proofs.order.at_order.Goals as goal
 
 pub returns : goal.returns

@@ -3,7 +3,7 @@ use Rattle.std.specs.List.{filter_map}
 use Rattle.std.specs.Option.{option_copied}
 use Rattle.std.proofs.lemmas.List.{append-nil, map-append}
 use Rattle.am_board.specs.declared.group.Member.{Member}
-use Rattle.am_board.proofs.keeping.Order.{there_more}
+use Rattle.am_board.proofs.lemmas.invariant.Order.{there_more}
 use Rattle.am_board.proofs.order.members_at.Goals as goal
 use Rattle.am_board.proofs.order.members_at.Goals.{in-Some+in_ok-push, in_default}
 

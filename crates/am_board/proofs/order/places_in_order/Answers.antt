@@ -1,5 +1,5 @@
 use Rattle.std.proofs.Common.{rules}
-use Rattle.am_board.proofs.keeping.Order.{sorted_places}
+use Rattle.am_board.proofs.lemmas.invariant.Order.{sorted_places}
 use Rattle.am_board.proofs.order.places_in_order.Goals as goal
 
 pub returns : goal.returns

@@ -3,7 +3,7 @@ use Rattle.am_alerts.specs.declared.route.Route.{Route}
 use Rattle.am_model.specs.declared.notice.TheConstants.{MIN_FLUSH_TIMEOUT}
 use Rattle.am_model.specs.Begin.{asked_of, deadline_of}
 use Rattle.am_board.specs.Refinement.{group_state, state_of}
-use Rattle.am_board.proofs.beginning.PlannedFlushes.{all-spare, deadline-is, flush-is, kept_for-is, notices-are}
+use Rattle.am_board.proofs.lemmas.begin.PlannedFlushes.{all-spare, deadline-is, flush-is, kept_for-is, notices-are}
 use Rattle.am_board.proofs.plan.open.Goals as goal
 
 pub returns : goal.returns

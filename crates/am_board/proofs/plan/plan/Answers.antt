@@ -1,5 +1,5 @@
-use Rattle.am_board.proofs.keeping.GroupNames.{routed_at}
-use Rattle.am_board.proofs.beginning.PlannedFlushes.{members-apart}
+use Rattle.am_board.proofs.lemmas.invariant.GroupNames.{routed_at}
+use Rattle.am_board.proofs.lemmas.begin.PlannedFlushes.{members-apart}
 use Rattle.am_board.proofs.plan.plan.Goals as goal
 
 pub plan_of-requires-clause-route : goal.plan_of-requires-clause-route

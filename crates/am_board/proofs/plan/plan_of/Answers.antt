@@ -3,8 +3,8 @@ use Rattle.std.proofs.lemmas.Bool.Decides.{nat_tests}
 use Rattle.am_model.specs.Begin.{asked_of}
 use Rattle.am_board.specs.Beginning.{update_of}
 use Rattle.am_board.specs.Refinement.{group_state, state_of}
-use Rattle.am_board.proofs.beginning.Updates.{no-updates, nothing-asks, something-asks}
-use Rattle.am_board.proofs.beginning.WhatIsUnmuted.{unmuted-rises}
+use Rattle.am_board.proofs.lemmas.begin.Updates.{no-updates, nothing-asks, something-asks}
+use Rattle.am_board.proofs.lemmas.begin.WhatIsUnmuted.{unmuted-rises}
 use Rattle.am_board.proofs.plan.plan_of.Goals as goal
 use Rattle.am_board.proofs.plan.plan_of.Goals.{In_ok-asked}
 

@@ -8,7 +8,7 @@ use Rattle.am_model.specs.declared.preview.MutedAlert.{MutedAlert}
 use Rattle.am_model.specs.Configured.{rules_of}
 use Rattle.am_model.specs.look_back.Preview.{muted_alert}
 use Rattle.am_board.specs.Refinement.{member_state, state_of}
-use Rattle.am_board.proofs.beginning.Previews.{muted-more}
+use Rattle.am_board.proofs.lemmas.begin.Previews.{muted-more}
 use Rattle.am_board.proofs.preview.muted_in.Goals as goal
 use Rattle.am_board.proofs.preview.muted_in.Goals.{in-Some+in_ok-copy+in_ok-push, in_default}
 

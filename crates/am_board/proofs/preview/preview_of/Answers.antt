@@ -1,6 +1,6 @@
 use Rattle.std.proofs.Common.{◌<◌, length}
-use Rattle.am_board.proofs.beginning.PlannedFlushes.{members-apart}
-use Rattle.am_board.proofs.keeping.GroupNames.{routed_at}
+use Rattle.am_board.proofs.lemmas.begin.PlannedFlushes.{members-apart}
+use Rattle.am_board.proofs.lemmas.invariant.GroupNames.{routed_at}
 use Rattle.am_board.proofs.preview.preview_of.Goals as goal
 use Rattle.am_board.proofs.preview.preview_of.Goals.{After-at-group}
 

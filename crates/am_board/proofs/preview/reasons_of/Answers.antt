@@ -4,7 +4,7 @@ use Rattle.std.specs.List.{enumerate_from}
 use Rattle.am_model.specs.declared.reason.Reason.{Reason}
 use Rattle.am_board.specs.LogRows.{log_rows}
 use Rattle.am_board.specs.Preview.{reason_among, reason_told_by}
-use Rattle.am_board.proofs.beginning.Previews.{reasons-more, kept-entry, kept-holds}
+use Rattle.am_board.proofs.lemmas.begin.Previews.{reasons-more, kept-entry, kept-holds}
 use Rattle.am_board.proofs.preview.reasons_of.Goals as goal
 
 pub reason-requires : goal.reason-requires

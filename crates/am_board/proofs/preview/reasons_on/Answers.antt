@@ -9,10 +9,10 @@ use Rattle.am_model.specs.look_back.Preview.{reason_of}
 use Rattle.am_board.specs.Refinement.{group_state, state_of}
 use Rattle.am_board.specs.LogRows.{log_rows}
 use Rattle.am_board.specs.Preview.{reason_among}
-use Rattle.am_board.proofs.beginning.Previews.{reasons-by}
-use Rattle.am_board.proofs.beginning.PlannedFlushes.{repeat-fits}
-use Rattle.am_board.proofs.beginning.Updates.{few-found, its-nobody, its-receiver}
-use Rattle.am_board.proofs.beginning.WhatIsUnmuted.{unmuted-rises}
+use Rattle.am_board.proofs.lemmas.begin.Previews.{reasons-by}
+use Rattle.am_board.proofs.lemmas.begin.PlannedFlushes.{repeat-fits}
+use Rattle.am_board.proofs.lemmas.begin.Updates.{few-found, its-nobody, its-receiver}
+use Rattle.am_board.proofs.lemmas.begin.WhatIsUnmuted.{unmuted-rises}
 use Rattle.am_board.proofs.preview.reasons_on.Goals as goal
 
 pub sets-requires : goal.sets-requires

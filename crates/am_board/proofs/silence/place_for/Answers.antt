@@ -10,7 +10,7 @@ use Rattle.am_model.specs.Upkeep.{same_silence}
 use Rattle.am_model.specs.declared.fault.Fault.{Fault}
 use Rattle.am_model.specs.declared.fault.Fault.TheVariants.{TooManySilences, HistoryFull}
 use Rattle.am_model.proofs.lists.Places.{is_some-position}
-use Rattle.am_board.proofs.keeping.Staying.{not_full}
+use Rattle.am_board.proofs.lemmas.invariant.Staying.{not_full}
 use Rattle.am_board.proofs.silence.place_for.Goals as goal
 use Rattle.am_board.proofs.silence.place_for.Goals.{else-is_none-via-then-is_none+else-len-config, else-is_none-via-else-is_none}
 use Rattle.std.proofs.lemmas.Bool.{and_right}

@@ -11,7 +11,7 @@ use Rattle.am_model.specs.Lists.{upsert}
 use Rattle.am_model.specs.State.{State}
 use Rattle.am_model.specs.Upkeep.{same_silence}
 use Rattle.am_model.proofs.lists.Places.{is_some-position}
-use Rattle.am_board.proofs.keeping.Staying.{no_fault, unless_value}
+use Rattle.am_board.proofs.lemmas.invariant.Staying.{no_fault, unless_value}
 use Rattle.am_board.proofs.silence.put_silence.Goals as goal
 
 with_silences : (s : State) (t u : ℕ) (xs ys : List SilenceData) → t ≡ u → xs ≡ ys → ◌≡◌ {A = State} (record s { clock = t; silences = xs }) (record s { clock = u; silences = ys })

@@ -5,7 +5,7 @@ use Rattle.am_nflog.specs.declared.key.LogKey.{LogKey}
 use Rattle.am_nflog.specs.declared.row.LogRow.{LogRow}
 use Rattle.am_model.specs.declared.group.GroupName.{GroupName}
 use Rattle.am_board.specs.LogRows.{log_rows}
-use Rattle.am_board.proofs.keeping.Shown.{log_rows-more}
+use Rattle.am_board.proofs.lemmas.invariant.Shown.{log_rows-more}
 use Rattle.am_board.proofs.views.copy_rows.Goals as goal
 
 pub loop-i-preserved : goal.loop-i-preserved

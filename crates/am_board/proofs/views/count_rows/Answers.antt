@@ -1,6 +1,6 @@
 use Rattle.std.proofs.Common.{◌≡◌, ◌<◌, true, false, is_some, length, Option, Some, None, sym, refl, ◌∙◌, arith, Bor}
 use Rattle.std.specs.Option.{option_copied}
-use Rattle.am_board.proofs.keeping.Shown.{rows-added}
+use Rattle.am_board.proofs.lemmas.invariant.Shown.{rows-added}
 use Rattle.am_board.proofs.views.count_rows.Goals as goal
 use Rattle.am_board.proofs.views.count_rows.Goals.{then-is_some, else-is_some}
 

@@ -6,7 +6,7 @@ use Rattle.am_model.specs.Insert.{same_alert}
 use Rattle.am_board.specs.Refinement.{member_state}
 use Rattle.am_model.specs.Lists.{in_order}
 use Rattle.am_model.proofs.states.InOrder.{IsDistinct-alerts}
-use Rattle.am_board.proofs.keeping.Shown.{alerts_kept}
+use Rattle.am_board.proofs.lemmas.invariant.Shown.{alerts_kept}
 use Rattle.am_board.proofs.views.group_view.Goals as goal
 
 pub returns : goal.returns

@@ -3,7 +3,7 @@ use Rattle.am_board.specs.declared.group.Group.{Group}
 use Rattle.am_board.specs.Refinement.{group_state}
 use Rattle.am_model.specs.Views.{group_view}
 use Rattle.am_model.proofs.states.InOrder.{sorted_by_group}
-use Rattle.am_board.proofs.keeping.Shown.{views_kept}
+use Rattle.am_board.proofs.lemmas.invariant.Shown.{views_kept}
 use Rattle.am_board.proofs.views.groups_of.Goals as goal
 
 pub returns : goal.returns

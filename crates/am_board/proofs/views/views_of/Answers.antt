@@ -2,7 +2,7 @@ use Rattle.std.specs.List.{IsDistinct}
 use Rattle.std.proofs.Common.{arith}
 use Rattle.am_model.specs.Insert.{same_member}
 use Rattle.am_model.specs.State.{GroupState}
-use Rattle.am_board.proofs.keeping.Shown.{at_place}
+use Rattle.am_board.proofs.lemmas.invariant.Shown.{at_place}
 use Rattle.am_board.proofs.views.views_of.Goals as goal
 
 pub group_view-requires : goal.group_view-requires

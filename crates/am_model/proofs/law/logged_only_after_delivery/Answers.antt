@@ -1,4 +1,4 @@
-use Rattle.am_model.proofs.looking_back.RowsDelivered.{only_delivered_is_logged, rows_come_by_delivery, rows_were_delivered}
+use Rattle.am_model.proofs.looking_back.rows.RowsDelivered.{only_delivered_is_logged, rows_come_by_delivery, rows_were_delivered}
 use Rattle.am_model.proofs.law.logged_only_after_delivery.Goals as goal
 
 pub returns-clause-each_record : goal.returns-clause-each_record

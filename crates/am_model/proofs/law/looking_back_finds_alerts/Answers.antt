@@ -1,5 +1,5 @@
-use Rattle.am_model.proofs.looking_back.AlertsShown.{shown_alerts_are_found}
-use Rattle.am_model.proofs.looking_back.FoundAlerts.{alerts_are_found}
+use Rattle.am_model.proofs.looking_back.alerts.AlertsShown.{shown_alerts_are_found}
+use Rattle.am_model.proofs.looking_back.alerts.FoundAlerts.{alerts_are_found}
 use Rattle.am_model.proofs.law.looking_back_finds_alerts.Goals as goal
 
 pub returns-clause-found : goal.returns-clause-found

@@ -1,5 +1,5 @@
-use Rattle.am_model.proofs.looking_back.FoundRows.{rows_are_found}
-use Rattle.am_model.proofs.looking_back.RowsDelivered.{shown_rows_are_found}
+use Rattle.am_model.proofs.looking_back.rows.FoundRows.{rows_are_found}
+use Rattle.am_model.proofs.looking_back.rows.RowsDelivered.{shown_rows_are_found}
 use Rattle.am_model.proofs.law.looking_back_finds_rows.Goals as goal
 
 pub returns-clause-found : goal.returns-clause-found

@@ -1,4 +1,4 @@
-use Rattle.am_model.proofs.looking_back.Previews.{preview-found}
+use Rattle.am_model.proofs.looking_back.reasons.Previews.{preview-found}
 use Rattle.am_model.proofs.law.previews_look_back.Goals as goal
 
 pub returns : goal.returns

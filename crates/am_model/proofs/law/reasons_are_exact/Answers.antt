@@ -1,5 +1,5 @@
-use Rattle.am_model.proofs.looking_back.ReasonsAreExact.{begins_have_reasons, not_yet_ends}
-use Rattle.am_model.proofs.looking_back.ReasonsSay.{reasons_are_so}
+use Rattle.am_model.proofs.looking_back.reasons.ReasonsAreExact.{begins_have_reasons, not_yet_ends}
+use Rattle.am_model.proofs.looking_back.reasons.ReasonsSay.{reasons_are_so}
 use Rattle.am_model.proofs.law.reasons_are_exact.Goals as goal
 
 pub returns-clause-asked : goal.returns-clause-asked

@@ -1,7 +1,7 @@
 use Rattle.std.proofs.Common.{◌∙◌, arith}
 use Rattle.am_desk.specs.Known.{Seen}
 use Rattle.am_play.specs.declared.lane.LaneState.{LaneState}
-use Rattle.am_play.proofs.Lanes.{seat_more}
+use Rattle.am_play.proofs.lemmas.lanes.Lanes.{seat_more}
 use Rattle.am_play.proofs.lane.lane_states_for.Goals as goal
 
 pub loop-alloc-preserved : goal.loop-alloc-preserved

@@ -2,7 +2,7 @@ use Rattle.std.proofs.Common.{[], ◌∷◌, subst, sym}
 use Rattle.am_play.specs.Lanes.{call_at}
 use Rattle.am_play.specs.LaneStates.{MadeCalls}
 use Rattle.am_scenario.specs.declared.scenario.call.LaneCall.{LaneCall}
-use Rattle.am_play.proofs.Calls.{one_made}
+use Rattle.am_play.proofs.lemmas.lanes.Calls.{one_made}
 use Rattle.am_play.proofs.lane.make.Goals as goal
 
 pub returns-in_ok-insert-in-Insert : goal.returns-in_ok-insert-in-Insert

@@ -3,7 +3,7 @@ use Rattle.std.proofs.lemmas.List.{length-map}
 use Rattle.am_play.specs.Interleaving.{Meets}
 use Rattle.am_play.specs.LaneStates.{passes_in}
 use Rattle.am_play.specs.declared.lane.LaneState.{LaneState}
-use Rattle.am_play.proofs.Meetings.{all_met, none_met, seat_met}
+use Rattle.am_play.proofs.lemmas.lanes.Meetings.{all_met, none_met, seat_met}
 use Rattle.am_play.proofs.lane.meet_lanes.Goals as goal
 
 pub loop-lane_state-init : goal.loop-lane_state-init

@@ -1,6 +1,6 @@
 use Rattle.std.proofs.Common.{◌≡◌, length}
 use Rattle.am_play.specs.LaneStates.{passes_in}
-use Rattle.am_play.proofs.Meetings.{MetSoFar}
+use Rattle.am_play.proofs.lemmas.lanes.Meetings.{MetSoFar}
 use Rattle.am_play.proofs.lane.meet_lanes.Given as goal
 
 -- the passes of the lane states so far were met

@@ -5,7 +5,7 @@ use Rattle.am_play.specs.LaneStates.{AfterLanes, MadeLanes, passes_in}
 use Rattle.am_play.specs.declared.lane.LaneState.{LaneState}
 use Rattle.am_scenario.specs.declared.scenario.Lane.{Lane}
 use Rattle.am_desk.specs.Known.{Seen}
-use Rattle.am_play.proofs.LaneStates.{after_lanes, none_since}
+use Rattle.am_play.proofs.lemmas.lanes.LaneStates.{after_lanes, none_since}
 use Rattle.am_play.proofs.lane.run_beside.Goals as goal
 
 pub returns-then-is_empty-clause-lanes : goal.returns-then-is_empty-clause-lanes

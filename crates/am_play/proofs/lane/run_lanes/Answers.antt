@@ -1,11 +1,11 @@
 use Rattle.std.proofs.Common.{get_or, subst}
 use Rattle.am_play.specs.LaneStates.{Ran}
 use Rattle.am_play.specs.declared.lane.LaneState.{LaneState}
-use Rattle.am_play.proofs.LaneStates.{by_place}
+use Rattle.am_play.proofs.lemmas.lanes.LaneStates.{by_place}
 use denote.Param.Send.{IsSync}
 use Rattle.am_desk.proofs.Crossing.{crossing}
 use Rattle.am_desk.proofs.pass.Pass.TheSendSync as pass
-use Rattle.am_play.proofs.Crossing.{call_send}
+use Rattle.am_play.proofs.lemmas.lanes.Crossing.{call_send}
 use Rattle.am_play.proofs.lane.run_lanes.Goals as goal
 
 pub for_each_mut-requires-send-T : goal.for_each_mut-requires-send-T

@@ -1,7 +1,7 @@
 use denote.Param.Send.{IsSync}
 use Rattle.am_desk.proofs.Crossing.{crossing}
 use Rattle.am_desk.proofs.pass.Pass.TheSendSync as pass
-use Rattle.am_play.proofs.Crossing.{call_send}
+use Rattle.am_play.proofs.lemmas.lanes.Crossing.{call_send}
 use Rattle.am_play.proofs.lane.share.Goals as goal
 
 pub join_mut-reports-requires-send-F : goal.join_mut-reports-requires-send-F

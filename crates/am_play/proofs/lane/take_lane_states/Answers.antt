@@ -5,7 +5,7 @@ use Rattle.std.proofs.lemmas.Iterator.Adapters.{YieldsList-from_vec}
 use Rattle.std.proofs.lemmas.Iterator.Consumers.{YieldsList-from_enumerate, YieldsList-turn}
 use Rattle.am_play.specs.declared.lane.LaneState.{LaneState}
 use Rattle.am_scenario.specs.declared.scenario.Lane.{Lane}
-use Rattle.am_play.proofs.Lanes.{lane_more, numbered}
+use Rattle.am_play.proofs.lemmas.lanes.Lanes.{lane_more, numbered}
 use Rattle.am_play.proofs.lane.take_lane_states.Goals as goal
 
 pub loop-number-preserved : goal.loop-number-preserved

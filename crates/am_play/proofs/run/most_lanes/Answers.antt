@@ -1,7 +1,7 @@
 use Rattle.std.proofs.Common.{◌≤◌, All, List, subst, arith, vec_len}
 use Rattle.std.proofs.lemmas.List.{take_all}
 use Rattle.am_scenario.specs.declared.scenario.Phase.{Phase}
-use Rattle.am_play.proofs.Lanes.{most_more}
+use Rattle.am_play.proofs.lemmas.lanes.Lanes.{most_more}
 use Rattle.am_play.proofs.run.most_lanes.Goals as goal
 
 pub loop-phase-preserved : goal.loop-phase-preserved

@@ -24,11 +24,11 @@ use Rattle.am_play.specs.declared.lane.LaneState.{LaneState}
 use Rattle.am_play.specs.declared.run.TheConstants.{BOARD_ID}
 use Rattle.am_scenario.specs.declared.scenario.Phase.{Phase}
 use Rattle.am_scenario.specs.declared.scenario.script.Script.{Script}
-use Rattle.am_play.proofs.Crossing.{script_sync}
-use Rattle.am_play.proofs.Lanes.{numbered}
-use Rattle.am_play.proofs.Parts.{no_parts, part_next, parts_stand}
-use Rattle.am_play.proofs.Phases.{all_played, of_source, turn_made}
-use Rattle.am_play.proofs.Turns.{turns_stand, turns_stay}
+use Rattle.am_play.proofs.lemmas.lanes.Crossing.{script_sync}
+use Rattle.am_play.proofs.lemmas.lanes.Lanes.{numbered}
+use Rattle.am_play.proofs.lemmas.phases.Parts.{no_parts, part_next, parts_stand}
+use Rattle.am_play.proofs.lemmas.phases.Phases.{all_played, of_source, turn_made}
+use Rattle.am_play.proofs.lemmas.phases.Turns.{turns_stand, turns_stay}
 use Rattle.am_play.proofs.run.play_on.Goals as goal
 
 pub run_phase-requires-send-C : goal.run_phase-requires-send-C

@@ -2,9 +2,9 @@ use Rattle.std.proofs.Common.{subst}
 use Rattle.std.specs.Prelude.{IfOk}
 use Rattle.am_model.specs.declared.record.Call.TheVariants.{Begin}
 use Rattle.am_board.specs.History.{BoardData, reply_of, IsFresh}
-use Rattle.am_board.proofs.keeping.Calls.{recorded, told_now, refused, sound_again, caused_too, fresh_too}
-use Rattle.am_board.proofs.keeping.Limits.{begin_within, begin_caused}
-use Rattle.am_board.proofs.keeping.Sound.{good}
+use Rattle.am_board.proofs.lemmas.invariant.Calls.{recorded, told_now, refused, sound_again, caused_too, fresh_too}
+use Rattle.am_board.proofs.lemmas.invariant.Limits.{begin_within, begin_caused}
+use Rattle.am_board.proofs.lemmas.invariant.Sound.{good}
 use Rattle.am_board.proofs.board.Board.begin.Goals as goal
 
 pub take_group-requires-clause-good : goal.take_group-requires-clause-good

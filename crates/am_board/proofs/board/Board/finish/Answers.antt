@@ -4,8 +4,8 @@ use Rattle.am_board.specs.declared.flush.OpenFlush.{OpenFlush}
 use Rattle.am_model.specs.State.{flush_numbered}
 use Rattle.am_model.specs.Ticket.{TicketData}
 use Rattle.am_board.specs.History.{BoardData, state_at}
-use Rattle.am_board.proofs.keeping.Closing.{none_open, not_none, finish_recorded, finish_told, finish_sound}
-use Rattle.am_board.proofs.keeping.Sound.{good}
+use Rattle.am_board.proofs.lemmas.invariant.Closing.{none_open, not_none, finish_recorded, finish_told, finish_sound}
+use Rattle.am_board.proofs.lemmas.invariant.Sound.{good}
 use Rattle.am_board.proofs.board.Board.finish.Goals as goal
 
 pub finish_flush-requires-clause-good : goal.finish_flush-requires-clause-good

@@ -2,8 +2,8 @@ use Rattle.std.proofs.Common.{◌∙◌, ap, arith}
 use Rattle.am_board.specs.History.{BoardData}
 use Rattle.am_model.specs.Views.{SummaryData}
 use Rattle.am_model.specs.declared.views.Glance.{Glance}
-use Rattle.am_board.proofs.keeping.Calls.{summary_then}
-use Rattle.am_board.proofs.keeping.Sound.{opened_now}
+use Rattle.am_board.proofs.lemmas.invariant.Calls.{summary_then}
+use Rattle.am_board.proofs.lemmas.invariant.Sound.{opened_now}
 use Rattle.am_board.proofs.board.Board.glance.Goals as goal
 
 pub returns-clause-glance : goal.returns-clause-glance

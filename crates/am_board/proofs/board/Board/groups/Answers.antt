@@ -1,8 +1,8 @@
 use Rattle.std.proofs.Common.{◌≡◌, List, subst}
 use Rattle.std.specs.Prelude.{IfOk}
 use Rattle.am_model.specs.declared.views.GroupView.{GroupView}
-use Rattle.am_board.proofs.keeping.Calls.{groups_at, few_views}
-use Rattle.am_board.proofs.keeping.Sound.{consistent_now}
+use Rattle.am_board.proofs.lemmas.invariant.Calls.{groups_at, few_views}
+use Rattle.am_board.proofs.lemmas.invariant.Sound.{consistent_now}
 use Rattle.am_board.proofs.board.Board.groups.Goals as goal
 
 pub groups_of-requires : goal.groups_of-requires

@@ -2,7 +2,7 @@ use Rattle.std.proofs.Common.{subst}
 use Rattle.am_board.specs.History.{BoardData}
 use Rattle.am_model.specs.look_back.Laws.{LooksBack}
 use Rattle.am_model.proofs.looking_back.LooksBack.{histories_look_back}
-use Rattle.am_board.proofs.keeping.Calls.{limits_kept}
+use Rattle.am_board.proofs.lemmas.invariant.Calls.{limits_kept}
 use Rattle.am_board.proofs.board.Board.history.Goals as goal
 
 pub returns-clause-looks_back : goal.returns-clause-looks_back

@@ -5,9 +5,9 @@ use Rattle.am_mute.specs.Sources.{AreLearnt}
 use Rattle.am_board.specs.Board.{IsSound}
 use Rattle.am_model.specs.declared.record.Call.TheVariants.{Insert}
 use Rattle.am_model.specs.declared.record.Reply.TheVariants as replies
-use Rattle.am_board.proofs.keeping.Calls.{recorded, told_now, refused, sound_again, caused}
-use Rattle.am_board.proofs.keeping.Limits.{insert_within, insert_caused}
-use Rattle.am_board.proofs.keeping.Sound.{good, sound_learnt}
+use Rattle.am_board.proofs.lemmas.invariant.Calls.{recorded, told_now, refused, sound_again, caused}
+use Rattle.am_board.proofs.lemmas.invariant.Limits.{insert_within, insert_caused}
+use Rattle.am_board.proofs.lemmas.invariant.Sound.{good, sound_learnt}
 use Rattle.am_board.proofs.board.Board.insert.Goals as goal
 use Rattle.am_board.proofs.board.Board.insert.Goals.{After-put_alert-inserted}
 

@@ -1,8 +1,8 @@
 use Rattle.am_model.specs.declared.record.Call.TheVariants.{Maintain}
 use Rattle.am_model.specs.declared.record.Reply.TheVariants as replies
-use Rattle.am_board.proofs.keeping.Calls.{recorded, told_now, refused, sound_again, caused}
-use Rattle.am_board.proofs.keeping.Limits.{maintain_within, maintain_caused}
-use Rattle.am_board.proofs.keeping.Sound.{good}
+use Rattle.am_board.proofs.lemmas.invariant.Calls.{recorded, told_now, refused, sound_again, caused}
+use Rattle.am_board.proofs.lemmas.invariant.Limits.{maintain_within, maintain_caused}
+use Rattle.am_board.proofs.lemmas.invariant.Sound.{good}
 use Rattle.am_board.proofs.board.Board.maintain.Goals as goal
 
 pub sweep-requires : goal.sweep-requires

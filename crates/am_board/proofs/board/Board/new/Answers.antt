@@ -10,9 +10,9 @@ use Rattle.am_model.specs.declared.record.Record.{Record}
 use Rattle.am_model.specs.Config.{config_fault}
 use Rattle.am_board.specs.GroupNameCache.{AreKept}
 use Rattle.am_board.specs.History.{BoardData, opening}
-use Rattle.am_board.proofs.keeping.GroupNameCache.{kept_none}
-use Rattle.am_board.proofs.keeping.Sound.{new_sound}
-use Rattle.am_board.proofs.keeping.Staying.{no_fault}
+use Rattle.am_board.proofs.lemmas.invariant.GroupNameCache.{kept_none}
+use Rattle.am_board.proofs.lemmas.invariant.Sound.{new_sound}
+use Rattle.am_board.proofs.lemmas.invariant.Staying.{no_fault}
 use Rattle.am_board.proofs.board.Board.new.Goals as goal
 
 opened : (config : Config) (id : ℕ) (history : List Record) → history ≡ [] → ◌≡◌ {A = Result BoardData BoardFault} (Ok (record { config = config; id = id; history = history })) (Ok (opening config id))

@@ -1,5 +1,5 @@
 use Rattle.std.proofs.Common.{◌∙◌}
-use Rattle.am_board.proofs.keeping.Calls.{due_at}
+use Rattle.am_board.proofs.lemmas.invariant.Calls.{due_at}
 use Rattle.am_board.proofs.board.Board.next_due.Goals as goal
 
 pub returns : goal.returns

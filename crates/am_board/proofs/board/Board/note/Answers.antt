@@ -1,5 +1,5 @@
-use Rattle.am_board.proofs.keeping.Calls.{noted_now, sound_noted}
-use Rattle.am_board.proofs.keeping.Sound.{good}
+use Rattle.am_board.proofs.lemmas.invariant.Calls.{noted_now, sound_noted}
+use Rattle.am_board.proofs.lemmas.invariant.Sound.{good}
 use Rattle.am_board.proofs.board.Board.note.Goals as goal
 
 pub note_success-requires : goal.note_success-requires

@@ -1,8 +1,8 @@
 use Rattle.std.proofs.Common.{◌≡◌, Option, subst}
 use Rattle.std.specs.Prelude.{IfOk}
 use Rattle.am_model.specs.declared.preview.Preview.{Preview}
-use Rattle.am_board.proofs.keeping.Calls.{preview_now, rows_timely}
-use Rattle.am_board.proofs.keeping.Sound.{good}
+use Rattle.am_board.proofs.lemmas.invariant.Calls.{preview_now, rows_timely}
+use Rattle.am_board.proofs.lemmas.invariant.Sound.{good}
 use Rattle.am_board.proofs.board.Board.preview.Goals as goal
 
 pub preview_of-requires-clause-good : goal.preview_of-requires-clause-good

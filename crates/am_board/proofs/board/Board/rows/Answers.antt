@@ -1,8 +1,8 @@
 use Rattle.std.proofs.Common.{◌≡◌, List, subst}
 use Rattle.std.specs.Prelude.{IfOk}
 use Rattle.am_model.specs.declared.views.RowView.{RowView}
-use Rattle.am_board.proofs.keeping.Calls.{rows_at}
-use Rattle.am_board.proofs.keeping.Sound.{consistent_now}
+use Rattle.am_board.proofs.lemmas.invariant.Calls.{rows_at}
+use Rattle.am_board.proofs.lemmas.invariant.Sound.{consistent_now}
 use Rattle.am_board.proofs.board.Board.rows.Goals as goal
 
 pub rows_of-requires : goal.rows_of-requires

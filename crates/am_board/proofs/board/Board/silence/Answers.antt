@@ -1,8 +1,8 @@
 use Rattle.am_model.specs.Records.{call_of_silence}
 use Rattle.am_model.specs.declared.record.Reply.TheVariants as replies
-use Rattle.am_board.proofs.keeping.Calls.{recorded, told_now, refused, sound_again, caused}
-use Rattle.am_board.proofs.keeping.Limits.{silence_within, silence_caused}
-use Rattle.am_board.proofs.keeping.Sound.{good}
+use Rattle.am_board.proofs.lemmas.invariant.Calls.{recorded, told_now, refused, sound_again, caused}
+use Rattle.am_board.proofs.lemmas.invariant.Limits.{silence_within, silence_caused}
+use Rattle.am_board.proofs.lemmas.invariant.Sound.{good}
 use Rattle.am_board.proofs.board.Board.silence.Goals as goal
 
 pub put_silence-requires : goal.put_silence-requires

@@ -1,8 +1,8 @@
 use Rattle.std.proofs.Common.{◌∙◌, ap, arith}
 use Rattle.am_board.specs.History.{BoardData}
 use Rattle.am_model.specs.Views.{SummaryData}
-use Rattle.am_board.proofs.keeping.Calls.{summary_then}
-use Rattle.am_board.proofs.keeping.Sound.{few_alerts, few_inserts, opened_now}
+use Rattle.am_board.proofs.lemmas.invariant.Calls.{summary_then}
+use Rattle.am_board.proofs.lemmas.invariant.Sound.{few_alerts, few_inserts, opened_now}
 use Rattle.am_board.proofs.board.Board.summary.Goals as goal
 
 pub summary_of-requires : goal.summary_of-requires

@@ -9,7 +9,7 @@ use Rattle.am_model.specs.Insert.{names_for}
 use Rattle.am_model.specs.declared.config.Config.{Config}
 use Rattle.am_model.specs.declared.group.GroupName.{GroupName}
 use Rattle.am_board.specs.GroupNameCache.{AreKept}
-use Rattle.am_board.proofs.keeping.GroupNameCache.{kept_of}
+use Rattle.am_board.proofs.lemmas.invariant.GroupNameCache.{kept_of}
 use Rattle.am_board.proofs.destinations.GroupNameCache.of.Goals as goal
 
 module _ (config : Config) (known : List AlertData) (labels : List Label) (kept : List (Option (List GroupName))) (i : ℕ) where

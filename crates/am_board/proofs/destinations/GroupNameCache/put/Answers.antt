@@ -1,6 +1,6 @@
 use Rattle.std.proofs.Common.{sym, subst, arith}
 use Rattle.am_board.specs.GroupNameCache.{AreKept}
-use Rattle.am_board.proofs.keeping.GroupNameCache.{kept_more, kept_there}
+use Rattle.am_board.proofs.lemmas.invariant.GroupNameCache.{kept_more, kept_there}
 use Rattle.am_board.proofs.destinations.GroupNameCache.put.Goals as goal
 
 pub loop-self-preserved : goal.loop-self-preserved

@@ -1,7 +1,7 @@
 use Rattle.std.proofs.Common.{◌∙◌, ap}
 use Rattle.std.specs.Ordering.{is_eq}
 use Rattle.am_board.specs.Due.{key_at, key_cmp}
-use Rattle.am_board.proofs.keeping.DueKeys.{other_key}
+use Rattle.am_board.proofs.lemmas.invariant.DueKeys.{other_key}
 use Rattle.am_board.proofs.due.DueSet.change.Goals as goal
 
 pub returns-clause-keeps : goal.returns-clause-keeps

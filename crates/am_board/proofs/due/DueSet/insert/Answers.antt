@@ -2,7 +2,7 @@ use Rattle.std.proofs.Common.{true≢false, sym, ap, ◌∙◌}
 use Rattle.std.specs.Ordering.{is_eq}
 use Rattle.am_board.specs.Due.{has_key, key_cmp}
 use Rattle.am_board.specs.declared.due.DueSet.{DueSet}
-use Rattle.am_board.proofs.keeping.DueKeys.{had_or}
+use Rattle.am_board.proofs.lemmas.invariant.DueKeys.{had_or}
 use Rattle.am_board.proofs.due.DueSet.insert.Goals as goal
 use Rattle.am_board.proofs.due.DueSet.insert.Goals.{in-Ok, in-Err}
 

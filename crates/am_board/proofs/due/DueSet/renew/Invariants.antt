@@ -1,4 +1,4 @@
-use Rattle.am_board.proofs.keeping.DueKeys.{HasBelow}
+use Rattle.am_board.proofs.lemmas.invariant.DueKeys.{HasBelow}
 use Rattle.am_board.proofs.due.DueSet.renew.Given as goal
 
 -- the set has the keys of the groups so far

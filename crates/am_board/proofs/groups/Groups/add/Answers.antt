@@ -10,8 +10,8 @@ use Rattle.am_model.specs.Lists.{upsert}
 use Rattle.am_model.specs.State.{same_name}
 use Rattle.am_board.specs.declared.group.Group.{Group}
 use Rattle.am_model.specs.declared.group.GroupName.{GroupName}
-use Rattle.am_board.proofs.keeping.DueKeys.{due_push}
-use Rattle.am_board.proofs.keeping.Keyed.{same_key, upsert-entries, AreKeyed-insert}
+use Rattle.am_board.proofs.lemmas.invariant.DueKeys.{due_push}
+use Rattle.am_board.proofs.lemmas.invariant.Keyed.{same_key, upsert-entries, AreKeyed-insert}
 use Rattle.am_model.proofs.lists.Places.{put_new}
 use Rattle.am_board.proofs.groups.Groups.add.Goals as goal
 use Rattle.am_board.proofs.groups.Groups.add.Goals.{After-unwrap}

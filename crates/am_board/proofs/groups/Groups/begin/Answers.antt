@@ -1,8 +1,8 @@
 use Rattle.std.proofs.Common.{◌≡◌, true, ap}
 use Rattle.indexmap.specs.IndexMap.{spare}
 use Rattle.am_board.specs.declared.group.Group.{Group}
-use Rattle.am_board.proofs.inserting.GroupRoom.{changes_at}
-use Rattle.am_board.proofs.keeping.DueKeys.{had_at, tied_change}
+use Rattle.am_board.proofs.lemmas.insert.GroupRoom.{changes_at}
+use Rattle.am_board.proofs.lemmas.invariant.DueKeys.{had_at, tied_change}
 use Rattle.am_board.proofs.groups.Groups.begin.Goals as goal
 
 pub change-requires : goal.change-requires

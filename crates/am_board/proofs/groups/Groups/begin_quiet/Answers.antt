@@ -3,8 +3,8 @@ use Rattle.indexmap.specs.IndexMap.{spare}
 use Rattle.am_board.specs.Refinement.{group_state}
 use Rattle.am_model.specs.State.{GroupState}
 use Rattle.am_board.specs.declared.group.Group.{Group}
-use Rattle.am_board.proofs.inserting.GroupRoom.{changes_at, lent_as}
-use Rattle.am_board.proofs.keeping.DueKeys.{had_at, tied_change}
+use Rattle.am_board.proofs.lemmas.insert.GroupRoom.{changes_at, lent_as}
+use Rattle.am_board.proofs.lemmas.invariant.DueKeys.{had_at, tied_change}
 use Rattle.am_model.specs.Begin.{count_resolved, without_resolved}
 use Rattle.am_board.proofs.groups.Groups.begin_quiet.Goals as goal
 

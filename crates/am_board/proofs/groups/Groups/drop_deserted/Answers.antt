@@ -13,8 +13,8 @@ use Rattle.am_board.specs.Refinement.{group_state}
 use Rattle.am_model.specs.Lists.{without}
 use Rattle.am_model.specs.State.{same_name}
 use Rattle.am_model.specs.Upkeep.{is_deserted}
-use Rattle.am_board.proofs.keeping.Keyed.{values-filter, length-values, AreKeyed-filter}
-use Rattle.am_board.proofs.maintaining.Maintenance.{map-without, length-without, All-map_filter}
+use Rattle.am_board.proofs.lemmas.invariant.Keyed.{values-filter, length-values, AreKeyed-filter}
+use Rattle.am_board.proofs.lemmas.maintain.Maintenance.{map-without, length-without, All-map_filter}
 use Rattle.am_board.proofs.groups.Groups.drop_deserted.Goals as goal
 use Rattle.am_board.proofs.groups.Groups.drop_deserted.Goals.{After-retain}
 

@@ -3,7 +3,7 @@ use Rattle.std.specs.List.{position}
 use Rattle.am_board.specs.GroupList.{GroupList, name_of}
 use Rattle.am_model.specs.State.{same_name}
 use Rattle.am_board.specs.declared.group.Group.{Group}
-use Rattle.am_board.proofs.keeping.Keyed.{place_of-keys}
+use Rattle.am_board.proofs.lemmas.invariant.Keyed.{place_of-keys}
 use Rattle.am_board.proofs.groups.Groups.find.Goals as goal
 
 pub returns-clause-place : goal.returns-clause-place

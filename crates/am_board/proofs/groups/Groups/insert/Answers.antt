@@ -1,7 +1,7 @@
 use Rattle.std.proofs.Common.{refl}
 use Rattle.indexmap.specs.IndexMap.{spare}
-use Rattle.am_board.proofs.inserting.GroupRoom.{changes_at}
-use Rattle.am_board.proofs.keeping.DueKeys.{had_at, tied_change}
+use Rattle.am_board.proofs.lemmas.insert.GroupRoom.{changes_at}
+use Rattle.am_board.proofs.lemmas.invariant.DueKeys.{had_at, tied_change}
 use Rattle.am_board.specs.Group.{Gets}
 use Rattle.am_board.specs.Refinement.{member_state}
 use Rattle.am_board.proofs.groups.Groups.insert.Goals as goal

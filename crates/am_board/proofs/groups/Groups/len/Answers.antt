@@ -1,6 +1,6 @@
 use Rattle.std.proofs.Common.{◌∙◌, length, ap, sym}
 use Rattle.am_board.specs.GroupList.{GroupList}
-use Rattle.am_board.proofs.keeping.Keyed.{length-values}
+use Rattle.am_board.proofs.lemmas.invariant.Keyed.{length-values}
 use Rattle.am_board.proofs.groups.Groups.len.Goals as goal
 
 pub returns-clause-len : goal.returns-clause-len

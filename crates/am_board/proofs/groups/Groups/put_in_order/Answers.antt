@@ -1,9 +1,9 @@
 use Rattle.std.proofs.Common.{ap}
 use Rattle.indexmap.specs.IndexMap.{spare}
 use Rattle.am_board.specs.declared.group.Group.{Group}
-use Rattle.am_board.proofs.beginning.PlannedFlushes.{members-apart}
-use Rattle.am_board.proofs.inserting.GroupRoom.{lent_at, same_at}
-use Rattle.am_board.proofs.keeping.DueKeys.{tied_same}
+use Rattle.am_board.proofs.lemmas.begin.PlannedFlushes.{members-apart}
+use Rattle.am_board.proofs.lemmas.insert.GroupRoom.{lent_at, same_at}
+use Rattle.am_board.proofs.lemmas.invariant.DueKeys.{tied_same}
 use Rattle.am_board.proofs.groups.Groups.put_in_order.Goals as goal
 
 pub put_in_order-requires : goal.put_in_order-requires

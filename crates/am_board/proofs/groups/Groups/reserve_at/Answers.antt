@@ -2,8 +2,8 @@ use Rattle.std.proofs.Common.{ap, sym, subst}
 use Rattle.indexmap.specs.IndexMap.{spare}
 use Rattle.am_model.specs.State.{GroupState}
 use Rattle.am_board.specs.declared.group.Group.{Group}
-use Rattle.am_board.proofs.inserting.GroupRoom.{changes_at, written_at}
-use Rattle.am_board.proofs.keeping.DueKeys.{tied_same}
+use Rattle.am_board.proofs.lemmas.insert.GroupRoom.{changes_at, written_at}
+use Rattle.am_board.proofs.lemmas.invariant.DueKeys.{tied_same}
 use Rattle.am_board.specs.Group.{Fits, IsReserved}
 use Rattle.std.proofs.lemmas.Result.{on_ok_weaker}
 use Rattle.am_board.proofs.groups.Groups.reserve_at.Goals as goal

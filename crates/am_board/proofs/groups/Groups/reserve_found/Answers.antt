@@ -3,8 +3,8 @@ use Rattle.std.proofs.lemmas.Result.{on_ok_weaker}
 use Rattle.am_board.specs.Group.{names_of}
 use Rattle.am_board.specs.Refinement.{group_state}
 use Rattle.am_board.specs.declared.group.Group.{Group}
-use Rattle.am_board.proofs.keeping.GroupNames.{names_set, states_set}
-use Rattle.am_board.proofs.inserting.GroupRoom.{room_missing, room_reserved}
+use Rattle.am_board.proofs.lemmas.invariant.GroupNames.{names_set, states_set}
+use Rattle.am_board.proofs.lemmas.insert.GroupRoom.{room_missing, room_reserved}
 use Rattle.am_board.proofs.groups.Groups.reserve_found.Goals as goal
 
 pub returns-in-Some-clause-names : goal.returns-in-Some-clause-names

@@ -6,7 +6,7 @@ use Rattle.std.proofs.lemmas.Map.Iter.{rest_more, rest_all}
 use Rattle.am_board.specs.Due.{has_key, key_cmp, key_of}
 use Rattle.am_board.specs.Refinement.{flush_state}
 use Rattle.am_board.specs.declared.due.DueKey.{DueKey}
-use Rattle.am_board.proofs.beginning.DueWalk.{AreAhead, rest_sorted, walk_ends, walk_late, walk_passes, walk_takes}
+use Rattle.am_board.proofs.lemmas.begin.DueWalk.{AreAhead, rest_sorted, walk_ends, walk_late, walk_passes, walk_takes}
 use Rattle.am_board.proofs.groups.first.first_by_keys.Goals as goal
 use Rattle.am_board.proofs.groups.first.first_by_keys.Goals.{In-Some}
 

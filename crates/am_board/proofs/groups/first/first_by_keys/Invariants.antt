@@ -3,7 +3,7 @@ use Rattle.std.specs.List.Sorted.{IsStrictlySortedBy}
 use Rattle.std.specs.Map.{values_of}
 use Rattle.am_board.specs.Due.{key_cmp}
 use Rattle.am_board.specs.Refinement.{flush_state}
-use Rattle.am_board.proofs.beginning.DueWalk.{AreAhead}
+use Rattle.am_board.proofs.lemmas.begin.DueWalk.{AreAhead}
 use Rattle.am_board.proofs.groups.first.first_by_keys.Given as goal
 
 -- the keys that are left are in order, and each group that may be taken has its own among them

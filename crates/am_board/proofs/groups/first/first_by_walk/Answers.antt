@@ -5,7 +5,7 @@ use Rattle.am_board.specs.Refinement.{group_state, flush_state}
 use Rattle.am_model.specs.Lists.{lesser}
 use Rattle.am_model.specs.State.{GroupState}
 use Rattle.am_board.specs.Beginning.{first_of, IsFirst}
-use Rattle.am_board.proofs.beginning.FirstDue.{first_of-taken, first_of-passed, first_seen}
+use Rattle.am_board.proofs.lemmas.begin.FirstDue.{first_of-taken, first_of-passed, first_seen}
 use Rattle.am_board.proofs.groups.first.first_by_walk.Goals as goal
 
 pub loop-i-preserved-then-may_begin : goal.loop-i-preserved-then-may_begin

@@ -1,5 +1,5 @@
 use Rattle.std.proofs.Common.{sym, ◌∙◌}
-use Rattle.am_board.proofs.beginning.FirstDue.{is_flushing-kept}
+use Rattle.am_board.proofs.lemmas.begin.FirstDue.{is_flushing-kept}
 use Rattle.am_board.proofs.groups.first.free_place.Goals as goal
 
 pub returns-then-is_open : goal.returns-then-is_open

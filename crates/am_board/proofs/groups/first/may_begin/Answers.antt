@@ -1,7 +1,7 @@
 use Rattle.std.proofs.Common.{◌≡◌, true, not, ◌&&◌, nat_le, map, sym, ap, ◌∙◌, rules}
 use Rattle.am_board.specs.Refinement.{flush_state}
 use Rattle.am_model.specs.State.{is_flushing}
-use Rattle.am_board.proofs.beginning.FirstDue.{is_flushing-kept}
+use Rattle.am_board.proofs.lemmas.begin.FirstDue.{is_flushing-kept}
 use Rattle.am_board.proofs.groups.first.may_begin.Goals as goal
 
 pub returns-then-group-t : goal.returns-then-group-t

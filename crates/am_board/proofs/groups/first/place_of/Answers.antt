@@ -6,9 +6,9 @@ use Rattle.am_board.specs.Due.{IsCurrent}
 use Rattle.am_board.specs.Group.{names_of}
 use Rattle.am_board.specs.GroupList.{name_of}
 use Rattle.am_board.specs.declared.group.Group.{Group}
-use Rattle.am_board.proofs.beginning.DuePlaces.{current_none, current_some, current_stale}
-use Rattle.am_board.proofs.keeping.DueKeys.{names-keys}
-use Rattle.am_board.proofs.keeping.Keyed.{place_of-keys, value_at}
+use Rattle.am_board.proofs.lemmas.begin.DuePlaces.{current_none, current_some, current_stale}
+use Rattle.am_board.proofs.lemmas.invariant.DueKeys.{names-keys}
+use Rattle.am_board.proofs.lemmas.invariant.Keyed.{place_of-keys, value_at}
 use Rattle.am_board.proofs.groups.first.place_of.Goals as goal
 use Rattle.am_board.proofs.groups.first.place_of.Goals.{After-index}
 

@@ -3,7 +3,7 @@ use Rattle.std.specs.List.{position}
 use Rattle.am_alerts.specs.AlertData.{AlertData}
 use Rattle.am_alerts.specs.Labels.{same_label_set}
 use Rattle.am_board.specs.Known.{KnownAlerts, labels_of}
-use Rattle.am_board.proofs.keeping.Keyed.{place_of-keys}
+use Rattle.am_board.proofs.lemmas.invariant.Keyed.{place_of-keys}
 use Rattle.am_board.proofs.known.Known.find.Goals as goal
 
 pub returns-clause-place : goal.returns-clause-place

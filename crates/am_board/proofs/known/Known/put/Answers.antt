@@ -11,7 +11,7 @@ use Rattle.am_model.specs.Insert.{same_alert}
 use Rattle.am_board.specs.Keyed.{AreKeyed}
 use Rattle.am_board.specs.Known.{KnownAlerts, labels_of}
 use Rattle.am_model.specs.Lists.{upsert}
-use Rattle.am_board.proofs.keeping.Keyed.{place_of-keys, upsert-entries, set-insert, AreKeyed-insert}
+use Rattle.am_board.proofs.lemmas.invariant.Keyed.{place_of-keys, upsert-entries, set-insert, AreKeyed-insert}
 use Rattle.am_board.proofs.known.Known.put.Goals as goal
 use Rattle.am_board.proofs.known.Known.put.Goals.{in-Some-1, in-None-1, After-unwrap}
 

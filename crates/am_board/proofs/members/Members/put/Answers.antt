@@ -10,7 +10,7 @@ use Rattle.am_board.specs.Refinement.{member_state}
 use Rattle.am_board.specs.Members.{MemberList, AreMembers}
 use Rattle.am_board.specs.Order.{IsOrder}
 use Rattle.am_board.specs.declared.group.Member.{Member}
-use Rattle.am_board.proofs.keeping.Members.{are_put, members_put, order_put}
+use Rattle.am_board.proofs.lemmas.invariant.Members.{are_put, members_put, order_put}
 use Rattle.am_board.proofs.members.Members.put.Goals as goal
 use Rattle.am_board.proofs.members.Members.put.Goals.{After-unwrap}
 

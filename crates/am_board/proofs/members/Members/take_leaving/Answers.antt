@@ -6,8 +6,8 @@ use Rattle.am_board.specs.Refinement.{member_state, stamped}
 use Rattle.std.specs.Map.{values_of}
 use Rattle.am_board.specs.Members.{MemberList}
 use Rattle.am_board.specs.Order.{IsOrder}
-use Rattle.am_board.proofs.finishing.LeavingAlerts.{others_stay, are_unmarked, nothing_leaves, nothing_counts}
-use Rattle.am_board.proofs.keeping.Members.{members_left, members_gone}
+use Rattle.am_board.proofs.lemmas.finish.LeavingAlerts.{others_stay, are_unmarked, nothing_leaves, nothing_counts}
+use Rattle.am_board.proofs.lemmas.invariant.Members.{members_left, members_gone}
 use Rattle.am_board.proofs.members.Members.take_leaving.Goals as goal
 use Rattle.am_board.proofs.members.Members.take_leaving.Goals.{After-retain}
 

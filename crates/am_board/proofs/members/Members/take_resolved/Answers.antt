@@ -9,7 +9,7 @@ use Rattle.std.specs.Map.{values_of}
 use Rattle.am_board.specs.Members.{MemberList}
 use Rattle.am_board.specs.Order.{IsOrder}
 use Rattle.am_board.specs.declared.group.Member.{Member}
-use Rattle.am_board.proofs.keeping.Members.{all_stay, none_over, are_left, members_left, members_gone}
+use Rattle.am_board.proofs.lemmas.invariant.Members.{all_stay, none_over, are_left, members_left, members_gone}
 use Rattle.am_board.proofs.members.Members.take_resolved.Goals as goal
 use Rattle.am_board.proofs.members.Members.take_resolved.Goals.{After-retain}
 

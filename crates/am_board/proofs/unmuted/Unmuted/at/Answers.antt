@@ -1,6 +1,6 @@
 use Rattle.std.proofs.Common.{map, ap, ◌∙◌}
 use Rattle.am_board.specs.Refinement.{state_of}
-use Rattle.am_board.proofs.beginning.WhatIsUnmuted.{is_found}
+use Rattle.am_board.proofs.lemmas.begin.WhatIsUnmuted.{is_found}
 use Rattle.am_board.proofs.unmuted.Unmuted.at.Goals as goal
 
 pub returns : goal.returns

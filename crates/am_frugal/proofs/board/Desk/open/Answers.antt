@@ -1,6 +1,6 @@
 use Rattle.std.proofs.Common.{ap}
 use Rattle.am_board.specs.History.{BoardData}
-use Rattle.am_board.proofs.keeping.Staying.{unless_value}
+use Rattle.am_board.proofs.lemmas.invariant.Staying.{unless_value}
 use Rattle.am_frugal.proofs.board.Desk.open.Goals as goal
 
 pub invariant_of-result : goal.invariant_of-result

@@ -1,4 +1,4 @@
-use Rattle.am_play.proofs.Meetings.{passes_met}
+use Rattle.am_play.proofs.lemmas.lanes.Meetings.{passes_met}
 use Rattle.am_play.proofs.lane.LaneState.meet.Goals as goal
 
 pub returns : goal.returns

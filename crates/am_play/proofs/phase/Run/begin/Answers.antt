@@ -1,6 +1,6 @@
 use Rattle.std.proofs.Common.{◌∙◌, List, [], ◌∷◌, ◌++◌, refl, ap}
 use Rattle.am_model.specs.Ticket.{TicketData}
-use Rattle.am_play.proofs.Steps.{begins_flush, begins_full, one_record}
+use Rattle.am_play.proofs.lemmas.phases.Steps.{begins_flush, begins_full, one_record}
 use Rattle.am_play.proofs.phase.Run.begin.Goals as goal
 
 pub returns-in-Ok-Flush-clause-begins : goal.returns-in-Ok-Flush-clause-begins

@@ -1,6 +1,6 @@
 use Rattle.std.proofs.Common.{◌≡◌, ◌∙◌, Bool, true, false, refl, subst, rules}
 use Rattle.am_play.specs.Steps.{Begins}
-use Rattle.am_play.proofs.Steps.{begins_more, begins_start}
+use Rattle.am_play.proofs.lemmas.phases.Steps.{begins_more, begins_start}
 use Rattle.am_play.proofs.phase.Run.begin_all.Goals as goal
 
 pub loop-init : goal.loop-init

@@ -4,7 +4,7 @@ use Rattle.am_desk.specs.Desks.{IsPrefixViewOf}
 use Rattle.am_desk.specs.Known.{Seen}
 use Rattle.am_play.specs.Runs.{lanes_of}
 use Rattle.am_play.specs.declared.lane.LaneState.{LaneState}
-use Rattle.am_play.proofs.LaneStates.{all_last, all_middle}
+use Rattle.am_play.proofs.lemmas.lanes.LaneStates.{all_last, all_middle}
 use Rattle.am_play.proofs.phase.Run.close.Goals as goal
 
 pub returns-clause-main : goal.returns-clause-main

@@ -1,4 +1,4 @@
-use Rattle.am_play.proofs.Steps.{one_finish}
+use Rattle.am_play.proofs.lemmas.phases.Steps.{one_finish}
 use Rattle.am_play.proofs.phase.Run.finish.Goals as goal
 
 pub returns-in-Ok-clause-finished : goal.returns-in-Ok-clause-finished

@@ -1,7 +1,7 @@
 use Rattle.std.proofs.Common.{vec_len}
 use Rattle.am_play.specs.Runs.{Keeps}
 use Rattle.am_play.specs.PhaseFaults.{HasNoFault}
-use Rattle.am_play.proofs.Turns.{FinishesSoFar}
+use Rattle.am_play.proofs.lemmas.phases.Turns.{FinishesSoFar}
 use Rattle.am_play.proofs.phase.Run.finish_all.Given as goal
 
 abbrev pub invariant-loop-left : goal.invariant-loop-left

@@ -1,5 +1,5 @@
 use Rattle.std.proofs.Common.{◌∙◌, refl, arith}
-use Rattle.am_play.proofs.Noting.{noted_ticket}
+use Rattle.am_play.proofs.lemmas.phases.Noting.{noted_ticket}
 use Rattle.am_play.proofs.phase.Run.note_all.Goals as goal
 
 pub loop-own-preserved : goal.loop-own-preserved

@@ -7,8 +7,8 @@ use Rattle.am_play.specs.Runs.{lanes_of}
 use Rattle.am_play.specs.LaneStates.{passes_in}
 use Rattle.am_play.specs.Steps.{Begins, Finishes, Sends}
 use Rattle.am_play.specs.PhaseFaults.{HasNoFault}
-use Rattle.am_play.proofs.Steps.{begins_asked, begins_none, same_records}
-use Rattle.am_play.proofs.Turns.{if_ok, part_taken}
+use Rattle.am_play.proofs.lemmas.phases.Steps.{begins_asked, begins_none, same_records}
+use Rattle.am_play.proofs.lemmas.phases.Turns.{if_ok, part_taken}
 use Rattle.am_play.proofs.phase.Run.run_phase.Goals as goal
 use Rattle.am_play.proofs.phase.Run.run_phase.Goals.{then-flush, else-flush}
 

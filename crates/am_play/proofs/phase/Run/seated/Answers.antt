@@ -5,9 +5,9 @@ use Rattle.am_desk.specs.Known.{Seen}
 use Rattle.am_play.specs.Interleaving.{BeforePhases}
 use Rattle.am_play.specs.LaneStates.{HaveMade}
 use Rattle.am_play.specs.declared.lane.LaneState.{LaneState}
-use Rattle.am_play.proofs.Calls.{fresh_made}
-use Rattle.am_play.proofs.Lanes.{first_fresh, fresh_numbers}
-use Rattle.am_play.proofs.Turns.{first_is_fresh}
+use Rattle.am_play.proofs.lemmas.lanes.Calls.{fresh_made}
+use Rattle.am_play.proofs.lemmas.lanes.Lanes.{first_fresh, fresh_numbers}
+use Rattle.am_play.proofs.lemmas.phases.Turns.{first_is_fresh}
 use Rattle.am_play.proofs.phase.Run.seated.Goals as goal
 
 pub returns-clause-numbers : goal.returns-clause-numbers

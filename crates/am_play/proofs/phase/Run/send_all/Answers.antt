@@ -2,7 +2,7 @@ use Rattle.std.proofs.Common.{subst, sym}
 use Rattle.am_play.specs.Interleaving.{RanConcurrently}
 use Rattle.am_play.specs.Runs.{lanes_of}
 use Rattle.am_play.specs.LaneStates.{passes_in}
-use Rattle.am_play.proofs.Meetings.{quiet_first}
+use Rattle.am_play.proofs.lemmas.lanes.Meetings.{quiet_first}
 use Rattle.am_play.proofs.phase.Run.send_all.Goals as goal
 
 pub returns-clause-beside : goal.returns-clause-beside

@@ -8,7 +8,7 @@ use Rattle.am_desk.specs.Known.{Seen}
 use Rattle.am_play.specs.Steps.{Notes, end_on, is_recorded_success, notes_of}
 use Rattle.am_play.specs.PhaseFaults.{HasNoFault}
 use Rattle.am_play.specs.Turns.{report_on}
-use Rattle.am_play.proofs.Noting.{noted_next, passed_next}
+use Rattle.am_play.proofs.lemmas.phases.Noting.{noted_next, passed_next}
 use Rattle.am_play.proofs.phase.Run.settle.Goals as goal
 use Rattle.am_play.proofs.phase.Run.settle.Goals.{then-succeeded, else-succeeded}
 

@@ -1,7 +1,7 @@
 use Rattle.std.proofs.Common.{ℕ, ap, length, ◌∙◌, sym}
 use Rattle.std.specs.List.{range_with_len}
 use Rattle.am_board.specs.History.{BoardData}
-use Rattle.am_board.proofs.keeping.Staying.{unless_value}
+use Rattle.am_board.proofs.lemmas.invariant.Staying.{unless_value}
 use Rattle.am_rehearsal.specs.EventOrder.{begin_indices}
 use Rattle.am_rehearsal.specs.Previews.{previews_of}
 use Rattle.am_rehearsal.specs.Planned.{input_trace}

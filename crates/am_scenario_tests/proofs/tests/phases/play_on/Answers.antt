@@ -1,6 +1,6 @@
 use Rattle.am_desk.proofs.Crossing.{every}
 use Rattle.am_ghost.proofs.ghost_list.GhostList.TheSendSync as trail
-use Rattle.am_play.proofs.Crossing.{script_sync}
+use Rattle.am_play.proofs.lemmas.lanes.Crossing.{script_sync}
 use Rattle.am_scenario_tests.proofs.tests.phases.play_on.Goals as goal
 
 pub run_until_fault-requires-send-C : goal.run_until_fault-requires-send-C

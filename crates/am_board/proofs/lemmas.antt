@@ -1,0 +1,6 @@
+pub mod begin
+pub mod finish
+pub mod insert
+pub mod invariant
+pub mod maintain
+pub mod note

@@ -1,0 +1,131 @@
+-- No accepted call passes a limit, and each cause of a refusal is one at the state after the history.
+use Rattle.std.proofs.Common.{◌≡◌, ℕ, ◌+◌, ◌≤◌, true, false, ◌&&◌, nat_le, Option, Some, None, List, [], ◌∷◌, ◌++◌, length, vec_len, refl, ap, ◌∙◌, subst, arith, if◌then◌else◌}
+use Rattle.std.proofs.lemmas.Bool.Decides.{nat_tests}
+use Rattle.std.proofs.lemmas.List.{length-append}
+use Rattle.am_alerts.specs.AlertData.{AlertData}
+use Rattle.am_mute.specs.Silence.{SilenceData}
+use Rattle.am_board.specs.declared.board.Board.TheInside.{Inside}
+use Rattle.am_model.specs.declared.fault.Fault.TheVariants.{HistoryFull, TooManyNames, TooManySilences, TooManyOpen}
+use Rattle.am_model.specs.declared.record.Call.{Call}
+use Rattle.am_model.specs.declared.record.Call.TheVariants.{Insert, Begin, Maintain}
+use Rattle.am_model.specs.declared.record.Inserted.{Inserted}
+use Rattle.am_model.specs.declared.record.Maintained.{Maintained}
+use Rattle.am_model.specs.declared.record.Reply.{Reply}
+use Rattle.am_model.specs.declared.record.Reply.TheVariants as replies
+use Rattle.am_model.specs.declared.record.Silenced.{Silenced}
+use Rattle.am_board.specs.declared.state.State as kept
+use Rattle.am_board.specs.declared.begin.Begun.{Begun}
+use Rattle.am_model.specs.declared.config.Config.{Config}
+use Rattle.am_model.specs.declared.config.Integration.{Integration}
+use Rattle.am_board.specs.Board.{IsSound}
+use Rattle.am_model.specs.Begin.{taken, asked_of, flush_asking, after_asking, after_taking}
+use Rattle.am_model.specs.Causes.{is_name_too_many, is_silence_too_many, insert_cause, silence_cause, begin_cause, maintain_cause, asks_some, opens_by}
+use Rattle.am_board.specs.History.{BoardData, calls_at, state_at, reply_of}
+use Rattle.am_model.specs.Records.{call_of_silence, entry}
+use Rattle.am_board.specs.Refinement.{state_of}
+use Rattle.am_model.specs.Insert.{same_alert}
+use Rattle.am_model.specs.Replay.{replay, after_call}
+use Rattle.am_model.specs.Upkeep.{same_silence}
+use Rattle.am_model.specs.State.{GroupState, State, moment}
+use Rattle.am_board.specs.Step.{AppliesCall}
+use Rattle.am_board.proofs.lemmas.invariant.Agreeing.{insert_cause-agrees, silence_cause-agrees, maintain_cause-agrees, begin_cause-agrees}
+use Rattle.am_model.proofs.legal.FewGroups.{few_inserted}
+use Rattle.am_model.proofs.legal.FewKnown.{fits-upsert, neither_cause}
+use Rattle.am_board.proofs.lemmas.invariant.Calls.{IsWithin, room_of, opened_then}
+use Rattle.am_board.proofs.lemmas.invariant.Sound.{IsFew, few_after, opened_now, counted, consistent_now}
+
+-- a call that opens no flush passes no limit, where the history has room for one record more
+keeps_within : (b : Inside) (sound : IsSound b) (pass : ℕ) (call : Call) (reply : Reply) (new : kept.State) → AppliesCall b.config b.id (entry pass call reply) b.state new
+    → length (after_call b.config (state_of b.state) call).flushes ≤ length (state_of b.state).flushes
+    → vec_len b.state.history + length (state_of b.state).flushes + 1 ≤ b.config.limits.history
+    → IsFew b.config (after_call b.config (state_of b.state) call)
+    → IsWithin b.config (after_call b.config (state_of b.state) call) new
+keeps_within b sound pass call reply new accepts few room still =
+    let opened = opened_then b.config b.id (entry pass call reply) b.state new accepts in
+    let before = opened_now b.state in
+    (still, omega (arith, opened, before, few, sound.opened), omega (arith, opened, few, room, accepts.records))
+
+module _ (b : Inside) (sound : IsSound b) (pass now : ℕ) (new : kept.State) where
+  pub insert_within : (alert : AlertData) (x : Inserted) → insert_cause b.config (vec_len b.state.history) (state_of b.state) alert ≡ None
+      → AppliesCall b.config b.id (entry pass (Insert now alert) (replies.Inserted x)) b.state new → IsWithin b.config (after_call b.config (state_of b.state) (Insert now alert)) new
+  insert_within alert x none accepts =
+      let s : State = state_of b.state in
+      let parts = room_of b.config (vec_len b.state.history) s 1 (Some HistoryFull) _ none (λ h. absurd (cc)) in
+      let names = neither_cause (is_name_too_many b.config s alert) TooManyNames _ parts.1 in
+      keeps_within b sound pass (Insert now alert) (replies.Inserted x) new accepts (omega arith) parts.0
+      (fits-upsert same_alert alert s.known b.config.limits.names sound.names names.0, few_inserted b.config s (moment s now) alert (is_name_too_many b.config s alert) parts.1, sound.silences)
+
+  pub silence_within : (silence : SilenceData) (x : Silenced) → silence_cause b.config (vec_len b.state.history) (state_of b.state) silence ≡ None
+      → AppliesCall b.config b.id (entry pass (call_of_silence now silence) (replies.Silenced x)) b.state new → IsWithin b.config (after_call b.config (state_of b.state) (call_of_silence now silence)) new
+  silence_within silence x none accepts =
+      let parts = room_of b.config (vec_len b.state.history) (state_of b.state) 1 (Some HistoryFull) _ none (λ h. absurd (cc)) in
+      let few = neither_cause (is_silence_too_many b.config (state_of b.state) silence) TooManySilences None parts.1 in
+      keeps_within b sound pass (call_of_silence now silence) (replies.Silenced x) new accepts (omega arith)
+      parts.0
+      (sound.names, sound.groups, fits-upsert same_silence silence (state_of b.state).silences b.config.limits.silences sound.silences few.0)
+
+  pub maintain_within : (x : Maintained) → maintain_cause b.config (vec_len b.state.history) (state_of b.state) ≡ None
+      → AppliesCall b.config b.id (entry pass (Maintain now) (replies.Maintained x)) b.state new → IsWithin b.config (after_call b.config (state_of b.state) (Maintain now)) new
+  maintain_within x none accepts =
+      keeps_within b sound pass (Maintain now) (replies.Maintained x) new accepts (omega arith)
+      (room_of b.config (vec_len b.state.history) (state_of b.state) 1 (Some HistoryFull) None none (λ h. absurd (cc))).0
+      (few_after b sound (Maintain now) refl refl)
+
+-- ---- a begin opens a flush only where one more may be open
+
+fits_asking : (config : Config) (s : State) (t : ℕ) (g : GroupState) (asked : List (ℕ × Integration)) → length s.flushes ≤ config.limits.flushes
+    → (if nat_le config.limits.flushes (length s.flushes) && asks_some asked then Some TooManyOpen else None) ≡ None
+    → (length (after_asking config s t g asked).flushes ≤ config.limits.flushes) × (length (after_asking config s t g asked).flushes ≤ length s.flushes + 1)
+fits_asking config s t g [] few none = (few, omega arith)
+fits_asking config s t g (i ∷ is) few none =
+    let longer : length (s.flushes ++ flush_asking config s t g (i ∷ is) ∷ []) ≡ length s.flushes + 1 = length-append s.flushes (flush_asking config s t g (i ∷ is) ∷ []) in
+    elim (nat_le config.limits.flushes (length s.flushes)) as (λ b. nat_le config.limits.flushes (length s.flushes) ≡ b → (if b && true then Some TooManyOpen else None) ≡ None
+    → (length (s.flushes ++ flush_asking config s t g (i ∷ is) ∷ []) ≤ config.limits.flushes) × (length (s.flushes ++ flush_asking config s t g (i ∷ is) ∷ []) ≤ length s.flushes + 1)) [
+      | true ↦ λ e h. absurd (cc)
+      | false ↦ λ e h. (grind (arith, nat_tests, e, longer), omega (arith, longer))
+    ] refl none
+
+fits_taking : (config : Config) (s : State) (t : ℕ) (o : Option GroupState) → length s.flushes ≤ config.limits.flushes
+    → (if nat_le config.limits.flushes (length s.flushes) && opens_by config s t o then Some TooManyOpen else None) ≡ None
+    → (length (after_taking config s t o).flushes ≤ config.limits.flushes) × (length (after_taking config s t o).flushes ≤ length s.flushes + 1)
+fits_taking config s t None few none = (few, omega arith)
+fits_taking config s t (Some g) few none = fits_asking config s t g (asked_of config s t g) few none
+
+pub begin_within : (b : Inside) (sound : IsSound b) (pass now : ℕ) (new : kept.State) (x : Begun) → begin_cause b.config (vec_len b.state.history) (state_of b.state) (moment (state_of b.state) now) ≡ None
+    → AppliesCall b.config b.id (entry pass (Begin now) (reply_of x)) b.state new → IsWithin b.config (after_call b.config (state_of b.state) (Begin now)) new
+begin_within b sound pass now new x none accepts =
+    let s : State = state_of b.state in
+    let t : ℕ = moment s now in
+    let parts = room_of b.config (vec_len b.state.history) s 2 (Some HistoryFull) _ none (λ h. absurd (cc)) in
+    let before = opened_now b.state in
+    let few : length s.flushes ≤ b.config.limits.flushes = omega (arith, before, sound.opened) in
+    let fits = fits_taking b.config s t (taken s t) few parts.1 in
+    let opened = opened_then b.config b.id (entry pass (Begin now) (reply_of x)) b.state new accepts in
+    (few_after b sound (Begin now) refl refl, omega (arith, opened, fits.0), omega (arith, opened, fits.1, parts.0, accepts.records))
+
+-- a cause at the state that is kept is one at the state after the history
+module _ (b : Inside) (sound : IsSound b) (now : BoardData) (view_is : record { config = b.config; id = b.id; history = b.state.history.items } ≡ now) where
+  abbrev replayed : State
+  replayed = replay b.config b.state.history.items
+
+  pub maintain_caused : maintain_cause b.config (vec_len b.state.history) (state_of b.state) ≡ maintain_cause now.config (calls_at now) (state_at now)
+  maintain_caused =
+      subst (λ (d : BoardData). maintain_cause b.config (vec_len b.state.history) (state_of b.state) ≡ maintain_cause d.config (calls_at d) (state_at d)) view_is
+      (maintain_cause-agrees (state_of b.state) replayed sound.agrees b.config (vec_len b.state.history) ∙ ap (λ n. maintain_cause b.config n replayed) (counted b sound))
+
+  pub begin_caused : (at : ℕ) → begin_cause b.config (vec_len b.state.history) (state_of b.state) (moment (state_of b.state) at) ≡ begin_cause now.config (calls_at now) (state_at now) (moment (state_at now) at)
+  begin_caused at =
+      subst (λ (d : BoardData). begin_cause b.config (vec_len b.state.history) (state_of b.state) (moment (state_of b.state) at) ≡ begin_cause d.config (calls_at d) (state_at d) (moment (state_at d) at)) view_is
+      (begin_cause-agrees (state_of b.state) replayed sound.agrees (consistent_now b sound).rows b.config (vec_len b.state.history) (moment (state_of b.state) at)
+      ∙ (ap (λ (s : State). begin_cause b.config (vec_len b.state.history) replayed (moment s at)) sound.agrees.rest
+      ∙ ap (λ n. begin_cause b.config n replayed (moment replayed at)) (counted b sound)))
+
+  pub insert_caused : (alert : AlertData) → insert_cause b.config (vec_len b.state.history) (state_of b.state) alert ≡ insert_cause now.config (calls_at now) (state_at now) alert
+  insert_caused alert =
+      subst (λ (d : BoardData). insert_cause b.config (vec_len b.state.history) (state_of b.state) alert ≡ insert_cause d.config (calls_at d) (state_at d) alert) view_is
+      (insert_cause-agrees (state_of b.state) replayed sound.agrees b.config (vec_len b.state.history) alert ∙ ap (λ n. insert_cause b.config n replayed alert) (counted b sound))
+
+  pub silence_caused : (silence : SilenceData) → silence_cause b.config (vec_len b.state.history) (state_of b.state) silence ≡ silence_cause now.config (calls_at now) (state_at now) silence
+  silence_caused silence =
+      subst (λ (d : BoardData). silence_cause b.config (vec_len b.state.history) (state_of b.state) silence ≡ silence_cause d.config (calls_at d) (state_at d) silence) view_is
+      (silence_cause-agrees (state_of b.state) replayed sound.agrees b.config (vec_len b.state.history) silence ∙ ap (λ n. silence_cause b.config n replayed silence) (counted b sound))

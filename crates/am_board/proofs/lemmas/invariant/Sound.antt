@@ -1,0 +1,204 @@
+-- What each accepted or refused call leaves of a board.
+use Rattle.std.proofs.Common.{◌≡◌, ℕ, ◌+◌, ◌*◌, ◌≤◌, false, Option, Some, None, List, length, vec_len, sym, ap, ◌∙◌, subst, arith}
+use Rattle.std.specs.Prelude.{sum_by, All}
+use Rattle.std.proofs.lemmas.List.Elements.{All-nil}
+use Rattle.am_alerts.specs.AlertData.{AlertData}
+use Rattle.am_alerts.specs.declared.limits.TheConstants.{MAX_CHILDREN}
+use Rattle.am_mute.specs.Silence.{SilenceData}
+use Rattle.am_mute.specs.SourceIndex.{SourceIndex}
+use Rattle.am_mute.specs.Sources.{AreLearnt}
+use Rattle.am_model.specs.declared.config.Config.{Config}
+use Rattle.am_board.specs.declared.group.Group.{Group}
+use Rattle.am_model.specs.declared.group.GroupName.{GroupName}
+use Rattle.am_model.specs.Config.{AreAllowed, config_fault}
+use Rattle.am_board.specs.GroupNameCache.{AreKept}
+use Rattle.am_board.specs.Group.{names_of, AreRouted}
+use Rattle.std.proofs.lemmas.List.{length-map}
+use Rattle.am_board.specs.declared.board.Board.TheInside.{Inside}
+use Rattle.am_model.specs.declared.config.TheConstants.{MAX_HISTORY}
+use Rattle.am_model.specs.declared.record.Call.{Call}
+use Rattle.am_model.specs.declared.record.Record.{Record}
+use Rattle.am_board.specs.declared.state.State as kept
+use Rattle.am_board.specs.Board.{IsSound}
+use Rattle.am_board.specs.Refinement.{state_of, flush_state, EqualUpToRowOrder, IsNew, IsPrepared}
+use Rattle.am_model.specs.Laws.{IsConsistent}
+use Rattle.am_model.specs.Replay.{reply, after, after_call, replay, IsLegal}
+use Rattle.am_model.specs.State.{State, opening_state}
+use Rattle.am_board.specs.Step.{StateInvariant, AppliesCall, LeavesUnchanged}
+use Rattle.am_board.proofs.lemmas.invariant.GroupNameCache.{kept_after}
+use Rattle.am_board.proofs.lemmas.invariant.Learnt.{learnt_after}
+use Rattle.am_board.proofs.lemmas.invariant.Agreeing.{EqualUpToRowOrder-refl, EqualUpToRowOrder-trans, IsConsistent-agrees, reply-agrees, after_call-agrees}
+use Rattle.am_model.proofs.legal.Bounded.{IsBounded, bounded}
+use Rattle.am_model.proofs.legal.Consistent.{consistent_replay}
+use Rattle.am_model.proofs.legal.FewGroups.{IsInsert, few_others}
+use Rattle.am_model.proofs.legal.FewKnown.{IsSilence, known_others}
+use Rattle.am_model.proofs.configuration.Faultless.{few_integrations, retention_within}
+use Rattle.am_model.proofs.legal.Histories.{replay_appends, legal_appends}
+
+-- how many flushes are open, as the state tells it
+pub opened_now : (s : kept.State) → vec_len s.flushes ≡ length (state_of s).flushes
+opened_now s = s.flushes.ok.0 ∙ sym (length-map s.flushes.items flush_state)
+
+-- no more is known, and there are no more groups and silences, than the limits
+abbrev pub IsFew : Config → State → Type 0
+IsFew config s =
+    (length s.known ≤ config.limits.names) × (length s.groups ≤ config.limits.groups) × (length s.silences ≤ config.limits.silences)
+
+module _ (b : Inside) (sound : IsSound b) where
+  -- a call other than an insert and a silence passes none of these limits
+  pub few_after : (call : Call) → IsInsert call ≡ false → IsSilence call ≡ false → IsFew b.config (after_call b.config (state_of b.state) call)
+  few_after call e f =
+      let known = known_others b.config (state_of b.state) call e f in (
+        omega (arith, ap (λ (xs : List AlertData). length xs) known.0, sound.names),
+        omega (arith, few_others b.config (state_of b.state) call e, sound.groups),
+        omega (arith, ap (λ (xs : List SilenceData). length xs) known.1, sound.silences),
+      )
+
+  -- the state after the board's history
+  abbrev replayed : State
+  replayed = replay b.config b.state.history.items
+
+  pub consistent_now : IsConsistent (state_of b.state)
+  consistent_now = IsConsistent-agrees (state_of b.state) replayed sound.agrees (consistent_replay b.config b.state.history.items)
+
+  -- so many records are kept
+  pub counted : vec_len b.state.history ≡ length b.state.history.items
+  counted = b.state.history.ok.0
+
+  -- each call may rely on what holds of a board
+  pub good : StateInvariant b.config b.state
+  good =
+      let few : IsBounded b.config (length b.state.history.items) replayed = bounded b.config b.state.history.items in
+      let inserts : b.state.inserts ≡ replayed.inserts = ap (λ (s : State). s.inserts) sound.agrees.rest in
+      let numbers : b.state.next_number ≡ replayed.next_number = ap (λ (s : State). s.next_number) sound.agrees.rest in
+      record {
+        few = few_integrations b.config sound.configured;
+        retention = retention_within b.config sound.configured;
+        consistent = consistent_now;
+        inserts = omega (arith, few.inserts, inserts, counted);
+        numbers = omega (arith, few.next_number, numbers, counted);
+        routed = sound.routed;
+        prepared = sound.prepared;
+        room = sound.room;
+      }
+
+  -- the alerts over all groups are few, and so are the inserts
+  pub few_alerts : sum_by (λ g. length g.members) (state_of b.state).groups ≤ 64 * b.state.inserts
+  few_alerts =
+      let few : IsBounded b.config (length b.state.history.items) replayed = bounded b.config b.state.history.items in
+      subst (λ (s : State). sum_by (λ g. length g.members) s.groups ≤ 64 * s.inserts) (sym sound.agrees.rest) (few.alerts sound.children)
+
+  pub few_inserts : b.state.inserts ≤ MAX_HISTORY
+  few_inserts = omega (arith, good.inserts, sound.kept, sound.limits.history.1)
+
+  module _ (r : Record) (new : kept.State) (accepts : AppliesCall b.config b.id r b.state new) where
+    -- the reply is the one that the definitions give at the state after the history
+    pub told_at : reply b.config b.id replayed r.call ≡ Some r.reply
+    told_at = sym (reply-agrees (state_of b.state) replayed sound.agrees consistent_now.rows b.config b.id r.call) ∙ accepts.told
+
+    -- the history with the record is legal
+    pub legal_then : IsLegal b.config b.id new.history.items
+    legal_then =
+        subst (IsLegal b.config b.id) (sym accepts.history)
+        ((legal_appends b.config b.id b.state.history.items r).1 (sound.legal, told_at))
+
+    -- the state is the replay of the history with the record
+    pub agrees_then : EqualUpToRowOrder (state_of new) (replay b.config new.history.items)
+    agrees_then =
+        let step : EqualUpToRowOrder (after b.config (state_of b.state) r) (after b.config replayed r) = after_call-agrees (state_of b.state) replayed sound.agrees consistent_now.rows b.config r.call in
+        subst (EqualUpToRowOrder (state_of new)) (sym (replay_appends b.config b.state.history.items r) ∙ sym (ap (replay b.config) accepts.history))
+        (EqualUpToRowOrder-trans (state_of new) (after b.config (state_of b.state) r) accepts.state (after b.config replayed r) step)
+
+    fewer : IsFew b.config (after b.config (state_of b.state) r) → IsFew b.config (state_of new)
+    fewer = subst (IsFew b.config) (sym accepts.state.rest)
+
+    -- the board is sound again, where no limit is passed
+    pub sound_then : IsFew b.config (after b.config (state_of b.state) r) → vec_len new.flushes ≤ b.config.limits.flushes → vec_len new.history + vec_len new.flushes ≤ b.config.limits.history
+        → IsSound (record b { state = new })
+    sound_then few opened kept =
+        record {
+          limits = sound.limits;
+          configured = sound.configured;
+          children = sound.children;
+          legal = legal_then;
+          agrees = agrees_then;
+          names = (fewer few).0;
+          groups = (fewer few).1;
+          silences = (fewer few).2;
+          opened = opened;
+          kept = kept;
+          room = accepts.room;
+          routed = accepts.routed;
+          prepared = accepts.prepared;
+          sources = subst (λ (s : State). AreLearnt b.config.rules s.known b.sources) (sym accepts.state.rest) (learnt_after b.config (state_of b.state) r.call b.sources sound.sources);
+          destinations = subst (λ (s : State). AreKept b.config s.known b.destinations) (sym accepts.state.rest) (kept_after b.config (state_of b.state) r.call b.destinations sound.destinations);
+        }
+
+  module _ (new : kept.State) (stays : LeavesUnchanged b.config b.state new) where
+    same_opened : vec_len new.flushes ≡ vec_len b.state.flushes
+    same_opened = opened_now new ∙ (ap (λ (s : State). length s.flushes) stays.state ∙ sym (opened_now b.state))
+
+    -- a refused call leaves the board sound
+    pub sound_still : IsSound (record b { state = new })
+    sound_still =
+        record {
+          limits = sound.limits;
+          configured = sound.configured;
+          children = sound.children;
+          legal = subst (IsLegal b.config b.id) (sym stays.history) sound.legal;
+          agrees = subst (λ (s : State). EqualUpToRowOrder s (replay b.config new.history.items)) (sym stays.state) (subst (λ (h : List Record). EqualUpToRowOrder (state_of b.state) (replay b.config h)) (sym stays.history) sound.agrees);
+          names = subst (λ (s : State). length s.known ≤ b.config.limits.names) (sym stays.state) sound.names;
+          groups = subst (λ (s : State). length s.groups ≤ b.config.limits.groups) (sym stays.state) sound.groups;
+          silences = subst (λ (s : State). length s.silences ≤ b.config.limits.silences) (sym stays.state) sound.silences;
+          opened = omega (arith, same_opened, sound.opened);
+          kept = omega (arith, same_opened, stays.records, sound.kept);
+          room = stays.room;
+          routed = stays.routed;
+          prepared = stays.prepared;
+          sources = subst (λ (s : State). AreLearnt b.config.rules s.known b.sources) (sym stays.state) sound.sources;
+          destinations = subst (λ (s : State). AreKept b.config s.known b.destinations) (sym stays.state) sound.destinations;
+        }
+
+-- a board that learnt of its rules and known alerts, and keeps the names of their groups, is sound
+pub sound_learnt : (b : Inside) (sources : SourceIndex) (destinations : List (Option (List GroupName))) → AreLearnt b.config.rules b.state.known.items sources → AreKept b.config b.state.known.items destinations → IsSound b
+    → IsSound (record b { sources = sources; destinations = destinations })
+sound_learnt b sources destinations learnt kept sound =
+    record {
+      limits = sound.limits;
+      configured = sound.configured;
+      children = sound.children;
+      legal = sound.legal;
+      agrees = sound.agrees;
+      names = sound.names;
+      groups = sound.groups;
+      silences = sound.silences;
+      opened = sound.opened;
+      kept = sound.kept;
+      room = sound.room;
+      routed = sound.routed;
+      prepared = sound.prepared;
+      sources = learnt;
+      destinations = kept;
+    }
+
+-- a board that was just made is sound
+pub new_sound : (config : Config) (id : ℕ) (s : kept.State) (sources : SourceIndex) (destinations : List (Option (List GroupName))) → AreLearnt config.rules s.known.items sources → AreKept config s.known.items destinations → config_fault config ≡ None → length config.routes.children ≤ MAX_CHILDREN → AreAllowed config.limits → IsNew s
+    → IsSound (record { config = config; id = id; state = s; sources = sources; destinations = destinations })
+new_sound config id s sources destinations learnt names configured children limits new =
+    record {
+      limits = limits;
+      configured = configured;
+      children = children;
+      legal = subst (IsLegal config id) (sym new.history) tt;
+      agrees = subst (λ (h : List Record). EqualUpToRowOrder (state_of s) (replay config h)) (sym new.history) (subst (λ (x : State). EqualUpToRowOrder x opening_state) (sym new.state) (EqualUpToRowOrder-refl opening_state));
+      names = subst (λ (x : State). length x.known ≤ config.limits.names) (sym new.state) (omega arith);
+      groups = subst (λ (x : State). length x.groups ≤ config.limits.groups) (sym new.state) (omega arith);
+      silences = subst (λ (x : State). length x.silences ≤ config.limits.silences) (sym new.state) (omega arith);
+      opened = omega (arith, new.unflushed);
+      kept = omega (arith, new.unflushed, new.records);
+      room = omega (arith, new.unflushed, new.records);
+      routed = subst (λ (gs : List Group). AreRouted config.routes (names_of gs)) (sym new.groups) (All-nil (λ (n : GroupName). n.route ≤ length config.routes.children));
+      prepared = subst (All (IsPrepared config s.log)) (sym new.flushes) (All-nil (IsPrepared config s.log));
+      sources = learnt;
+      destinations = names;
+    }

@@ -1,0 +1,3 @@
+pub mod BeginIntervals
+pub mod FlushesOnce
+pub mod Opened

@@ -1,0 +1,4 @@
+pub mod Previews
+pub mod ReasonsAreExact
+pub mod ReasonsSay
+pub mod AskedRightly

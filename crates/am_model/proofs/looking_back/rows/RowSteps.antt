@@ -1,0 +1,298 @@
+-- What looking back finds in the log stays what a state has, call by call.
+use Rattle.std.proofs.Common.{◌≡◌, ℕ, ◌+◌, Bool, true, false, cond, not, ◌&&◌, ◌||◌, Option, Some, None, List, [], ◌∷◌, ◌++◌, map, refl, sym, ap, ◌∙◌, subst, arith}
+use Rattle.std.specs.Prelude.{find, fold, ◌==◌}
+use Rattle.std.specs.Option.{option_or}
+use Rattle.std.specs.Cmp.{IsEquivalence}
+use Rattle.std.specs.List.{AllByRecursion, IsDistinct, list_any}
+use Rattle.std.proofs.lemmas.Bool.{ne_eqb, eqb-true, and_right}
+use Rattle.std.proofs.lemmas.Cmp.{nat_eq_equiv}
+use Rattle.am_alerts.specs.AlertData.{AlertData}
+use Rattle.am_alerts.specs.declared.labels.Label.{Label}
+use Rattle.am_mute.specs.Silence.{SilenceData, silence_of}
+use Rattle.am_alerts.specs.declared.matcher.MatcherParts.{MatcherParts}
+use Rattle.am_retry.specs.declared.outcome.Outcome.{Outcome}
+use Rattle.am_model.specs.declared.config.Config.{Config}
+use Rattle.am_model.specs.declared.config.Integration.{Integration}
+use Rattle.am_model.specs.declared.group.GroupName.{GroupName}
+use Rattle.am_model.specs.declared.record.Call.TheVariants as call
+use Rattle.am_model.specs.declared.record.Record.{Record}
+use Rattle.am_model.specs.declared.record.Reply.{Reply}
+use Rattle.am_model.specs.declared.record.Reply.TheVariants as reply_is
+use Rattle.am_model.specs.declared.views.RowView.{RowView}
+use Rattle.am_model.specs.Begin.{is_entry_of, notice_for, deadline_of, begun_group, flush_asking}
+use Rattle.am_model.specs.Configured.{expiry_at}
+use Rattle.am_model.specs.Notice.{NoticeData}
+use Rattle.am_model.specs.look_back.Entry.{latest_first, known_in, silences_in, firing_in, resolved_in, row_of_begin, begins_group, asked_and_succeeded, logs, unless_expired, entry_in}
+use Rattle.am_model.specs.Finish.{same_key, row_at, log_with, has_succeeded, logged_by, finished, after_finish}
+use Rattle.am_model.specs.Records.{entry}
+use Rattle.am_model.specs.Insert.{same_alert, same_member, inserted, after_insert}
+use Rattle.am_model.specs.look_back.Laws.{member_with}
+use Rattle.am_model.specs.Lists.{upsert, changed_where}
+use Rattle.am_model.specs.Note.{with_note, after_note}
+use Rattle.am_model.specs.look_back.Past.{moment_at, is_flush, begin_of, was_noted, succeeded}
+use Rattle.am_model.specs.State.{AskedState, FlushState, GroupState, State, moment, is_named, same_name, flush_numbered}
+use Rattle.am_model.specs.Upkeep.{same_silence, silenced, after_silence, has_expired, maintained, after_maintain}
+use Rattle.am_model.proofs.legal.ConsistentBegin.{IsTaken}
+use Rattle.am_model.proofs.lists.Distinct.{all-find, all-filter, all-map, all-push, all-weaker, all-both, find-passes}
+use Rattle.am_model.proofs.legal.ConsistentState.{IsOpen, IsSteady}
+use Rattle.am_model.proofs.looking_back.alerts.FoundSteps.{clock-step}
+use Rattle.am_model.proofs.looking_back.flushes.Opened.{notices_at, asked_as, IsOpened, Finds, members-tidy}
+use Rattle.am_model.proofs.looking_back.PastWords.{unless, find-put, find-without}
+use Rattle.am_model.proofs.lists.Sets.{any-filter, any-alike, any-and, any-put, any-map}
+use Rattle.am_model.proofs.looking_back.alerts.AlertSets.{firing-found, resolved-found}
+use Rattle.am_model.proofs.states.Alike.{same_alert_equiv, same_key_equiv, same_silence_equiv}
+
+-- what an open flush tells is what looking back finds at its begin
+pub record IsToldBy (config : Config) (past : List Record) (f : FlushState) : Type 0 where
+  pub row : (t integration : ℕ) → row_of_begin config t integration (begin_of f.number past) ≡ Some (row_at config t f integration)
+  pub group : (name : GroupName) → begins_group name (begin_of f.number past) ≡ same_name name f.group
+
+-- what looking back finds in the log, of the known alerts and of the silences, is what a state has
+pub record Tells (config : Config) (s : State) (past : List Record) : Type 0 where
+  pub rows : (name : GroupName) (integration : ℕ) → find (is_entry_of name integration) s.rows ≡ entry_in config name integration past
+  pub known : (test : AlertData → Bool) → list_any test s.known ≡ list_any test (known_in past)
+  pub silences : (test : SilenceData → Bool) → list_any test s.silences ≡ list_any test (silences_in past)
+  pub told : AllByRecursion (IsToldBy config past) s.flushes
+
+-- a record that isn't the flush's begin
+told-step : (config : Config) (r : Record) (past : List Record) (f : FlushState) → is_flush f.number r.reply ≡ false → IsToldBy config past f → IsToldBy config (r ∷ past) f
+told-step config r past f other o =
+    record {
+      row = λ t i. ap (λ b. row_of_begin config t i (cond b (r ∷ past) (begin_of f.number past))) other ∙ o.row t i;
+      group = λ name. ap (λ b. begins_group name (cond b (r ∷ past) (begin_of f.number past))) other ∙ o.group name;
+    }
+
+-- after the latest comes first
+latest-any : {X : Type 0} (like : X → X → Bool) → IsEquivalence like → (x : X) (xs ys : List X) → IsDistinct like xs → ((test : X → Bool) → list_any test xs ≡ list_any test ys) → (test : X → Bool)
+    → list_any test (upsert like x xs) ≡ list_any test (latest_first like (Some x) ys)
+latest-any like laws x xs ys h same test =
+    any-put like laws test x xs h
+    ∙ ap (λ b. test x || b) (any-filter test (λ y. not (like x y)) xs ∙ same (λ y. not (like x y) && test y) ∙ sym (any-filter test (λ y. not (like x y)) ys))
+
+-- ---- what is logged
+
+module _ (name : GroupName) (i : ℕ) where
+  abbrev key : RowView
+  key = record { group = name; integration = i; moment = 0; expiry = 0; firing = []; resolved = [] }
+
+  alone : (x y : RowView) → is_entry_of name i x ≡ true → is_entry_of name i y ≡ true → same_key x y ≡ true
+  alone x y e f = sym (same_key_equiv.congr key x y e) ∙ f
+
+  find-log : (x : RowView) (rows : List RowView) → find (is_entry_of name i) (log_with x rows) ≡ cond (is_entry_of name i x) (Some x) (find (is_entry_of name i) rows)
+  find-log x rows =
+      find-put (is_entry_of name i) same_key x
+      (λ y e. same_key_equiv.symm key y ∙ sym (same_key_equiv.congr x y key e) ∙ same_key_equiv.symm x key)
+      (alone x) rows
+
+  -- the rows of a flush
+  module _ (config : Config) (t : ℕ) (f : FlushState) where
+    find-row : (n : ℕ) (rows : List RowView) → find (is_entry_of name i) (log_with (row_at config t f n) rows) ≡ cond (same_name name f.group && (i == n)) (Some (row_at config t f i)) (find (is_entry_of name i) rows)
+    find-row n rows = find-log (row_at config t f n) rows ∙ by (i == n) refl
+      where
+        none : (b : Bool) (x y : Option RowView) (o : Option RowView) → cond (b && false) x o ≡ cond (b && false) y o
+        none true x y o = refl
+        none false x y o = refl
+
+        by : (b : Bool) → (i == n) ≡ b → cond (same_name name f.group && b) (Some (row_at config t f n)) (find (is_entry_of name i) rows) ≡ cond (same_name name f.group && b) (Some (row_at config t f i)) (find (is_entry_of name i) rows)
+        by true e = ap (λ m. cond (same_name name f.group && true) (Some (row_at config t f m)) (find (is_entry_of name i) rows)) (sym (eqb-true i n e))
+        by false e = none (same_name name f.group) (Some (row_at config t f n)) (Some (row_at config t f i)) (find (is_entry_of name i) rows)
+
+    find-rows : (asked : List AskedState) (rows : List RowView) → find (is_entry_of name i) (fold (λ log a. log_with (row_at config t f a.integration) log) rows asked)
+        ≡ cond (same_name name f.group && list_any (λ a. i == a.integration) asked) (Some (row_at config t f i)) (find (is_entry_of name i) rows)
+    find-rows [] rows = none (same_name name f.group)
+      where
+        none : (b : Bool) → find (is_entry_of name i) rows ≡ cond (b && false) (Some (row_at config t f i)) (find (is_entry_of name i) rows)
+        none true = refl
+        none false = refl
+    find-rows (a ∷ asked) rows =
+        find-rows asked (log_with (row_at config t f a.integration) rows)
+        ∙ ap (λ o. cond (same_name name f.group && list_any (λ a. i == a.integration) asked) (Some (row_at config t f i)) o) (find-row a.integration rows)
+        ∙ both (same_name name f.group) (i == a.integration) (list_any (λ a. i == a.integration) asked)
+      where
+        both : (h x y : Bool) → cond (h && y) (Some (row_at config t f i)) (cond (h && x) (Some (row_at config t f i)) (find (is_entry_of name i) rows)) ≡ cond (h && (x || y)) (Some (row_at config t f i)) (find (is_entry_of name i) rows)
+        both true true true = refl
+        both true true false = refl
+        both true false true = refl
+        both true false false = refl
+        both false x y = refl
+
+-- whom a finish logs is whom the notices say
+logged-found : (config : Config) (n : ℕ) (past : List Record) (f : FlushState) → IsOpened config n past f → (outcomes : List (ℕ × Outcome)) (i : ℕ)
+    → list_any (λ a. i == a.integration) (logged_by outcomes f) ≡ (asked_and_succeeded f.number outcomes past i (begin_of f.number past) && not (was_noted f.number i past))
+logged-found config n past f o outcomes i =
+    any-filter (λ a. i == a.integration) (λ a. has_succeeded outcomes a && not a.noted) f.asked
+    ∙ ap (λ asked. list_any (λ a. (has_succeeded outcomes a && not a.noted) && (i == a.integration)) asked) o.asked
+    ∙ any-map (λ a. (has_succeeded outcomes a && not a.noted) && (i == a.integration)) (asked_as f.number past) (notices_at (begin_of f.number past))
+    ∙ any-alike (λ x. (succeeded f.number outcomes past x && not (was_noted f.number x.integration past)) && (i == x.integration)) (λ x. ((x.integration == i) && succeeded f.number outcomes past x) && not (was_noted f.number i past))
+    (λ x. one x (i == x.integration) refl) (notices_at (begin_of f.number past))
+    ∙ any-and (λ x. (x.integration == i) && succeeded f.number outcomes past x) (not (was_noted f.number i past)) (notices_at (begin_of f.number past))
+    ∙ ap (λ b. b && not (was_noted f.number i past)) (begun (begin_of f.number past))
+  where
+    begun : (begin : List Record) → list_any (λ x. (x.integration == i) && succeeded f.number outcomes past x) (notices_at begin) ≡ asked_and_succeeded f.number outcomes past i begin
+    begun [] = refl
+    begun (r ∷ before) = refl
+
+    ends : (b : Bool) → (b && true) ≡ b
+    ends true = refl
+    ends false = refl
+
+    one : (x : NoticeData) (b : Bool) → (i == x.integration) ≡ b → ((succeeded f.number outcomes past x && not (was_noted f.number x.integration past)) && b) ≡ (((x.integration == i) && succeeded f.number outcomes past x) && not (was_noted f.number i past))
+    one x true e =
+        ends (succeeded f.number outcomes past x && not (was_noted f.number x.integration past))
+        ∙ ap (λ m. succeeded f.number outcomes past x && not (was_noted f.number m past)) (sym (eqb-true i x.integration e))
+        ∙ sym (ap (λ b. (b && succeeded f.number outcomes past x) && not (was_noted f.number i past)) (nat_eq_equiv.symm x.integration i ∙ e))
+    one x false e =
+        and_right (succeeded f.number outcomes past x && not (was_noted f.number x.integration past)) false refl
+        ∙ sym (ap (λ b. (b && succeeded f.number outcomes past x) && not (was_noted f.number i past)) (nat_eq_equiv.symm x.integration i ∙ e))
+
+-- ---- one record more
+
+module _ (config : Config) (s : State) (past : List Record) (k : Finds config s past) (l : Tells config s past) where
+  -- a row that is logged, or what was there
+  or-there : (b c : Bool) (row : Option RowView) (x : RowView) (o e : Option RowView) → b ≡ c → row ≡ Some x → o ≡ e → cond b (Some x) o ≡ option_or (cond c row None) e
+  or-there b c row x o e same is rest = ap (λ d. cond d (Some x) o) same ∙ ap (λ p. cond c (Some x) p) rest ∙ by c ∙ ap (λ q. option_or (cond c q None) e) (sym is)
+    where
+      by : (d : Bool) → cond d (Some x) e ≡ option_or (cond d (Some x) None) e
+      by true = refl
+      by false = refl
+
+  pub tells-insert : (pass now : ℕ) (a : AlertData) → IsSteady s → Tells config (after_insert config s (moment s now) a) (entry pass (call.Insert now a) (reply_is.Inserted (inserted config s a)) ∷ past)
+  tells-insert pass now a steady =
+      let r = entry pass (call.Insert now a) (reply_is.Inserted (inserted config s a)) in
+      record {
+        rows = l.rows;
+        known = latest-any same_alert same_alert_equiv a s.known (known_in past) steady.known l.known;
+        silences = l.silences;
+        told = all-weaker (IsToldBy config past) (IsToldBy config (r ∷ past)) (λ f o. told-step config r past f refl o) s.flushes l.told;
+      }
+
+  pub tells-silence : (pass now id : ℕ) (matchers : List MatcherParts) (start end : ℕ) → IsSteady s
+      → Tells config (after_silence s (moment s now) (silence_of id matchers start end)) (entry pass (call.Silence now id matchers start end) (reply_is.Silenced (silenced s (silence_of id matchers start end))) ∷ past)
+  tells-silence pass now id matchers start end steady =
+      let x = silence_of id matchers start end in
+      let r = entry pass (call.Silence now id matchers start end) (reply_is.Silenced (silenced s x)) in
+      record {
+        rows = l.rows;
+        known = l.known;
+        silences = latest-any same_silence same_silence_equiv x s.silences (silences_in past) steady.silences l.silences;
+        told = all-weaker (IsToldBy config past) (IsToldBy config (r ∷ past)) (λ f o. told-step config r past f refl o) s.flushes l.told;
+      }
+
+  -- a begin that opens no flush
+  pub tells-begin : (s' : State) (pass now : ℕ) (p : Reply) → s'.rows ≡ s.rows → s'.known ≡ s.known → s'.silences ≡ s.silences → s'.flushes ≡ s.flushes → ((number : ℕ) → is_flush number p ≡ false)
+      → Tells config s' (entry pass (call.Begin now) p ∷ past)
+  tells-begin s' pass now p rows known silences flushes other =
+      let r = entry pass (call.Begin now) p in
+      record {
+        rows = λ name i. ap (find (is_entry_of name i)) rows ∙ l.rows name i;
+        known = λ test. ap (list_any test) known ∙ l.known test;
+        silences = λ test. ap (list_any test) silences ∙ l.silences test;
+        told = subst (AllByRecursion (IsToldBy config (r ∷ past))) (sym flushes) (all-weaker (IsToldBy config past) (IsToldBy config (r ∷ past)) (λ f o. told-step config r past f (other f.number) o) s.flushes l.told);
+      }
+
+  pub tells-flush : (id pass now : ℕ) (g : GroupState) (asked : List (ℕ × Integration)) → IsSteady s → IsTaken s g
+      → Tells config (record s {
+        clock = moment s now;
+        groups = changed_where (is_named g.name) (begun_group config (moment s now)) s.groups;
+        flushes = s.flushes ++ flush_asking config s (moment s now) g asked ∷ [];
+        next_number = s.next_number + 1;
+      }) (entry pass (call.Begin now) (reply_is.Flush s.next_number g.name (deadline_of config (moment s now) g) (map (notice_for config id s (moment s now) g) asked)) ∷ past)
+  tells-flush id pass now g asked steady taken =
+      let t = moment s now in
+      let r = entry pass (call.Begin now) (reply_is.Flush s.next_number g.name (deadline_of config t g) (map (notice_for config id s t g) asked)) in
+      let next = s.next_number in
+      let apart = subst (IsDistinct same_member) taken.own (members-tidy s.inserts g.name s.groups steady.tidy).members in
+      let there = λ (labels : List Label). ap (member_with labels) (sym taken.own) ∙ k.found g.name labels in
+      let firing = firing-found config s past l.known l.silences t g apart there in
+      let resolved = resolved-found config s past l.known l.silences t g apart there in
+      let at : t ≡ moment_at (r ∷ past) = clock-step config s past k now r refl in
+      record {
+        rows = l.rows;
+        known = l.known;
+        silences = l.silences;
+        told =
+            all-push (IsToldBy config (r ∷ past)) s.flushes (flush_asking config s t g asked)
+            (all-both (IsToldBy config past) (IsOpen next s.groups) (IsToldBy config (r ∷ past))
+            (λ f o held. told-step config r past f (ne_eqb next f.number (λ e. omega (arith, e, held.number))) o) s.flushes l.told steady.opened)
+            (record {
+              row = λ u i.
+                  ap (λ b. row_of_begin config u i (cond b (r ∷ past) (begin_of next past))) (nat_eq_equiv.refl next)
+                  ∙ ap (λ m. Some (record { group = g.name; integration = i; moment = u; expiry = expiry_at config g.name u; firing = firing_in config g.name m past; resolved = resolved_in config g.name m past })) (sym at)
+                  ∙ sym (λ j. Some (record { group = g.name; integration = i; moment = u; expiry = expiry_at config g.name u; firing = firing j; resolved = resolved j }));
+              group = λ name. ap (λ b. begins_group name (cond b (r ∷ past) (begin_of next past))) (nat_eq_equiv.refl next);
+            });
+      }
+
+  pub tells-finish : (pass now number : ℕ) (outcomes : List (ℕ × Outcome)) (f : FlushState) → flush_numbered s.flushes number ≡ Some f
+      → Tells config (after_finish config s (moment s now) outcomes f) (entry pass (call.Finish now number outcomes) (reply_is.Finished (finished s outcomes f)) ∷ past)
+  tells-finish pass now number outcomes f is_open =
+      let r = entry pass (call.Finish now number outcomes) (reply_is.Finished (finished s outcomes f)) in
+      let t = moment s now in
+      let same : f.number ≡ number = eqb-true f.number number (find-passes (λ (h : FlushState). h.number == number) f s.flushes is_open) in
+      let o = all-find (IsOpened config s.inserts past) (λ h. h.number == number) f s.flushes k.opened is_open in
+      let told = all-find (IsToldBy config past) (λ h. h.number == number) f s.flushes l.told is_open in
+      let at : t ≡ moment_at (r ∷ past) = clock-step config s past k now r refl in
+      record {
+        rows = λ name i.
+            find-rows name i config t f (logged_by outcomes f) s.rows
+            ∙ or-there (same_name name f.group && list_any (λ a. i == a.integration) (logged_by outcomes f)) (logs name i past r.call) (row_of_begin config (moment_at (r ∷ past)) i (begin_of number past)) (row_at config t f i)
+            (find (is_entry_of name i) s.rows) (entry_in config name i past)
+            (ap (λ b. same_name name f.group && b) (logged-found config s.inserts past f o outcomes i)
+            ∙ ap (λ b. b && (asked_and_succeeded f.number outcomes past i (begin_of f.number past) && not (was_noted f.number i past))) (sym (told.group name))
+            ∙ ap (λ n. begins_group name (begin_of n past) && (asked_and_succeeded n outcomes past i (begin_of n past) && not (was_noted n i past))) same)
+            (ap (λ u. row_of_begin config u i (begin_of number past)) (sym at) ∙ ap (λ n. row_of_begin config t i (begin_of n past)) (sym same) ∙ told.row t i)
+            (l.rows name i);
+        known = l.known;
+        silences = l.silences;
+        told =
+            all-filter (IsToldBy config (r ∷ past)) (λ h. not (h.number == f.number)) s.flushes
+            (all-weaker (IsToldBy config past) (IsToldBy config (r ∷ past)) (λ h o. told-step config r past h refl o) s.flushes l.told);
+      }
+
+  pub tells-maintain : (pass now : ℕ) → IsSteady s → Tells config (after_maintain s (moment s now)) (entry pass (call.Maintain now) (reply_is.Maintained (maintained s (moment s now))) ∷ past)
+  tells-maintain pass now steady =
+      let r = entry pass (call.Maintain now) (reply_is.Maintained (maintained s (moment s now))) in
+      let t = moment s now in
+      let at : t ≡ moment_at (r ∷ past) = clock-step config s past k now r refl in
+      record {
+        rows = λ name i.
+            find-without (is_entry_of name i) same_key (alone name i) (has_expired t) s.rows steady.rows
+            ∙ ap (λ u. unless (has_expired u) (find (is_entry_of name i) s.rows)) at
+            ∙ ap (unless (has_expired (moment_at (r ∷ past)))) (l.rows name i)
+            ∙ by (moment_at (r ∷ past)) (entry_in config name i past);
+        known = l.known;
+        silences = l.silences;
+        told = all-weaker (IsToldBy config past) (IsToldBy config (r ∷ past)) (λ f o. told-step config r past f refl o) s.flushes l.told;
+      }
+    where
+      by : (u : ℕ) (o : Option RowView) → unless (has_expired u) o ≡ unless_expired u o
+      by u None = refl
+      by u (Some row) = refl
+
+  pub tells-note : (pass now number n : ℕ) (outcome : Option Outcome) (f : FlushState) → flush_numbered s.flushes number ≡ Some f
+      → Tells config (after_note config s (moment s now) n f) (entry pass (call.Note now number n outcome) reply_is.Noted ∷ past)
+  tells-note pass now number n outcome f is_open =
+      let r = entry pass (call.Note now number n outcome) reply_is.Noted in
+      let t = moment s now in
+      let same : f.number ≡ number = eqb-true f.number number (find-passes (λ (h : FlushState). h.number == number) f s.flushes is_open) in
+      let told = all-find (IsToldBy config past) (λ h. h.number == number) f s.flushes l.told is_open in
+      let at : t ≡ moment_at (r ∷ past) = clock-step config s past k now r refl in
+      record {
+        rows = λ name i.
+            find-row name i config t f n s.rows
+            ∙ or-there (same_name name f.group && (i == n)) (logs name i past r.call) (row_of_begin config (moment_at (r ∷ past)) i (begin_of number past)) (row_at config t f i)
+            (find (is_entry_of name i) s.rows) (entry_in config name i past)
+            (ap (λ b. b && (i == n)) (sym (told.group name) ∙ ap (λ m. begins_group name (begin_of m past)) same) ∙ ap (λ b. begins_group name (begin_of number past) && b) (nat_eq_equiv.symm i n))
+            (ap (λ u. row_of_begin config u i (begin_of number past)) (sym at) ∙ ap (λ m. row_of_begin config t i (begin_of m past)) (sym same) ∙ told.row t i)
+            (l.rows name i);
+        known = l.known;
+        silences = l.silences;
+        told =
+            all-map (λ h. cond (h.number == f.number) (with_note n h) h) (IsToldBy config (r ∷ past)) s.flushes
+            (all-weaker (IsToldBy config past) (λ h. IsToldBy config (r ∷ past) (cond (h.number == f.number) (with_note n h) h))
+            (λ h o. by r h (h.number == f.number) (told-step config r past h refl o)) s.flushes l.told);
+      }
+    where
+      by : (r : Record) (h : FlushState) (b : Bool) → IsToldBy config (r ∷ past) h → IsToldBy config (r ∷ past) (cond b (with_note n h) h)
+      by r h true o = record { row = o.row; group = o.group }
+      by r h false o = o

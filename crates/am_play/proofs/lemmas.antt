@@ -1,0 +1,3 @@
+pub mod lanes
+pub mod phases
+pub mod sending

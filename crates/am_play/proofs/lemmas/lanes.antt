@@ -1,0 +1,5 @@
+pub mod Lanes
+pub mod LaneStates
+pub mod Meetings
+pub mod Calls
+pub mod Crossing

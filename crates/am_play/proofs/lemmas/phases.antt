@@ -1,0 +1,5 @@
+pub mod Phases
+pub mod Turns
+pub mod Steps
+pub mod Noting
+pub mod Parts

@@ -9,5 +9,3 @@ mod silence_index;
 pub mod silences;
 pub mod sources;
 mod target;
-#[cfg(test)]
-mod tests;

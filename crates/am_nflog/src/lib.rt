@@ -8,8 +8,6 @@ mod key;
 mod log;
 mod members;
 mod row;
-#[cfg(test)]
-mod tests;
 mod update;
 
 pub use key::LogKey;

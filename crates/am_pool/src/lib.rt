@@ -11,11 +11,7 @@ mod fault;
 mod law;
 mod limits;
 mod pool;
-#[cfg(test)]
-mod pool_tests;
 mod queue;
-#[cfg(test)]
-mod tests;
 mod trace;
 mod worker;
 

@@ -5,8 +5,10 @@ ghost use Rattle.am_cli.specs.Read.{IsRefusedBy};
 ghost use Rattle.am_desk.specs.Desks.{AreFresh};
 ghost use Rattle.am_desk.specs.Terms.{terms};
 ghost use Rattle.am_model.specs.Config.{config_fault};
+ghost use Rattle.am_model.specs.Replay.{IsLegal};
 ghost use Rattle.am_play.specs.Faults.{Refuses, status_of};
 ghost use Rattle.am_play.specs.Plays.{IsPlay, IsPlayOf};
+ghost use Rattle.am_report.specs.Report.{report_text};
 ghost use Rattle.am_scenario.specs.Decoding.{IsScenarioIn};
 ghost use Rattle.am_play.specs.declared.run.TheConstants.{BOARD_ID};
 ghost use Rattle.am_scenario.specs.declared.scenario.TheConstants.{MAX_LANES};
@@ -15,15 +17,16 @@ use crate::courier::{Scripts, couriers_for};
 use crate::fault::RunFault;
 use crate::phase::Run;
 use am_board::config::Config;
+use am_board::notice::Report;
 use am_cli::device::{Sink, Source};
 use am_cli::fault::{FaultKind, InputFault};
 use am_cli::place::JsonPointer;
 use am_cli::reader::parse;
 use am_cli::transfer::{MAX_INPUT, read_all, write_all};
-use am_desk::{Blank, BlankFault, Brand, Desk, Name, OpenFault, Pass};
+use am_desk::{Blank, BlankFault, Brand, Closed, Desk, Name, OpenFault, Pass};
 use am_report::report::report_text;
 use am_scenario::scenario::{Phase, Scenario, read_scenario};
-use std::alloc::Global;
+use std::alloc::{AllocError, Global};
 use std::sync::Wait;
 use std::thread::Threads;
 
@@ -140,7 +143,26 @@ fn play_on<N: Name + Send + Sync, S: Scripts + Send, R: Threads + Wait + Sync>(
         run.run_phase(rt, couriers.as_mut_slice(), index, phase)?;
     }
     let (closed, reports) = run.close()?;
-    Ok(report_text(alloc, &closed, reports.as_slice())?)
+    Ok(report_on(alloc, &closed, reports.as_slice())?)
+}
+
+/// The report on what a closed desk did.
+fn report_on(alloc: Global, closed: &Closed, reports: &[Report]) -> Result<String, AllocError>
+    ensures text { IfOk result (λ text.
+        string_bytes text ≡ report_text closed.now.config reports.now closed.now.history) }
+    ensures legal { IsLegal closed.now.config closed.now.id closed.now.history }
+{
+    let history = closed.history();
+    let rows = closed.rows(alloc)?;
+    let groups = closed.groups(alloc)?;
+    report_text(
+        alloc,
+        closed.config(),
+        history,
+        rows.as_slice(),
+        groups.as_slice(),
+        reports,
+    )
 }
 
 /// The blank of a desk with a pass for the main thread and one for each lane of the phase that has

@@ -1,4 +1,4 @@
-//! The report on a closed desk: its text, as docs/format.md has it.
+//! The text of the report on a history, as docs/format.md has it.
 //!
 //! All moments are in milliseconds.
 #![tactic(auto)]

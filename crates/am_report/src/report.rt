@@ -5,8 +5,9 @@ ghost use Rattle.std.specs.Option.{option_copied};
 ghost use Rattle.am_alerts.specs.LabelText.{label_set_text};
 ghost use Rattle.am_model.specs.Config.{kind_at};
 ghost use Rattle.am_model.specs.look_back.Past.{notices_in};
-ghost use Rattle.am_model.specs.Replay.{IsLegal};
+ghost use Rattle.am_model.specs.Replay.{replay};
 ghost use Rattle.am_model.specs.Ticket.{outcome_of};
+ghost use Rattle.am_model.specs.Views.{row_views, group_views};
 ghost use Rattle.am_report.specs.Report.{labels_of, as_it_is, list_text, lists_text, group_text, integration_text, target_text};
 ghost use Rattle.am_report.specs.Report.{reported_text, outcome_text, notice_line, row_line, flushed_text, group_line, calls_line};
 ghost use Rattle.am_model.specs.Outcomes.{outcomes_in};
@@ -19,7 +20,6 @@ use am_board::group::GroupName;
 use am_board::notice::{Notice, Report};
 use am_board::record::{Call, Record, Reply};
 use am_board::views::{GroupView, RowView};
-use am_desk::Closed;
 use am_model::outcome::{outcome_of, outcomes_in};
 use am_retry::Outcome;
 use std::alloc::{AllocError, Global};
@@ -51,20 +51,25 @@ impl Labelled for Labels {
     }
 }
 
-/// The report on what a desk did. The reports tell how many attempts each notice took.
-pub fn report_text(alloc: Global, closed: &Closed, reports: &[Report]) -> Result<String, AllocError>
-    ensures text { IfOk result (λ text.
-        string_bytes text ≡ report_text closed.now.config reports.now closed.now.history) }
-    ensures legal { IsLegal closed.now.config closed.now.id closed.now.history }
+/// The report on a history, with the rows of the log and the groups that it leaves. The reports tell how
+/// many attempts each notice took.
+pub fn report_text(
+    alloc: Global,
+    config: &Config,
+    history: &[Record],
+    rows: &[RowView],
+    groups: &[GroupView],
+    reports: &[Report],
+) -> Result<String, AllocError>
+    requires rows { rows.now ≡ row_views (replay config.now history.now) }
+    requires groups { groups.now ≡ group_views (replay config.now history.now) }
+    ensures { IfOk result (λ text.
+        string_bytes text ≡ report_text config.now reports.now history.now) }
 {
     let mut out = String::new(alloc);
-    let config = closed.config();
-    let history = closed.history();
     push_notices(config, reports, history, &mut out)?;
-    let rows = closed.rows(alloc)?;
-    push_rows(config, rows.as_slice(), &mut out)?;
-    let groups = closed.groups(alloc)?;
-    push_groups(config, groups.as_slice(), &mut out)?;
+    push_rows(config, rows, &mut out)?;
+    push_groups(config, groups, &mut out)?;
     push_calls(history.len(), &mut out)?;
     Ok(out)
 }

@@ -126,8 +126,8 @@ returns-clause-report g c =
       report =
           record {
             reports = c.as_slice-2.result.now;
-            legal = subst (λ (k : Config). IsLegal k BOARD_ID closed.history) config (subst (λ (n : ℕ). IsLegal closed.config n closed.history) id c.report_text.ensures.legal);
-            is = c.in_ok-report_text.ensures.text ∙ ap (λ (k : Config). report_text k c.as_slice-2.result.now closed.history) config;
+            legal = subst (λ (k : Config). IsLegal k BOARD_ID closed.history) config (subst (λ (n : ℕ). IsLegal closed.config n closed.history) id c.report_on.ensures.legal);
+            is = c.in_ok-report_on.ensures.text ∙ ap (λ (k : Config). report_text k c.as_slice-2.result.now closed.history) config;
           };
       lanes =
           all_played ls (lanes_of run) closed.history c.args.blank.passes
@@ -142,7 +142,7 @@ returns-clause-report g c =
       parts = told.1;
     }
 
-pub returns-in_err-report_text-clause-refused : goal.returns-in_err-report_text-clause-refused
-returns-in_err-report_text-clause-refused g c =
-    let p = err_from_is_err_and c.from_residual-in_err-report_text.result c.from_residual-in_err-report_text.ensures.1 in
+pub returns-in_err-report_on-clause-refused : goal.returns-in_err-report_on-clause-refused
+returns-in_err-report_on-clause-refused g c =
+    let p = err_from_is_err_and c.from_residual-in_err-report_on.result c.from_residual-in_err-report_on.ensures.1 in
     rw (p.1, p.2) (λ fine. tt)

@@ -15,7 +15,7 @@ invariant_of-self-2 c =
     let was = c.args.self.now in
     let takes = takes_group (reply_of c.in-Ok.begun) in
     let is_to_do = c.in_ok-preview.preview in
-    let previews_of =
+    let previews =
     c.tell.ensures.previews
     ∙ (ap (λ (l : List PreviewedBegin). l ++ preview_where takes (length c.history-place.result.now) is_to_do) c.reserve.ensures.items
     ∙ ap (λ (h : List Record). was.begins.items ++ preview_where takes (length h) is_to_do) c.history-place.ensures.history) in

@@ -55,7 +55,9 @@ fn meet(flags: &[AtomicCell<u64>], own: usize) -> bool {
 #[test]
 fn workers_meet(rt: HostRuntime) -> Result<(), Fail> {
     check_jobs(&rt, rt.alloc(), 2, 2)?;
-    check_jobs(&rt, rt.alloc(), 8, 8)
+    check_jobs(&rt, rt.alloc(), 8, 8)?;
+    // As many jobs as there may be.
+    check_jobs(&rt, rt.alloc(), 8, 1_024)
 }
 
 #[test]

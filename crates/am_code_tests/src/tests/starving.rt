@@ -183,7 +183,7 @@ fn play_on<N: Name + Send + Sync, R: Threads + Wait + Sync>(
     phases: Vec<Phase>,
 ) -> Result<(Option<InputFault>, Closed), InputFault>
     requires name { (blank ≡ N.plan) × (terms config blank.id ≡ N.terms) }
-    requires lanes { All (λ p. vec_len p.lanes < blank.passes) phases.items }
+    requires lanes { All (λ p. vec_len p.lanes < N.plan.passes) phases.items }
 {
     let (desk, passes) = open::<N>(alloc, config, blank)?;
     let mut run = Run::new(alloc, desk, passes)?;

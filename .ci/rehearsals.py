@@ -199,6 +199,31 @@ def check_refusals(table, least):
     tell(f"{len(rows)} rows of {table.name}", differ == 0 and len(rows) >= least, f"{differ} differ")
 
 
+def matcher_outcome(text, labels):
+    """What a matcher of one text does to a label set: a child route has it, behind which stands the root."""
+    config = {
+        "receivers": [{"name": "team", "integrations": [{"kind": "hook"}]}],
+        "route": {"receiver": "team"},
+        "children": [{"name": "child", "receiver": "team", "matchers": [text]}],
+    }
+    rehearsal = {"config": config, "until": "1m", "alerts": [{"labels": labels}], "output": "notices"}
+    status, told, line = run(json.dumps(rehearsal))
+    if (status, told, line) == (2, "", "am-rehearse: rehearsal refused at /config/children/0/matchers/0: value"):
+        return "refused"
+    found = re.fullmatch(r".{14}notice  (child|root)\{\} -> [^\n]*\n", told) if status == 0 else None
+    return f"status {status} {line}" if found is None else {"child": "matches", "root": "fails"}[found[1]]
+
+
+def check_matchers(table, least):
+    """Each text of a table, of which there are at least so many rows, does to its label set what the row says."""
+    rows = [line.split("\t") for line in table.read_text().splitlines() if not line.startswith("#")]
+    got = [matcher_outcome(json.loads(text), json.loads(labels)) for text, labels, _ in rows]
+    wrong = [(*row, it) for row, it in zip(rows, got) if row[2] != it]
+    for row in wrong:
+        tell(" ".join(row), False)
+    tell(f"{len(rows)} rows of {table.name}", not wrong and len(rows) >= least, f"{len(wrong)} differ")
+
+
 # What is dropped of Alertmanager's configuration, and how many faults are told.
 
 def theirs(**members):
@@ -348,6 +373,7 @@ def main():
     check_differences()
     check_refusals(Path(".ci/rehearsal-refusals"), 200)
     check_refusals(Path(".ci/alertmanager-refusals"), 100)
+    check_matchers(Path(".ci/matcher-texts"), 60)
     check_dropped()
     check_many_faults()
     check_hostile()

@@ -10,7 +10,6 @@ use am_board::begin::Begun;
 use am_board::board::Board;
 use am_board::config::Config;
 use am_board::fault::{BoardFault, FinishFault};
-use am_board::reason::Reason;
 use std::alloc::{AllocError, Global};
 
 /// The id of the board, which its tickets name.
@@ -30,7 +29,6 @@ struct Desk {
 }
 
 pub fn make_calls(probe: &Probe, alloc: Global) -> Result<(), AllocError> {
-    read_faults(probe);
     match Desk::open(probe, alloc, config(alloc)?) {
         Ok(mut desk) => desk.make_calls(probe, alloc),
         Err(_) => Err(AllocError),
@@ -175,23 +173,4 @@ fn look(probe: &Probe, board: &Board) {
     probe.ask("Board::summary");
     let summary = board.summary();
     probe.tell(&summary);
-    probe.ask("Board::history");
-    let history = board.history();
-    probe.tell(&history.len());
-    probe.ask("Board::config");
-    let config = board.config();
-    probe.tell(&config.retention);
-    probe.ask("Board::id");
-    let id = board.id();
-    probe.tell(&id);
-}
-
-/// The numbers of faults, and whether a reason asks.
-fn read_faults(probe: &Probe) {
-    probe.ask("BoardFault::number");
-    let number = BoardFault::NoMemory.number();
-    probe.tell(&number);
-    probe.ask("Reason::asks");
-    let asks = Reason::Repeat.asks();
-    probe.tell(&asks);
 }

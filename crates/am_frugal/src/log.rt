@@ -8,7 +8,6 @@ use am_nflog::{LogKey, LogRow, Members, NfLog, needs_update};
 use std::alloc::{AllocError, Global};
 
 pub fn make_calls(probe: &Probe, alloc: Global) -> Result<(), AllocError> {
-    make_log(probe, alloc);
     keep_rows(probe, alloc)?;
     ask_update(probe, &row(alloc)?);
     Ok(())
@@ -39,15 +38,11 @@ fn members(alloc: Global, list: &[u64]) -> Result<Members<u64>, AllocError>
     Members::new(alloc, list.to_vec(alloc)?)
 }
 
-fn make_log(probe: &Probe, alloc: Global) {
-    probe.ask("NfLog::new");
-    let made: Result<NfLog<u64, u64>, AllocError> = NfLog::new(alloc);
-    probe.tell(&made.is_ok());
-}
-
 /// Makes a key known, and puts a row at it.
 fn keep_rows(probe: &Probe, alloc: Global) -> Result<(), AllocError> {
+    probe.ask("NfLog::new");
     let mut log: NfLog<u64, u64> = NfLog::new(alloc)?;
+    probe.tell(&log.len());
     probe.ask("with memory: NfLog::reserve");
     log.reserve(key())?;
     probe.tell(&log.len());
@@ -55,30 +50,15 @@ fn keep_rows(probe: &Probe, alloc: Global) -> Result<(), AllocError> {
     probe.ask("NfLog::put");
     log.put(&key(), row);
     probe.tell(&log.len());
-    read_log(probe, &log);
     collect(probe, &mut log);
     Ok(())
 }
 
-fn read_log(probe: &Probe, log: &NfLog<u64, u64>) {
-    probe.ask("NfLog::len");
-    let len = log.len();
-    probe.tell(&len);
-    probe.ask("NfLog::is_empty");
-    let is_empty = log.is_empty();
-    probe.tell(&is_empty);
+/// Looks for the row, asks for its key once more, and has the row collected.
+fn collect(probe: &Probe, log: &mut NfLog<u64, u64>) {
     probe.ask("NfLog::get");
     let row = log.get(&key());
     probe.tell(&row.is_some());
-    for place in 0..log.len() {
-        probe.ask("NfLog::row");
-        let (key, _) = log.row(place);
-        probe.tell(&key.group);
-    }
-}
-
-/// Asks for a key that is known once more, and has the row collected.
-fn collect(probe: &Probe, log: &mut NfLog<u64, u64>) {
     probe.ask("NfLog::reserve, of a known key");
     let reserved = log.reserve(key());
     probe.tell(&reserved);
@@ -88,9 +68,6 @@ fn collect(probe: &Probe, log: &mut NfLog<u64, u64>) {
 }
 
 fn ask_update(probe: &Probe, row: &LogRow<u64>) {
-    probe.ask("Members::as_slice");
-    let firing = row.firing.as_slice();
-    probe.tell(&firing.len());
     probe.ask("Members::share");
     let shared = row.firing.share();
     probe.tell(&shared.is_ok());

@@ -16,12 +16,10 @@ pub struct OwnTicket {
 }
 
 impl OwnTicket {
-    /// Looks at the ticket, and sends and records each notice.
+    /// Sends and records each notice.
     pub fn make_calls(&mut self, probe: &Probe) {
-        read_ticket(probe, &self.ticket);
         for place in 0..self.ticket.notices().len() {
             self.send(probe, place);
-            ask_outcome(probe, &self.ticket, place);
         }
         self.refuse(probe);
     }
@@ -56,35 +54,8 @@ impl OwnTicket {
     }
 }
 
-fn read_ticket(probe: &Probe, ticket: &Ticket) {
-    probe.ask("Ticket::number");
-    let number = ticket.number();
-    probe.tell(&number);
-    probe.ask("Ticket::desk");
-    let desk = ticket.desk();
-    probe.tell(&desk);
-    probe.ask("Ticket::group");
-    let group = ticket.group();
-    probe.tell(&group.route);
-    probe.ask("Ticket::deadline");
-    let deadline = ticket.deadline();
-    probe.tell(&deadline);
-    probe.ask("Ticket::notices");
-    let notices = ticket.notices();
-    probe.tell(&notices.len());
-}
-
-fn ask_outcome(probe: &Probe, ticket: &Ticket, place: usize) {
-    probe.ask("Ticket::outcome");
-    let outcome = ticket.outcome(place);
-    probe.tell(&outcome);
-}
-
 fn send_notice(probe: &Probe, notice: &Notice) -> Option<Report> {
-    probe.ask("Notice::nothing");
-    let nothing = notice.nothing();
-    probe.tell(&nothing);
-    if nothing {
+    if notice.nothing() {
         return None;
     }
     probe.ask("deliver");

@@ -11,28 +11,31 @@ use std::alloc::{AllocError, Global};
 
 /// The labels of an instance of A.
 pub fn labels(alloc: Global, instance: &str) -> Result<Labels, AllocError> {
-    Labels::read(alloc, &[("alertname", "A"), ("inst", instance)]).map_err(|_| AllocError)
+    match Labels::read(alloc, &[("alertname", "A"), ("inst", instance)]) {
+        Ok(labels) => Ok(labels),
+        Err(_) => Err(AllocError),
+    }
 }
 
 /// An alert of an instance of A, which starts at 0.
 pub fn alert(alloc: Global, instance: &str, ends: Option<u64>) -> Result<Alert, AllocError> {
-    Alert::new(labels(alloc, instance)?, 0, ends).map_err(|_| AllocError)
+    match Alert::new(labels(alloc, instance)?, 0, ends) {
+        Ok(alert) => Ok(alert),
+        Err(_) => Err(AllocError),
+    }
 }
 
-/// Matches the label sets in which this label has this value.
-pub fn matcher(alloc: Global, name: &str, value: &str) -> Result<Matcher, AllocError> {
+/// Matches the label sets in which this label has this value, in a list.
+pub fn matchers(alloc: Global, name: &str, value: &str) -> Result<Vec<Matcher>, AllocError> {
     let parts = MatcherParts {
         name: Text::new(alloc, name)?,
         op: Operator::Equal,
         value: Text::new(alloc, value)?,
     };
-    Matcher::new(alloc, parts).map_err(|_| AllocError)
-}
-
-/// One such matcher, in a list.
-pub fn matchers(alloc: Global, name: &str, value: &str) -> Result<Vec<Matcher>, AllocError> {
-    let matcher = matcher(alloc, name, value)?;
-    listed(alloc, matcher)
+    match Matcher::new(alloc, parts) {
+        Ok(matcher) => listed(alloc, matcher),
+        Err(_) => Err(AllocError),
+    }
 }
 
 /// This name, in a list.
@@ -52,7 +55,10 @@ pub fn listed<T: Drop>(alloc: Global, value: T) -> Result<Vec<T>, AllocError> {
 pub fn rule(alloc: Global) -> Result<InhibitRule, AllocError> {
     let source = matchers(alloc, "inst", "1")?;
     let target = matchers(alloc, "inst", "2")?;
-    InhibitRule::new(source, target, names(alloc, "alertname")?).map_err(|_| AllocError)
+    match InhibitRule::new(source, target, names(alloc, "alertname")?) {
+        Ok(rule) => Ok(rule),
+        Err(_) => Err(AllocError),
+    }
 }
 
 /// A route to the receiver, which groups by alertname and waits 30s, 5m and 4h.
@@ -67,25 +73,23 @@ pub fn route(alloc: Global, name: &str) -> Result<Route, AllocError> {
     })
 }
 
-/// A child that no label set of this program matches.
-pub fn child(alloc: Global) -> Result<Child, AllocError> {
-    Ok(Child {
+/// A child that no label set of this program matches, in a list.
+pub fn children(alloc: Global) -> Result<Vec<Child>, AllocError> {
+    let child = Child {
         route: route(alloc, "other")?,
         matchers: Sequence::from(matchers(alloc, "alertname", "B")?),
         goes_on: false,
-    })
-}
-
-/// That child, in a list.
-pub fn children(alloc: Global) -> Result<Vec<Child>, AllocError> {
-    let child = child(alloc)?;
+    };
     listed(alloc, child)
 }
 
 /// The root with that child.
-pub fn routes(alloc: Global) -> Result<Routes, AllocError> {
+fn routes(alloc: Global) -> Result<Routes, AllocError> {
     let root = route(alloc, "root")?;
-    Routes::new(root, children(alloc)?).map_err(|_| AllocError)
+    match Routes::new(root, children(alloc)?) {
+        Ok(routes) => Ok(routes),
+        Err(_) => Err(AllocError),
+    }
 }
 
 /// One receiver, with two integrations.

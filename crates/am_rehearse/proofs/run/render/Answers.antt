@@ -1,5 +1,10 @@
+use Rattle.std.proofs.Common.{tt}
 use Rattle.am_rehearse.proofs.Tales.{told_by}
 use Rattle.am_rehearse.proofs.run.render.Goals as goal
 
 pub returns : goal.returns
-returns c = told_by _ _ _ _ _ _ _ c.in_ok-value.ensures.value c.in_ok-input.ensures c.in_ok-play_and_render.ensures
+returns c =
+    record {
+      told = told_by _ _ _ _ _ _ _ c.in_ok-value.ensures.value c.in_ok-input.ensures c.in_ok-play_and_render.ensures;
+      refused = tt;
+    }

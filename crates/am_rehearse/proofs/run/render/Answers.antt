@@ -1,4 +1,3 @@
-use Rattle.std.proofs.Common.{tt}
 use Rattle.am_rehearse.proofs.Tales.{told_by}
 use Rattle.am_rehearse.proofs.run.render.Goals as goal
 

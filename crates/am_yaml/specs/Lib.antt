@@ -1,0 +1,3 @@
+pub mod Document
+pub mod Fault
+pub mod Place

@@ -1,0 +1,154 @@
+//! Block collections, and what stands in them.
+use crate::fault::{Reason, Stop};
+use crate::members::{Key, Members};
+use crate::parser::{Parser, depth_at};
+use crate::plain::Place;
+use serde_json::Value;
+
+/// What stands before a node.
+#[derive(Clone, Copy, PartialEq, Eq)]
+pub(crate) enum Lead {
+    /// The mark that starts a document.
+    Start,
+    /// A key and its colon.
+    Key,
+    /// The dash of an item.
+    Dash,
+}
+
+impl Parser<'_> {
+    /// Reads the node behind a lead and its anchor, and goes to the next content. Further lines of it begin at
+    /// a column of this number at least.
+    #[cycle(block)]
+    pub(crate) fn node(&mut self, lead: Lead, floor: usize, levels: usize) -> Result<Value, Stop> {
+        self.to_node(lead)?;
+        let anchor = self.anchor()?;
+        if self.cursor.is_line_done() {
+            self.cursor.next_line()?;
+            let value = self.node_below(lead, floor, levels)?;
+            return self.anchored(anchor, value);
+        }
+        if lead == Lead::Dash && anchor.is_none() {
+            return self.block(floor, levels);
+        }
+        if anchor.is_some() && self.cursor.byte() == b'*' {
+            return Err(self.cursor.stop(Reason::Anchor));
+        }
+        self.path.meet(self.cursor.at());
+        let value = self.flat(floor, levels)?;
+        self.anchored(anchor, value)
+    }
+
+    /// Goes over the blanks behind a lead. Behind a dash a tab could indent.
+    fn to_node(&mut self, lead: Lead) -> Result<(), Stop> {
+        self.cursor.skip_spaces();
+        if lead == Lead::Dash && self.cursor.byte() == b'\t' {
+            return Err(self.cursor.stop(Reason::Tab));
+        }
+        self.cursor.skip_blanks();
+        Ok(())
+    }
+
+    /// Reads the node on the lines below its lead. The sequence below a key may be indented as the key is.
+    #[cycle(block)]
+    fn node_below(&mut self, lead: Lead, floor: usize, levels: usize) -> Result<Value, Stop> {
+        let Some(column) = self.cursor.content_column() else {
+            return Ok(Value::Null);
+        };
+        if column >= floor {
+            return self.block(floor, levels);
+        }
+        let is_item = self.cursor.is_indicator(b'-');
+        if lead == Lead::Key && is_item && column.saturating_add(1) == floor {
+            self.path.meet(self.cursor.at());
+            return self.block_sequence(column, levels);
+        }
+        Ok(Value::Null)
+    }
+
+    /// Reads the node that starts here, where a block collection can start.
+    #[cycle(block)]
+    pub(crate) fn block(&mut self, floor: usize, levels: usize) -> Result<Value, Stop> {
+        self.path.meet(self.cursor.at());
+        let column = self.cursor.column();
+        if self.cursor.is_indicator(b'-') {
+            return self.block_sequence(column, levels);
+        }
+        match self.block_key()? {
+            Some(key) => self.block_mapping(column, key, levels),
+            None => self.flat(floor, levels),
+        }
+    }
+
+    /// Reads a sequence whose dashes stand in a column.
+    #[cycle(block)]
+    fn block_sequence(&mut self, column: usize, levels: usize) -> Result<Value, Stop> {
+        let Some(below) = levels.checked_sub(1) else {
+            return Err(self.cursor.stop(Reason::Depth));
+        };
+        let mut items = Vec::new(self.alloc);
+        for _ in self.cursor.at()..=self.cursor.len() {
+            let is_here = self.cursor.content_column() == Some(column);
+            if !is_here || !self.cursor.is_indicator(b'-') {
+                break;
+            }
+            let is_entered = self
+                .path
+                .enter_item(depth_at(levels), items.len(), self.cursor.at());
+            self.cursor.step();
+            items.push(self.node(Lead::Dash, column.saturating_add(1), below)?)?;
+            self.path.leave(is_entered);
+        }
+        Ok(Value::Array(items))
+    }
+
+    /// Reads a mapping whose keys stand in a column, from behind the first key on.
+    #[cycle(block)]
+    fn block_mapping(&mut self, column: usize, first: Key, levels: usize) -> Result<Value, Stop> {
+        let Some(below) = levels.checked_sub(1) else {
+            return Err(self.cursor.stop(Reason::Depth));
+        };
+        let mut members = Members::new(self.alloc);
+        let mut key = first;
+        for _ in self.cursor.at()..=self.cursor.len() {
+            members.refuse_twice(&key)?;
+            let is_entered = self
+                .path
+                .enter_member(depth_at(levels), key.name.as_str(), key.at);
+            let value = self.node(Lead::Key, column.saturating_add(1), below)?;
+            self.path.leave(is_entered);
+            members.add(key, value)?;
+            match self.next_key(column)? {
+                Some(next) => key = next,
+                None => return members.end(),
+            }
+        }
+        Err(self.cursor.stop(Reason::Unexpected))
+    }
+
+    /// Reads the next key of a mapping whose keys stand in a column, if there is one.
+    fn next_key(&mut self, column: usize) -> Result<Option<Key>, Stop> {
+        if self.cursor.content_column() != Some(column) {
+            return Ok(None);
+        }
+        match self.block_key()? {
+            Some(key) => Ok(Some(key)),
+            None => Err(self.cursor.stop(Reason::Unexpected)),
+        }
+    }
+
+    /// Reads a node that is no block collection, and goes to the next content.
+    fn flat(&mut self, floor: usize, levels: usize) -> Result<Value, Stop> {
+        let value = match self.cursor.byte() {
+            b'|' | b'>' => return Ok(Value::String(self.block_scalar(floor)?)),
+            b'[' | b'{' => self.flow_node(floor, levels)?,
+            b'*' => self.alias(levels)?,
+            b'\'' | b'"' => Value::String(self.quoted()?),
+            b'&' => return Err(self.cursor.stop(Reason::Anchor)),
+            b'!' => return Err(self.cursor.stop(Reason::Tag)),
+            _ => self.plain_value(Place::Block { floor })?,
+        };
+        self.cursor.end_line()?;
+        Ok(value)
+    }
+}

@@ -1,0 +1,113 @@
+//! Why a text is refused.
+use std::alloc::{AllocError, AllocFailed};
+use std::fmt;
+use thiserror::Error;
+
+/// What stands at the place where a text is refused.
+#[derive(Clone, Copy, Debug, PartialEq, Eq)]
+pub enum Reason {
+    /// A control character, a byte order mark, or one of the three Unicode line ends, on which readers differ.
+    Character,
+    /// A tab where only spaces indent.
+    Tab,
+    /// Something that can't stand here; often a line that is indented as no line before it.
+    Unexpected,
+    /// A second document.
+    Document,
+    /// A directive, as `%YAML`.
+    Directive,
+    /// A tag, as `!!int`.
+    Tag,
+    /// An anchor that names no value, or has no name, or the name of another.
+    Anchor,
+    /// An alias of no anchor above.
+    Alias,
+    /// A key that is no text on one line, of at most 1024 bytes.
+    Key,
+    /// A key that the mapping has already.
+    Duplicate,
+    /// A merge key, `<<`, whose value is no mapping, or which readers understand in different ways.
+    Merge,
+    /// Anchored values that would be copied too often.
+    Expansion,
+    /// Collections that lie too deep.
+    Depth,
+    /// A plain scalar that starts with a character which YAML keeps for itself.
+    Reserved,
+    /// A quoted scalar or a flow collection without its end.
+    Unterminated,
+    /// An escape that YAML doesn't have.
+    Escape,
+    /// The first line of a block scalar says more than how it is laid out.
+    Header,
+    /// A number that JSON can't hold.
+    Number,
+    /// A number on which readers differ, as `010`.
+    Octal,
+    /// In a flow collection, what isn't a key with a value, or an item.
+    Flow,
+}
+
+/// Why nothing is made of a text.
+#[derive(Clone, Copy, Debug, PartialEq, Eq, Error)]
+pub enum YamlFault {
+    /// What stands at this line and column is refused. Both count from 1, the column in bytes.
+    #[error("line {line}, column {column}: {reason}")]
+    Refused {
+        line: usize,
+        column: usize,
+        reason: Reason,
+    },
+    /// The text has more than 16,777,216 bytes.
+    #[error("more than 16 MiB")]
+    TooLong,
+    /// Memory was refused.
+    #[error("no memory")]
+    NoMemory,
+}
+
+/// A fault at an offset of the text.
+#[derive(Clone, Copy, Debug, PartialEq, Eq)]
+pub(crate) enum Stop {
+    At { at: usize, reason: Reason },
+    NoMemory,
+}
+
+impl From<AllocError> for Stop {
+    fn from(_refused: AllocError) -> Stop {
+        Stop::NoMemory
+    }
+}
+
+impl<T: Drop> From<AllocFailed<T>> for Stop {
+    fn from(_refused: AllocFailed<T>) -> Stop {
+        Stop::NoMemory
+    }
+}
+
+impl fmt::Display for Reason {
+    fn fmt<W: fmt::Write>(&self, f: &mut fmt::Formatter<W>) -> fmt::Result {
+        f.write_str(match self {
+            Reason::Character => "a character that YAML doesn't allow here",
+            Reason::Tab => "a tab where only spaces may indent",
+            Reason::Unexpected => "this isn't expected here; is the indentation right?",
+            Reason::Document => "a second document; a file has one",
+            Reason::Directive => "a directive; leave it out",
+            Reason::Tag => "a tag; leave it out",
+            Reason::Anchor => "an anchor that can't be here",
+            Reason::Alias => "an alias of no anchor above it",
+            Reason::Key => "a key that isn't a text on one line",
+            Reason::Duplicate => "a key that the mapping has already",
+            Reason::Merge => "a merge that YAML's readers understand differently",
+            Reason::Expansion => "aliases that make more than 4 MiB of copies",
+            Reason::Depth => "more than 100 levels",
+            Reason::Reserved => "a text that has to be in quotes",
+            Reason::Unterminated => "its end is missing",
+            Reason::Escape => "an escape that YAML doesn't have",
+            Reason::Header => "a wrong first line of a block scalar",
+            Reason::Number => "a number that JSON can't hold; write it in quotes if it is a text",
+            Reason::Octal => "a number with a leading zero; write it in quotes if it is a text",
+            Reason::Flow => "this isn't expected between brackets",
+        })
+    }
+}

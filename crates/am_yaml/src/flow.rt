@@ -1,0 +1,151 @@
+//! Flow collections: what stands between brackets or braces.
+use crate::cursor::{Cursor, END, is_blank};
+use crate::fault::{Reason, Stop};
+use crate::members::{Key, Members};
+use crate::parser::{Parser, depth_at};
+use crate::plain::Place;
+use serde_json::Value;
+
+impl Cursor<'_> {
+    /// Goes over blanks, the ends of lines and comments.
+    fn skip_flow_gap(&mut self) -> Result<(), Stop> {
+        let mut is_apart = false;
+        for _ in self.at()..=self.len() {
+            is_apart = is_apart || is_blank(self.byte());
+            self.skip_blanks();
+            if self.byte() == b'#' && is_apart {
+                self.skip_line();
+            }
+            if self.byte() != b'\n' {
+                break;
+            }
+            self.step();
+            is_apart = true;
+            if self.is_marker() {
+                return Err(self.stop(Reason::Unterminated));
+            }
+        }
+        Ok(())
+    }
+}
+
+impl Parser<'_> {
+    /// Reads a node between brackets, and its anchor.
+    #[cycle(flow)]
+    pub(crate) fn flow_node(&mut self, floor: usize, levels: usize) -> Result<Value, Stop> {
+        self.path.meet(self.cursor.at());
+        let anchor = self.anchor()?;
+        if anchor.is_some() && self.cursor.byte() == b'*' {
+            return Err(self.cursor.stop(Reason::Anchor));
+        }
+        let value = self.flow_content(floor, levels)?;
+        self.anchored(anchor, value)
+    }
+
+    /// Reads a node between brackets that has no anchor.
+    #[cycle(flow)]
+    fn flow_content(&mut self, floor: usize, levels: usize) -> Result<Value, Stop> {
+        match self.cursor.byte() {
+            b'[' => self.flow_sequence(floor, levels),
+            b'{' => self.flow_mapping(floor, levels),
+            b'*' => self.alias(levels),
+            b'\'' | b'"' => Ok(Value::String(self.quoted()?)),
+            END => Err(self.cursor.stop(Reason::Unterminated)),
+            _ => self.plain_value(Place::Flow { floor }),
+        }
+    }
+
+    /// Reads a sequence in brackets.
+    #[cycle(flow)]
+    fn flow_sequence(&mut self, floor: usize, levels: usize) -> Result<Value, Stop> {
+        let Some(below) = levels.checked_sub(1) else {
+            return Err(self.cursor.stop(Reason::Depth));
+        };
+        let start = self.cursor;
+        let mut items = Vec::new(self.alloc);
+        self.cursor.step();
+        for _ in self.cursor.at()..=self.cursor.len() {
+            self.cursor.skip_flow_gap()?;
+            if self.cursor.byte() == b']' {
+                self.cursor.step();
+                return Ok(Value::Array(items));
+            }
+            let is_entered = self
+                .path
+                .enter_item(depth_at(levels), items.len(), self.cursor.at());
+            items.push(self.flow_node(floor, below)?)?;
+            self.path.leave(is_entered);
+            self.flow_separator(b']')?;
+        }
+        Err(start.stop(Reason::Unterminated))
+    }
+
+    /// Reads a mapping in braces.
+    #[cycle(flow)]
+    fn flow_mapping(&mut self, floor: usize, levels: usize) -> Result<Value, Stop> {
+        let Some(below) = levels.checked_sub(1) else {
+            return Err(self.cursor.stop(Reason::Depth));
+        };
+        let start = self.cursor;
+        let mut members = Members::new(self.alloc);
+        self.cursor.step();
+        for _ in self.cursor.at()..=self.cursor.len() {
+            self.cursor.skip_flow_gap()?;
+            if self.cursor.byte() == b'}' {
+                self.cursor.step();
+                return members.end();
+            }
+            let key = self.flow_key(floor)?;
+            members.refuse_twice(&key)?;
+            let is_entered = self
+                .path
+                .enter_member(depth_at(levels), key.name.as_str(), key.at);
+            let value = self.flow_value(floor, below)?;
+            self.path.leave(is_entered);
+            members.add(key, value)?;
+            self.flow_separator(b'}')?;
+        }
+        Err(start.stop(Reason::Unterminated))
+    }
+
+    /// Reads what stands behind a key between braces, which may be nothing.
+    #[cycle(flow)]
+    fn flow_value(&mut self, floor: usize, levels: usize) -> Result<Value, Stop> {
+        self.cursor.skip_flow_gap()?;
+        match self.cursor.byte() {
+            b',' | b'}' => Ok(Value::Null),
+            _ => self.flow_node(floor, levels),
+        }
+    }
+
+    /// Reads a key between braces, and its colon.
+    fn flow_key(&mut self, floor: usize) -> Result<Key, Stop> {
+        let start = self.cursor;
+        let is_quoted = start.is_quote();
+        let key = self.key_text(Place::Flow { floor })?;
+        self.cursor.skip_blanks();
+        let is_colon = self.cursor.byte() == b':';
+        if !is_colon || !(is_quoted || self.cursor.is_indicator(b':')) {
+            return Err(self.cursor.stop(Reason::Flow));
+        }
+        self.refuse_key(start, &key)?;
+        self.cursor.step();
+        Ok(key)
+    }
+
+    /// Reads the comma behind an item, or stays before the end.
+    fn flow_separator(&mut self, end: u8) -> Result<(), Stop> {
+        self.cursor.skip_flow_gap()?;
+        let byte = self.cursor.byte();
+        if byte == b',' {
+            self.cursor.step();
+            Ok(())
+        } else if byte == end {
+            Ok(())
+        } else if byte == END {
+            Err(self.cursor.stop(Reason::Unterminated))
+        } else {
+            Err(self.cursor.stop(Reason::Flow))
+        }
+    }
+}

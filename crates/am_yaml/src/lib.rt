@@ -1,0 +1,23 @@
+//! Configuration files in YAML, read as JSON values: what YAML's core schema and go-yaml both make of a file, or a
+//! refusal with its line and column. And where in the text a value stands.
+#![tactic(auto)]
+
+mod anchors;
+mod block;
+mod block_scalar;
+mod content;
+mod cursor;
+pub mod document;
+pub mod fault;
+mod flow;
+mod key;
+pub mod locate;
+mod measure;
+mod members;
+pub mod parser;
+mod path;
+pub mod place;
+mod plain;
+mod quoted;
+pub mod reader;
+mod resolve;

@@ -1,0 +1,57 @@
+//! Where values stand in a text.
+ghost use Rattle.std.specs.Prelude.{IfOk};
+ghost use Rattle.am_yaml.specs.Place.{IsPlaceIn};
+
+use crate::fault::Stop;
+use crate::parser::Parser;
+use crate::path::{Step, steps_of};
+use crate::place::Place;
+use crate::reader::{offset_with_returns, without_mark, without_returns};
+use std::alloc::{AllocError, Global};
+
+/// What of a member is looked for.
+#[derive(Clone, Copy, Debug, PartialEq, Eq)]
+pub enum Part {
+    Key,
+    Value,
+}
+
+/// Returns where a value stands in a text of YAML or JSON, or the key of its member, by its JSON pointer. Where the
+/// text hasn't it, or can't be read up to it, it is the key of the last value on the way that it has.
+pub fn locate(alloc: Global, text: &str, pointer: &str, part: Part) -> Result<Place, AllocError>
+    ensures { IfOk result (λ place. IsPlaceIn text.now place.line place.column) }
+{
+    let steps = steps_of(alloc, pointer)?;
+    let text = without_mark(text);
+    let at = offset_in_lines(alloc, text, steps.as_slice(), part)?;
+    let end = at.min(text.len());
+    Ok(Place::behind(&text.as_bytes()[..end]))
+}
+
+/// Returns the offset in a text whose lines end as they do on Unix or on Windows.
+fn offset_in_lines(
+    alloc: Global,
+    text: &str,
+    steps: &[Step],
+    part: Part,
+) -> Result<usize, AllocError> {
+    if !text.as_bytes().contains(&b'\r') {
+        return offset_of(alloc, text, steps, part);
+    }
+    let unix = without_returns(alloc, text)?;
+    let at = offset_of(alloc, unix.as_str(), steps, part)?;
+    Ok(offset_with_returns(text, at))
+}
+
+fn offset_of(alloc: Global, text: &str, steps: &[Step], part: Part) -> Result<usize, AllocError> {
+    let mut parser = Parser::new(alloc, text, steps);
+    if parser.whole_document() == Err(Stop::NoMemory) {
+        return Err(AllocError);
+    }
+    let path = parser.path;
+    if part == Part::Value && path.is_whole() {
+        Ok(path.value_at())
+    } else {
+        Ok(path.key_at())
+    }
+}

@@ -1,0 +1,197 @@
+//! Reading a text.
+ghost use Rattle.std.specs.Prelude.{◌≡◌, ◌≢◌, ◌<◌, ◌≤◌, ◌↔◌, ℕ, drop, length, IfErr, IfOk};
+ghost use Rattle.serde_json.specs.Data.{depth};
+ghost use Rattle.serde_json.specs.View.{view};
+ghost use Rattle.am_yaml.specs.Fault.{AtPlace};
+ghost use Rattle.am_yaml.specs.Place.{IsPlaceIn, IsPlaceOf};
+
+use crate::block::Lead;
+use crate::cursor::END;
+use crate::fault::{Reason, Stop, YamlFault};
+use crate::measure::is_within;
+use crate::parser::{MAX_DEPTH, Parser};
+use crate::place::Place;
+use serde_json::Value;
+use std::alloc::{AllocError, Global};
+
+/// How many bytes a text may have: 16 MiB.
+pub const MAX_INPUT: usize = 16_777_216;
+
+/// The value that a YAML document says, as JSON, or the first fault.
+pub fn read_yaml(alloc: Global, text: &str) -> Result<Value, YamlFault>
+    ensures too_long { (result ≡ Err YamlFault.TooLong) ↔ (MAX_INPUT < length text.now) }
+    ensures nests { IfOk result (λ value. depth (view value) ≤ MAX_DEPTH) }
+    ensures placed { IfErr result (AtPlace (IsPlaceIn text.now)) }
+{
+    if text.len() > MAX_INPUT {
+        return Err(YamlFault::TooLong);
+    }
+    let text = without_mark(text);
+    match read_lines(alloc, text) {
+        Ok(value) => Ok(value),
+        Err(stop) => Err(fault_in(text, stop)),
+    }
+}
+
+/// Returns the text behind a byte order mark, if it begins with one.
+pub(crate) fn without_mark(text: &str) -> &str
+    ensures { (mark : ℕ) × (mark ≤ 3) × (mark ≤ length text.now) × (result.now ≡ drop mark text.now) }
+{
+    if !text.starts_with('\u{feff}') {
+        return text;
+    }
+    match text.get(3..) {
+        Some(rest) => rest,
+        None => text,
+    }
+}
+
+/// Reads a text whose lines end as they do on Unix or on Windows.
+fn read_lines(alloc: Global, text: &str) -> Result<Value, Stop>
+    ensures { IfOk result (λ value. depth (view value) ≤ MAX_DEPTH) }
+{
+    check_characters(text)?;
+    if text.as_bytes().contains(&b'\r') {
+        let unix = without_returns(alloc, text)?;
+        return match read_document(alloc, unix.as_str()) {
+            Ok(value) => Ok(value),
+            Err(stop) => Err(with_returns(text, stop)),
+        };
+    }
+    read_document(alloc, text)
+}
+
+/// Refuses characters that YAML doesn't allow, and those on which its readers differ.
+fn check_characters(text: &str) -> Result<(), Stop> {
+    for (at, character) in text.char_indices() {
+        let is_allowed = match character {
+            '\t' | '\n' | ' '..='~' => true,
+            '\r' => text.as_bytes().get(at.saturating_add(1)) == Some(&b'\n'),
+            '\u{2028}' | '\u{2029}' | '\u{feff}' | '\u{fffe}' | '\u{ffff}' => false,
+            _ => character >= '\u{a0}',
+        };
+        if !is_allowed {
+            return Err(Stop::At {
+                at,
+                reason: Reason::Character,
+            });
+        }
+    }
+    Ok(())
+}
+
+/// The text without its carriage returns.
+pub(crate) fn without_returns(alloc: Global, text: &str) -> Result<String, AllocError> {
+    let mut unix = String::new(alloc);
+    for part in text.split('\r') {
+        unix.push_str(part)?;
+    }
+    Ok(unix)
+}
+
+/// The fault, at its offset in the text that still has its carriage returns.
+fn with_returns(text: &str, stop: Stop) -> Stop {
+    match stop {
+        Stop::At { at, reason } => Stop::At {
+            at: offset_with_returns(text, at),
+            reason,
+        },
+        Stop::NoMemory => Stop::NoMemory,
+    }
+}
+
+/// The offset in a text that still has its carriage returns, of the byte at this offset in the text without them.
+pub(crate) fn offset_with_returns(text: &str, unix: usize) -> usize {
+    let mut seen = 0usize;
+    for (at, byte) in text.as_bytes().iter().enumerate() {
+        if *byte != b'\r' {
+            if seen == unix {
+                return at;
+            }
+            seen = seen.saturating_add(1);
+        }
+    }
+    text.len()
+}
+
+/// Reads a text with one document.
+fn read_document(alloc: Global, text: &str) -> Result<Value, Stop>
+    ensures { IfOk result (λ value. depth (view value) ≤ MAX_DEPTH) }
+{
+    let mut parser = Parser::new(alloc, text, &[]);
+    let value = parser.whole_document()?;
+    if !is_within(&value, MAX_DEPTH) {
+        return Err(Stop::At {
+            at: 0,
+            reason: Reason::Depth,
+        });
+    }
+    Ok(value)
+}
+
+impl Parser<'_> {
+    /// Reads the document, behind which nothing may stand.
+    pub(crate) fn whole_document(&mut self) -> Result<Value, Stop> {
+        self.cursor.to_content()?;
+        let value = self.document()?;
+        self.end_document()?;
+        Ok(value)
+    }
+
+    /// Reads the document, and what stands before it.
+    fn document(&mut self) -> Result<Value, Stop> {
+        if self.cursor.column() == 0 && self.cursor.byte() == b'%' {
+            return Err(self.cursor.stop(Reason::Directive));
+        }
+        if self.cursor.is_marker() {
+            if self.cursor.byte() != b'-' {
+                return Err(self.cursor.stop(Reason::Document));
+            }
+            self.skip_marker();
+            return self.node(Lead::Start, 0, MAX_DEPTH);
+        }
+        if self.cursor.byte() == END {
+            return Ok(Value::Null);
+        }
+        self.block(0, MAX_DEPTH)
+    }
+
+    fn skip_marker(&mut self) {
+        for _ in 0..3 {
+            self.cursor.step();
+        }
+    }
+
+    /// Refuses what stands behind the document.
+    fn end_document(&mut self) -> Result<(), Stop> {
+        if self.cursor.is_marker() && self.cursor.byte() == b'.' {
+            self.skip_marker();
+            self.cursor.end_line()?;
+        } else if self.cursor.is_marker() {
+            return Err(self.cursor.stop(Reason::Document));
+        } else if self.cursor.byte() != END {
+            return Err(self.cursor.stop(Reason::Unexpected));
+        }
+        if self.cursor.byte() != END {
+            return Err(self.cursor.stop(Reason::Document));
+        }
+        Ok(())
+    }
+}
+
+/// The fault at its line and column.
+fn fault_in(text: &str, stop: Stop) -> YamlFault
+    ensures placed { AtPlace (IsPlaceOf text.now) result }
+    ensures other { result ≢ YamlFault.TooLong }
+{
+    let Stop::At { at, reason } = stop else {
+        return YamlFault::NoMemory;
+    };
+    let end = at.min(text.len());
+    let Place { line, column } = Place::behind(&text.as_bytes()[..end]);
+    YamlFault::Refused {
+        line,
+        column,
+        reason,
+    }
+}

@@ -1,0 +1,21 @@
+-- What a command line asks for.
+use Rattle.std.specs.Prelude.{◌≡◌, None, codes}
+use Rattle.am_command.specs.declared.request.PlayRequest.{PlayRequest}
+use Rattle.am_command.specs.declared.request.Request.{Request}
+use Rattle.am_command.specs.declared.request.Request.TheVariants.{Play, Check, Routes, Json, Manual, Completions}
+
+-- to play the story on standard input, as it is
+pub record IsPlain (play : PlayRequest) : Type 0 where
+  pub story : play.story.now ≡ codes "-"
+  pub config : play.config ≡ None
+  pub output : play.output ≡ None
+  pub until : play.until ≡ None
+
+-- the request is to play the story on standard input, as it is
+abbrev pub IsPlainPlay : Request → Type 0
+IsPlainPlay (Play play) = IsPlain play
+IsPlainPlay (Check files style) = ⊥
+IsPlainPlay (Routes file labels verify style) = ⊥
+IsPlainPlay (Json files style) = ⊥
+IsPlainPlay Manual = ⊥
+IsPlainPlay Completions = ⊥

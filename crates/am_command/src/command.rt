@@ -1,0 +1,131 @@
+//! The definition of the command line, from which parsing, help, the manual page and completions come.
+use clap::{Arg, ArgAction, Command};
+use std::alloc::{AllocError, Global};
+
+/// What `--output` takes.
+pub const OUTPUTS: [&str; 3] = ["timeline", "notices", "json"];
+
+/// What `--color` takes.
+pub const COLORS: [&str; 3] = ["auto", "always", "never"];
+
+/// What `--format` takes.
+pub const FORMATS: [&str; 2] = ["text", "json"];
+
+/// The version that `--version` prints.
+const VERSION: &str = "1.0.0";
+
+const PLAY_HELP: &str =
+    "Simulates a story, and prints which notification is sent when, to whom and why";
+
+const CHECK_HELP: &str = "Checks configurations, and prints what they hold or every fault in them";
+
+const ROUTES_HELP: &str = "Prints the routing tree, or the routes that a label set reaches";
+
+const JSON_HELP: &str = "Prints files as the JSON that the program reads in them, one a line";
+
+const MAN_HELP: &str = "Prints the manual page, in troff";
+
+const COMPLETIONS_HELP: &str = "Prints the completions for bash";
+
+const STATUSES: &str = "\
+Statuses: 0 done; 1 a file isn't readable; 2 a file or the command line is rejected; 3 out of memory; \
+4 the output isn't writable; 5 an expectation isn't met; 6 --verify differs.";
+
+/// Returns the command line. Without any word the program reads a story from standard input.
+pub fn command<'a>(alloc: Global) -> Result<Command<'a>, AllocError> {
+    Command::new(alloc, "am-rehearse")
+        .bin_name("am-rehearse")?
+        .version(VERSION)
+        .about("Rehearses an alertmanager.yml: simulates alerts, silences and outages on a clock")
+        .after_help(STATUSES)
+        .subcommand(play(alloc)?)?
+        .subcommand(check(alloc)?)?
+        .subcommand(routes(alloc)?)?
+        .subcommand(json(alloc)?)?
+        .subcommand(Command::new(alloc, "man").about(MAN_HELP))?
+        .subcommand(Command::new(alloc, "completions").about(COMPLETIONS_HELP))
+}
+
+fn play<'a>(alloc: Global) -> Result<Command<'a>, AllocError> {
+    let story = Arg::new(alloc, "STORY")
+        .help("A file in YAML or JSON with what happens; - is standard input")
+        .required(true);
+    let config = Arg::new(alloc, "config")
+        .long("config")
+        .value_name("FILE")
+        .help("An alertmanager.yml, or a config of our own, in place of the story's");
+    let output = Arg::new(alloc, "output")
+        .long("output")
+        .value_name("OUTPUT")
+        .value_parser(OUTPUTS.as_slice())
+        .help("What to print, in place of the story's own output");
+    let until = Arg::new(alloc, "until")
+        .long("until")
+        .value_name("DURATION")
+        .help("When the story ends, such as 5h, in place of its own until");
+    let play = Command::new(alloc, "play")
+        .about(PLAY_HELP)
+        .arg(story)?
+        .arg(config)?
+        .arg(output)?
+        .arg(until)?;
+    play.arg(color(alloc))?.arg(format(alloc))
+}
+
+fn check<'a>(alloc: Global) -> Result<Command<'a>, AllocError> {
+    let files = Arg::new(alloc, "FILE")
+        .help("An alertmanager.yml, a config of our own or a story; - is standard input")
+        .required(true)
+        .action(ArgAction::Append)
+        .num_args(1..);
+    let check = Command::new(alloc, "check").about(CHECK_HELP).arg(files)?;
+    check.arg(color(alloc))?.arg(format(alloc))
+}
+
+fn routes<'a>(alloc: Global) -> Result<Command<'a>, AllocError> {
+    let file = Arg::new(alloc, "FILE")
+        .help("An alertmanager.yml, a config of our own or a story; - is standard input")
+        .required(true);
+    let labels = Arg::new(alloc, "LABEL=VALUE")
+        .help("A label of the label set that is looked up")
+        .action(ArgAction::Append)
+        .num_args(0..);
+    let verify = Arg::new(alloc, "verify")
+        .long("verify")
+        .value_name("RECEIVER,..")
+        .help("Ends with status 6 unless the label set reaches these receivers, in their order");
+    let routes = Command::new(alloc, "routes")
+        .about(ROUTES_HELP)
+        .arg(file)?
+        .arg(labels)?
+        .arg(verify)?;
+    routes.arg(color(alloc))?.arg(format(alloc))
+}
+
+fn json<'a>(alloc: Global) -> Result<Command<'a>, AllocError> {
+    let files = Arg::new(alloc, "FILE")
+        .help("A file in YAML or JSON; - is standard input")
+        .required(true)
+        .action(ArgAction::Append)
+        .num_args(1..);
+    let json = Command::new(alloc, "json").about(JSON_HELP).arg(files)?;
+    json.arg(color(alloc))?.arg(format(alloc))
+}
+
+fn color<'a>(alloc: Global) -> Arg<'a> {
+    Arg::new(alloc, "color")
+        .long("color")
+        .value_name("WHEN")
+        .value_parser(COLORS.as_slice())
+        .default_value("auto")
+        .help("When to use colors; NO_COLOR turns auto off")
+}
+
+fn format<'a>(alloc: Global) -> Arg<'a> {
+    Arg::new(alloc, "format")
+        .long("format")
+        .value_name("FORMAT")
+        .value_parser(FORMATS.as_slice())
+        .default_value("text")
+        .help("How faults are printed on standard error: a line each, as text or as JSON")
+}

@@ -1,0 +1,352 @@
+//! What is wrong with a value, in words.
+use crate::durations::rewritten;
+use crate::fields::{FIELDS, Wanted, in_words};
+use crate::spelling::Nearest;
+use crate::spot::Spot;
+use serde_json::Value;
+use std::alloc::{AllocError, Global};
+
+/// How a value is wrong.
+#[derive(Clone, Copy, Debug, PartialEq, Eq)]
+pub enum Wrong {
+    /// A field that must be there isn't.
+    Missing,
+    /// Another kind of value is wanted.
+    WrongType,
+    /// The kind is right, and the value is rejected.
+    BadValue,
+    /// No field of this name is known there.
+    Unknown,
+    /// A limit leaves no capacity for it.
+    Full,
+    /// It has a meaning that the program doesn't follow.
+    Unsupported,
+}
+
+impl Wrong {
+    /// Returns the error kind's name, for programs.
+    pub fn name(self) -> &'static str {
+        match self {
+            Wrong::Missing => "missing",
+            Wrong::WrongType => "kind",
+            Wrong::BadValue => "value",
+            Wrong::Unknown => "unknown",
+            Wrong::Full => "full",
+            Wrong::Unsupported => "unsupported",
+        }
+    }
+}
+
+/// The limits that are named where one is passed.
+#[derive(Clone, Copy, Debug, PartialEq, Eq)]
+pub struct Bounds {
+    /// Routes below the root.
+    pub routes: usize,
+    pub receivers: usize,
+    /// Integrations of a receiver.
+    pub integrations: usize,
+    /// Inhibition rules.
+    pub rules: usize,
+    /// Matchers of a route.
+    pub matchers: usize,
+    /// Names in a list of label names.
+    pub names: usize,
+    /// Bytes of a label's name or value.
+    pub label_bytes: usize,
+    /// Days of a story.
+    pub days: usize,
+}
+
+/// Returns what is wrong with the value at a JSON pointer, in a line that names what to write in its place where that is
+/// known.
+pub fn explain(
+    alloc: Global,
+    top: &Value,
+    pointer: &str,
+    wrong: Wrong,
+    bounds: &Bounds,
+) -> Result<String, AllocError> {
+    let spot = Spot::of(alloc, top, pointer)?;
+    match wrong {
+        Wrong::Missing => missing(alloc, top, &spot),
+        Wrong::WrongType => wrong_type(alloc, &spot),
+        Wrong::BadValue => bad_value(alloc, top, pointer, &spot, bounds),
+        Wrong::Unknown => unknown(alloc, &spot),
+        Wrong::Full => full(alloc, top, &spot),
+        Wrong::Unsupported => unsupported(alloc, &spot),
+    }
+}
+
+fn missing(alloc: Global, top: &Value, spot: &Spot<'_>) -> Result<String, AllocError> {
+    let name = spot.name.as_str();
+    if name == "config" {
+        return missing_config(alloc, top);
+    }
+    format!(in alloc; "`{name}` is missing")
+}
+
+/// Says that a story has no configuration; where it looks like a configuration itself, that a story has to be round it.
+fn missing_config(alloc: Global, top: &Value) -> Result<String, AllocError> {
+    if top.get("receivers").is_some() {
+        return format!(in alloc;
+            "this is a configuration, not a story; give it with --config, and a story of its alerts"
+        );
+    }
+    format!(in alloc;
+        "the story has no configuration; add `config` or `alertmanager`, or give one with --config"
+    )
+}
+
+fn wrong_type(alloc: Global, spot: &Spot<'_>) -> Result<String, AllocError> {
+    let found = kind_in_words(spot.value);
+    let Some(wanted) = spot.wanted else {
+        return format!(in alloc; "another kind of value is wanted here, not {found}");
+    };
+    let words = in_words(wanted, spot.item.is_some());
+    let hint = match spot.value {
+        Some(Value::Number(_) | Value::Bool(_)) if is_text(wanted) => " (write it in quotes)",
+        _ => "",
+    };
+    format!(in alloc; "{words} is wanted here, not {found}{hint}")
+}
+
+fn is_text(wanted: Wanted) -> bool {
+    matches!(wanted, Wanted::Text | Wanted::Texts | Wanted::Labels)
+}
+
+/// Returns the kind of a value, in words.
+fn kind_in_words(value: Option<&Value>) -> &'static str {
+    match value {
+        None => "nothing",
+        Some(Value::Null) => "null",
+        Some(Value::Bool(_)) => "true or false",
+        Some(Value::Number(_)) => "a number",
+        Some(Value::String(_)) => "a text",
+        Some(Value::Array(_)) => "a list",
+        Some(Value::Object(_)) => "fields",
+    }
+}
+
+fn unknown(alloc: Global, spot: &Spot<'_>) -> Result<String, AllocError> {
+    let name = spot.name.as_str();
+    let mut nearest = Nearest::to(name);
+    for (known, _) in &FIELDS {
+        nearest.consider(alloc, known)?;
+    }
+    match nearest.found() {
+        None => format!(in alloc; "no field `{name}` is known here"),
+        Some(meant) => format!(in alloc;
+            "no field `{name}` is known here; did you mean `{meant}`?"
+        ),
+    }
+}
+
+fn unsupported(alloc: Global, spot: &Spot<'_>) -> Result<String, AllocError> {
+    let name = spot.name.as_str();
+    if name.ends_with("time_intervals") {
+        return format!(in alloc;
+            "`{name}` isn't supported: the program doesn't follow time intervals"
+        );
+    }
+    format!(in alloc;
+        "a route with `continue`, or beside or below one, isn't supported here: it needs exactly one matcher"
+    )
+}
+
+/// Says that a limit is reached. Where routes group by all labels, each alert takes a group of its own.
+fn full(alloc: Global, top: &Value, spot: &Spot<'_>) -> Result<String, AllocError> {
+    let each = if groups_by_all(top) {
+        "; the story makes a group for each alert, since `group_by` is `...`"
+    } else {
+        ""
+    };
+    match spot.name.as_str() {
+        "until" => format!(in alloc;
+            "the history has no capacity for all flushes until then{each}"
+        ),
+        "silences" => format!(in alloc; "there is no capacity for another silence"),
+        _ => format!(in alloc; "there is no capacity for another alert or group{each}"),
+    }
+}
+
+/// Returns whether the root groups by all labels.
+fn groups_by_all(top: &Value) -> bool {
+    for place in [
+        "/route/group_by/0",
+        "/config/route/group_by/0",
+        "/alertmanager/route/group_by/0",
+    ] {
+        if top
+            .pointer(place)
+            .is_some_and(|name| name.as_str() == Some("..."))
+        {
+            return true;
+        }
+    }
+    false
+}
+
+fn bad_value(
+    alloc: Global,
+    top: &Value,
+    pointer: &str,
+    spot: &Spot<'_>,
+    bounds: &Bounds,
+) -> Result<String, AllocError> {
+    if spot.is_label {
+        return bad_label(alloc, spot, bounds);
+    }
+    match (spot.text(), spot.wanted) {
+        (None, Some(Wanted::Matchers)) if pointer.starts_with("/silences") => {
+            let most = bounds.matchers;
+            format!(in alloc; "a silence needs 1 to {most} matchers")
+        }
+        (Some(text), Some(Wanted::Duration)) => bad_duration(
+            alloc,
+            spot.name.as_str(),
+            text,
+            bounds,
+        ),
+        (Some(text), Some(Wanted::Matchers)) => format!(in alloc;
+            "`{text}` is no matcher; write it as severity=\"critical\" or dc=~\"a|b\""
+        ),
+        (Some(text), Some(Wanted::Texts)) => bad_name(alloc, text),
+        (Some(text), Some(Wanted::Text)) => bad_text(alloc, top, pointer, spot.name.as_str(), text),
+        _ => too_many(alloc, spot, bounds),
+    }
+}
+
+fn bad_label(alloc: Global, spot: &Spot<'_>, bounds: &Bounds) -> Result<String, AllocError> {
+    let name = spot.name.as_str();
+    let label_bytes = bounds.label_bytes;
+    format!(in alloc;
+        "`{name}` isn't right here: a name has letters, digits and `_`, a value at most {label_bytes} bytes, a pattern RE2's form"
+    )
+}
+
+fn bad_duration(
+    alloc: Global,
+    name: &str,
+    text: &str,
+    bounds: &Bounds,
+) -> Result<String, AllocError> {
+    let days = bounds.days;
+    match rewritten(alloc, text)? {
+        None => format!(in alloc; "`{text}` is no duration; write 90s, 5m or 2h30m"),
+        Some(written) if written.as_str() != text && text != "0" => {
+            format!(in alloc; "`{text}` is no duration; write {written}")
+        }
+        Some(_) => match name {
+            "until" => format!(in alloc; "`{text}` is too long: a story has at most {days} days"),
+            "to" => format!(in alloc; "`{text}` comes before the beginning, or is too long"),
+            _ => format!(in alloc; "`{text}` is out of range for `{name}`"),
+        },
+    }
+}
+
+fn bad_name(alloc: Global, text: &str) -> Result<String, AllocError> {
+    format!(in alloc; "`{text}` is no label name: letters, digits and `_`, and no digit first")
+}
+
+fn bad_text(
+    alloc: Global,
+    top: &Value,
+    pointer: &str,
+    name: &str,
+    text: &str,
+) -> Result<String, AllocError> {
+    match name {
+        "receiver" => no_receiver(alloc, top, pointer, text),
+        "start" => format!(in alloc; "`{text}` is no time of RFC 3339; write 2026-11-23T08:00:00Z"),
+        "output" => format!(in alloc; "`{text}` is no output; write timeline, notices or json"),
+        "answer" => format!(in alloc; "`{text}` is no answer; write done, again or never"),
+        "name" if text.is_empty() => format!(in alloc; "the name is empty"),
+        "name" => format!(in alloc;
+            "`{text}` can't be the name: another has it, or it has other letters than names may have"
+        ),
+        _ => format!(in alloc; "`{text}` isn't allowed here"),
+    }
+}
+
+/// Says that there is no such receiver, and which one may be meant.
+fn no_receiver(
+    alloc: Global,
+    top: &Value,
+    pointer: &str,
+    text: &str,
+) -> Result<String, AllocError> {
+    if text.is_empty() {
+        return format!(in alloc; "the root route has to name a receiver");
+    }
+    let mut nearest = Nearest::to(text);
+    if let Some(receivers) = receivers_for(top, pointer) {
+        for receiver in receivers {
+            if let Some(name) = receiver.get("name").and_then(Value::as_str) {
+                nearest.consider(alloc, name)?;
+            }
+        }
+    }
+    match nearest.found() {
+        None => format!(in alloc; "receiver `{text}` isn't defined"),
+        Some(meant) => format!(in alloc;
+            "receiver `{text}` isn't defined; did you mean `{meant}`?"
+        ),
+    }
+}
+
+/// Returns the receivers of the configuration that a place belongs to.
+fn receivers_for<'v>(top: &'v Value, pointer: &str) -> Option<&'v Vec<Value>> {
+    let place = if pointer.starts_with("/route") || pointer.starts_with("/children") {
+        "/receivers"
+    } else if top.get("alertmanager").is_some() {
+        "/alertmanager/receivers"
+    } else {
+        "/config/receivers"
+    };
+    top.pointer(place)?.as_array()
+}
+
+/// Says which limit a list or a number passes, if it can be told.
+fn too_many(alloc: Global, spot: &Spot<'_>, bounds: &Bounds) -> Result<String, AllocError> {
+    let Bounds {
+        routes,
+        receivers,
+        integrations,
+        rules,
+        matchers,
+        names,
+        label_bytes,
+        days: _,
+    } = *bounds;
+    match spot.name.as_str() {
+        "routes" | "children" => format!(in alloc;
+            "there are too many routes: at most {routes} stand below the root, with at most {matchers} matchers each"
+        ),
+        "receivers" if spot.item.is_some() => format!(in alloc;
+            "the receiver has too many integrations: at most {integrations}"
+        ),
+        "receivers" => format!(in alloc; "there are too many receivers: at most {receivers}"),
+        "integrations" => format!(in alloc;
+            "there are too many integrations: at most {integrations}"
+        ),
+        "inhibit" | "inhibit_rules" => format!(in alloc;
+            "there are too many inhibition rules: at most {rules}"
+        ),
+        "group_by" | "equal" => format!(in alloc;
+            "too many names, or `...` beside another: at most {names}, and `...` alone"
+        ),
+        "labels" | "firing" | "resolved" => format!(in alloc;
+            "this is no label set: at most {names} labels, each with a name and a value of at most {label_bytes} bytes"
+        ),
+        "matchers" | "match" | "match_re" | "source" | "target" => format!(in alloc;
+            "these matchers aren't allowed here: at most {matchers}, and none at the root"
+        ),
+        "spans" => format!(in alloc;
+            "the spans don't follow each other, or one before the last has no end"
+        ),
+        "alertmanager" => format!(in alloc;
+            "a story has one configuration: `config` or `alertmanager`"
+        ),
+        name => format!(in alloc; "this value isn't allowed for `{name}`"),
+    }
+}

@@ -1,0 +1,75 @@
+//! The manual page.
+use crate::command::command;
+use clap::{Arg, Command};
+use std::alloc::{AllocError, Global};
+
+/// Returns the manual page of the command line, in troff.
+pub fn manual(alloc: Global) -> Result<String, AllocError> {
+    let command = command(alloc)?;
+    let mut page = String::new(alloc);
+    let name = command.get_name();
+    let about = command.get_about().unwrap_or("");
+    page.push_str(".TH AM-REHEARSE 1\n.SH NAME\n")?;
+    write!(page, "{name} \\- ")?;
+    push_escaped(&mut page, about)?;
+    page.push_str("\n.SH SYNOPSIS\n")?;
+    write!(
+        page,
+        ".B {name}\n.I COMMAND\n[\\fIOPTIONS\\fR]\n.SH COMMANDS\n"
+    )?;
+    for subcommand in command.get_subcommands() {
+        push_command(&mut page, subcommand)?;
+    }
+    page.push_str(".SH EXIT STATUS\n")?;
+    push_statuses(&mut page)?;
+    Ok(page)
+}
+
+fn push_command(page: &mut String, command: &Command<'_>) -> Result<(), AllocError> {
+    write!(page, ".SS {}\n", command.get_name())?;
+    push_escaped(page, command.get_about().unwrap_or(""))?;
+    page.push_str(".\n")?;
+    for argument in command.get_arguments() {
+        push_argument(page, argument)?;
+    }
+    Ok(())
+}
+
+fn push_argument(page: &mut String, argument: &Arg<'_>) -> Result<(), AllocError> {
+    page.push_str(".TP\n")?;
+    match argument.get_long() {
+        None => write!(page, ".I {}\n", argument.get_id())?,
+        Some(long) => write!(page, ".B \\-\\-{long}\n")?,
+    }
+    push_escaped(page, argument.get_help().unwrap_or(""))?;
+    page.push_str(".\n")
+}
+
+/// Adds a text in which troff reads nothing as a command of its own.
+fn push_escaped(page: &mut String, text: &str) -> Result<(), AllocError> {
+    for character in text.chars() {
+        match character {
+            '\\' => page.push_str("\\e")?,
+            '-' => page.push_str("\\-")?,
+            _ => page.push(character)?,
+        }
+    }
+    Ok(())
+}
+
+fn push_statuses(page: &mut String) -> Result<(), AllocError> {
+    for (status, meaning) in [
+        (0, "done"),
+        (1, "a file isn't readable"),
+        (2, "a file or the command line is rejected"),
+        (3, "out of memory"),
+        (4, "the output isn't writable"),
+        (5, "an expectation isn't met"),
+        (6, "--verify differs"),
+    ] {
+        write!(page, ".TP\n.B {status}\n")?;
+        push_escaped(page, meaning)?;
+        page.push('\n')?;
+    }
+    Ok(())
+}

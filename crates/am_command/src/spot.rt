@@ -1,0 +1,76 @@
+//! What a JSON pointer points to.
+use crate::fields::{Wanted, wanted_in};
+use serde_json::Value;
+use std::alloc::{AllocError, Global};
+
+/// A place in a value: the nearest member's name on the way to it, and what stands there.
+#[derive(Drop)]
+pub(crate) struct Spot<'v> {
+    /// The name of the member, or of the one that has the list.
+    pub(crate) name: String,
+    /// The number of the item in the member's list, if it is one.
+    pub(crate) item: Option<usize>,
+    /// The value, if there is one.
+    pub(crate) value: Option<&'v Value>,
+    /// What is wanted there, if that is known.
+    pub(crate) wanted: Option<Wanted>,
+    /// Whether it is a label of a label set.
+    pub(crate) is_label: bool,
+}
+
+impl<'v> Spot<'v> {
+    /// Returns the place that a JSON pointer has in a value.
+    pub(crate) fn of(alloc: Global, top: &'v Value, pointer: &str) -> Result<Spot<'v>, AllocError> {
+        let value = top.pointer(pointer);
+        let (above, last) = parted(pointer);
+        if is_list(top.pointer(above)) {
+            let (_, name) = parted(above);
+            return Ok(Spot {
+                name: unescaped(alloc, name)?,
+                item: last.parse::<usize>().ok(),
+                value,
+                wanted: wanted_in(name),
+                is_label: false,
+            });
+        }
+        let (_, parent) = parted(above);
+        let is_label = wanted_in(parent) == Some(Wanted::Labels);
+        let wanted = match parent {
+            "limits" => Some(Wanted::Number),
+            _ if is_label => Some(Wanted::Text),
+            _ => wanted_in(last),
+        };
+        Ok(Spot {
+            name: unescaped(alloc, last)?,
+            item: None,
+            value,
+            wanted,
+            is_label,
+        })
+    }
+
+    /// Returns the text that stands there, if it is one.
+    pub(crate) fn text(&self) -> Option<&'v str> {
+        self.value?.as_str()
+    }
+}
+
+fn is_list(value: Option<&Value>) -> bool {
+    match value {
+        None => false,
+        Some(value) => value.is_array(),
+    }
+}
+
+/// Returns the pointer above the last step, and that step as it is written.
+pub(crate) fn parted(pointer: &str) -> (&str, &str) {
+    match pointer.rsplit_once('/') {
+        None => ("", pointer),
+        Some(parts) => parts,
+    }
+}
+
+fn unescaped(alloc: Global, step: &str) -> Result<String, AllocError> {
+    let slashes = step.replace(alloc, "~1", "/")?;
+    slashes.as_str().replace(alloc, "~0", "~")
+}

@@ -4,6 +4,7 @@ import re
 import resource
 import subprocess
 import sys
+from functools import cache
 from pathlib import Path
 
 # What a run may take: seconds of a processor, and bytes.
@@ -20,43 +21,71 @@ def tell(told, is_right, why=""):
         FAILED.append(told)
 
 
-def run(text, seconds=SECONDS):
-    """The status of a run, what it told, and its line on standard error."""
+# Words with which faults are told as JSON.
+PLAY = ("play", "-", "--format", "json")
+
+
+def run(text, *words, seconds=SECONDS):
+    """The status of a run with these words, what it told, and its lines on standard error."""
 
     def limit():
         resource.setrlimit(resource.RLIMIT_CPU, (seconds, seconds))
         resource.setrlimit(resource.RLIMIT_AS, (BYTES, BYTES))
 
-    ran = subprocess.run([PROGRAM], input=text.encode(), capture_output=True, preexec_fn=limit)
+    ran = subprocess.run([PROGRAM, *words], input=text.encode(), capture_output=True, preexec_fn=limit)
     return ran.returncode, ran.stdout.decode(), ran.stderr.decode().rstrip("\n")
 
 
+def faults_in(lines):
+    """The places and kinds of faults that are told as JSON."""
+    return [f"{it.get('pointer', '')}: {it['kind']}" for it in map(json.loads, lines.splitlines())]
+
+
+def forms(name):
+    """The files of a stored rehearsal, in JSON, in YAML or in both."""
+    return [it for it in (REHEARSALS / f"{name}.json", REHEARSALS / f"{name}.yml") if it.exists()]
+
+
+@cache
+def as_json(file):
+    """The JSON that the program reads in a file; of a file in JSON it is the file's own."""
+    return file.read_text() if file.suffix == ".json" else run("", "json", str(file))[1]
+
+
 def stored(name):
-    return json.loads((REHEARSALS / f"{name}.json").read_text())
+    return json.loads(as_json(forms(name)[0]))
 
 
 # The stored outputs.
 
 def check_output(name):
-    """A rehearsal has its stored text and status; `notices` prints the text's notices alone."""
+    """A rehearsal has its stored text and status, in each of its forms and as JSON on standard input; `--output notices`
+    prints the text's notices alone."""
     wanted = (REHEARSALS / f"{name}.txt").read_text()
     status_file = REHEARSALS / f"{name}.status"
     status = int(status_file.read_text()) if status_file.exists() else 0
-    got = run((REHEARSALS / f"{name}.json").read_text())
-    tell(f"{name}.json", got[:2] == (status, wanted), f"status {got[0]} {got[2]}")
+    for file in forms(name):
+        got = run("", "play", str(file))
+        tell(file.name, got[:2] == (status, wanted), f"status {got[0]} {got[2]}")
+        got = run(as_json(file))
+        tell(f"{file.name}, as JSON", got[:2] == (status, wanted), f"status {got[0]} {got[2]}")
+        tell(f"{file.name}, its value", json.loads(as_json(file)) == stored(name))
     if stored(name).get("output", "timeline") != "timeline":
         return
     lines = wanted.splitlines(keepends=True)
     notices = "".join(line for line in lines if line[14:22] == "notice  ")
+    got = run("", "play", str(forms(name)[-1]), "--output", "notices")
+    tell(f"{name}, notices", got[:2] == (status, notices), f"status {got[0]} {got[2]}")
     got = run(json.dumps({**stored(name), "output": "notices"}))
-    tell(f"{name}.json, notices", got[:2] == (status, notices), f"status {got[0]} {got[2]}")
+    tell(f"{name}, notices by its own output", got[:2] == (status, notices), f"status {got[0]} {got[2]}")
 
 
-def check_first_example():
-    """The first rehearsal of docs/rehearse.md tells first what stands behind it."""
-    rehearsal, told = re.search(r"```json\n(.*?)```\n\n.*?```\n(.*?)```", Path("docs/rehearse.md").read_text(), re.S).groups()
-    got = run(rehearsal)
-    tell("docs/rehearse.md, its first example", got[0] == 0 and got[1].startswith(told), f"status {got[0]} {got[2]}")
+def check_first_run():
+    """The first run of the README in YAML, and the program's stored run in JSON, are one story with one output."""
+    story, crate = Path("examples/disk-full.yml"), Path("crates/am_rehearse")
+    tell("disk-full.yml and the program's stdin", json.loads(as_json(story)) == json.loads((crate / "stdin").read_text()))
+    got = run("", "play", str(story))
+    tell("disk-full.yml", got[:2] == (0, (crate / "stdout").read_text()), f"status {got[0]} {got[2]}")
 
 
 # The notices of a scenario and of its rehearsal.
@@ -187,12 +216,11 @@ def check_refusals(table, least):
         changed = json.loads("\n".join(lines[:end]))
         for words in changes.split(" ; "):
             changed = change(changed, words)
-        status, told, line = run(json.dumps(changed))
+        status, told, line = run(json.dumps(changed), *PLAY)
         if wanted == "played":
             is_right = status in (0, 5) and told != ""
         else:
-            refused = "\n".join(f"am-rehearse: rehearsal refused at {at}" for at in repeated(wanted).split(" | "))
-            is_right = (status, told, line) == (2, "", refused)
+            is_right = (status, told) == (2, "") and faults_in(line) == repeated(wanted).split(" | ")
         if not is_right:
             differ += 1
             tell(row[:150], False, f"status {status} {line[:200]}")
@@ -207,8 +235,8 @@ def matcher_outcome(text, labels):
         "children": [{"name": "child", "receiver": "team", "matchers": [text]}],
     }
     rehearsal = {"config": config, "until": "1m", "alerts": [{"labels": labels}], "output": "notices"}
-    status, told, line = run(json.dumps(rehearsal))
-    if (status, told, line) == (2, "", "am-rehearse: rehearsal refused at /config/children/0/matchers/0: value"):
+    status, told, line = run(json.dumps(rehearsal), *PLAY)
+    if (status, told) == (2, "") and faults_in(line) == ["/config/children/0/matchers/0: value"]:
         return "refused"
     found = re.fullmatch(r".{14}notice  (child|root)\{\} -> [^\n]*\n", told) if status == 0 else None
     return f"status {status} {line}" if found is None else {"child": "matches", "root": "fails"}[found[1]]
@@ -248,16 +276,16 @@ def check_dropped():
         ({"global": {"resolve_timeout": "5m"}, "receivers": mailed(to="x")}, "global, settings of integrations"),
     ]:
         status, told, line = run(json.dumps(theirs(**members)))
-        wanted = f"am-rehearse: dropped: {dropped}" if dropped else ""
-        tell(f"dropped: {dropped or 'nothing'}", (status, line) == (0, wanted) and told != "", line)
+        wanted = f"<stdin>: ignored: {dropped}" if dropped else ""
+        tell(f"ignored: {dropped or 'nothing'}", (status, line) == (0, wanted) and told != "", line)
 
 
 def check_many_faults():
     """Of more than a hundred faults the first hundred are told."""
     unknown = {f"x{number:03}": 1 for number in range(101)}
-    status, told, line = run(json.dumps(theirs(**unknown)))
-    wanted = [f"am-rehearse: rehearsal refused at /alertmanager/x{number:03}: unknown" for number in range(100)]
-    tell("a hundred faults", (status, told, line.split("\n")) == (2, "", wanted), line[-200:])
+    status, told, line = run(json.dumps(theirs(**unknown)), *PLAY)
+    wanted = [f"/alertmanager/x{number:03}: unknown" for number in range(100)]
+    tell("a hundred faults", (status, told, faults_in(line)) == (2, "", wanted), line[-200:])
 
 
 # Inputs that would take long, or much memory.
@@ -280,32 +308,29 @@ def padded(size):
 
 
 def check_hostile():
-    not_json = "am-rehearse: rehearsal refused: not JSON at line"
-    refused = "am-rehearse: rehearsal refused at"
+    not_json = ": text"
     endless = [{"receiver": "team"}]
-    letters = [{"matchers": [f'a{number}=~"\\\\w{{1,100}}"']} for number in range(40)]
-    crowded = {"matchers": ["a=b"], "continue": True, "routes": letters}
     for told, text, status, line in [
         ("arrays 100,000 deep", "[" * 100_000, 2, not_json),
         ("arrays 100,000 deep, closed", "[" * 100_000 + "]" * 100_000, 2, not_json),
         ("objects 100,000 deep", '{"config":' * 100_000, 2, not_json),
         ("16 MiB", padded(16_777_216), 0, ""),
-        ("16 MiB and a byte", padded(16_777_217), 1, "am-rehearse: input not readable"),
-        ("an end at 10^12", json.dumps(plain(until="1000000000000ms")), 2, f"{refused} /until: value"),
-        ("an end at 10^30", json.dumps(plain(until=f"{10**30}y")), 2, f"{refused} /until: value"),
+        ("16 MiB and a byte", padded(16_777_217), 1, "not readable"),
+        ("an end at 10^12", json.dumps(plain(until="1000000000000ms")), 2, f"/until: value"),
+        ("an end at 10^30", json.dumps(plain(until=f"{10**30}y")), 2, f"/until: value"),
         ("a wait of 10^12", json.dumps(plain(maintain="1000000000000ms")), 0, ""),
-        ("a wait above it", json.dumps(plain(maintain="1000000000001ms")), 2, f"{refused} /maintain: value"),
-        ("100,000 alerts", json.dumps(plain(alerts=alerts(100_000))), 2, f"{refused} /alerts/65536: full"),
+        ("a wait above it", json.dumps(plain(maintain="1000000000001ms")), 2, f"/maintain: value"),
+        ("100,000 alerts", json.dumps(plain(alerts=alerts(100_000))), 2, f"/alerts/65536: full"),
+        ("a hundred faults behind 50,000 alerts", json.dumps(plain(alerts=alerts(50_000) + [{}] * 100)), 2,
+         "/alerts/50000/labels: missing"),
         ("an outage without an end", json.dumps(plain(until="366d", outages=endless)), 0, ""),
         ("300,000 routes", json.dumps(theirs(route={"receiver": "team", "routes": [{}] * 300_000})), 2,
-         f"{refused} /alertmanager/route/routes/63: value"),
-        ("large patterns that too many routes leave out",
-         json.dumps(theirs(route={"receiver": "team", "routes": [crowded]})), 2,
-         f"{refused} /alertmanager/route/routes/0/routes/31: value"),
-        ("maintenance each millisecond", json.dumps(plain(until="366d", maintain="1ms")), 2, f"{refused} /until: full"),
+         f"/alertmanager/route/routes/1023: value"),
+        ("maintenance each millisecond", json.dumps(plain(until="366d", maintain="1ms")), 2, f"/until: full"),
     ]:
-        got = run(text)
-        is_right = got[0] == status and got[2].startswith(line) and (got[1] != "") == (status == 0)
+        got = run(text, *PLAY)
+        lines = faults_in(got[2]) if status == 2 else [got[2]]
+        is_right = got[0] == status and line in lines[0] and (got[1] != "") == (status == 0)
         tell(f"{told}: {status} {line}", is_right, f"status {got[0]} {got[2][:200]}")
 
 
@@ -325,22 +350,23 @@ def routes_below(widths, level=1, **members):
 
 
 def check_trees():
-    """The widest tree that may be, which finds one route for an alert that each takes, or with `continue`
-    all of the lowest level; and a tree of 500 routes, which is refused at the sixty-fourth."""
-    widest = [3, 2, 1, 2, 3]
-    refused = "am-rehearse: rehearsal refused at /alertmanager/route/routes/0/routes/2: value"
+    """The widest tree that may be, which finds one route for an alert that each takes, or with `continue` all of the
+    lowest level; and one of a route more, which is refused at the last that there is no capacity for."""
+    widest = routes_below([3, 4, 4, 4, 4])
+    continued = routes_below([3, 4, 4, 4, 4], **{"continue": True})
+    refused = "/alertmanager/route/routes/3: value"
     for told, routes, wanted in [
-        ("63 routes five deep", routes_below(widest), (0, 1, "")),
-        ("63 routes five deep, with continue", routes_below(widest, **{"continue": True}), (0, 36, "")),
-        ("500 routes five deep", routes_below([4, 4, 5, 1, 4]), (2, 0, refused)),
+        ("1,023 routes five deep", widest, (0, 1, "")),
+        ("1,023 routes five deep, with continue", continued, (0, 768, "")),
+        ("1,024 routes five deep", [*widest, {}], (2, 0, refused)),
     ]:
         labels = {f"level{level}": "x" for level in range(1, 6)}
         rehearsal = theirs(
             route={"receiver": "team", "routes": routes}, receivers=[{"name": "team", "webhook_configs": [{}]}]
         )
         text = json.dumps({**rehearsal, "alerts": [{"labels": labels}], "output": "notices"})
-        status, notices, line = run(text, seconds=1)
-        got = (status, len(notices.splitlines()), line)
+        status, notices, line = run(text, *PLAY, seconds=1)
+        got = (status, len(notices.splitlines()), "".join(faults_in(line)))
         tell(f"{told}, within a second: {wanted}", got == wanted, str(got)[:200])
 
 
@@ -356,20 +382,22 @@ def check_schema():
         return
     jsonschema.Draft202012Validator.check_schema(schema)
     validator = jsonschema.Draft202012Validator(schema)
-    for example in sorted(REHEARSALS.glob("*.json")):
-        faults = [fault.message for fault in validator.iter_errors(stored(example.stem))]
+    examples = [*REHEARSALS.glob("*.json"), *REHEARSALS.glob("*.yml"), *Path("examples").glob("*.yml")]
+    for example in sorted(examples):
+        faults = [fault.message for fault in validator.iter_errors(json.loads(as_json(example)))]
         tell(f"{example.name}, by the schema", not faults, "; ".join(faults)[:300])
 
 
 def main():
-    names = sorted(it.stem for it in REHEARSALS.glob("*.json"))
+    names = sorted({it.stem for it in [*REHEARSALS.glob("*.json"), *REHEARSALS.glob("*.yml")]})
     scenarios = sorted(Path("examples").glob("*.txt"))
     for name in names:
         check_output(name)
-    check_first_example()
+    check_first_run()
     for scenario in scenarios:
         check_scenario(scenario)
-    tell("as many rehearsals and scenarios as there were", len(names) >= 20 and len(scenarios) >= 9)
+    tell("as many rehearsals and scenarios as there were", len(names) >= 28 and len(scenarios) >= 9)
+    tell("some rehearsals are in YAML and in JSON", sum(len(forms(name)) == 2 for name in names) >= 5)
     check_differences()
     check_refusals(Path(".ci/rehearsal-refusals"), 200)
     check_refusals(Path(".ci/alertmanager-refusals"), 100)

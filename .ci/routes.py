@@ -2,11 +2,15 @@
 import json
 import subprocess
 import sys
+import tempfile
+from itertools import zip_longest
 from pathlib import Path
 
 PROGRAM = sys.argv[1]
 FOLDER = Path("examples/alertmanager")
 SETS = 300
+# One of so many label sets is looked up by the command `routes` too.
+SAMPLE = 10
 
 
 def rehearsal(config, sets):
@@ -53,6 +57,37 @@ def unreached(config, rows, notices):
     return missing + ([f"{count} of {len(routes)} routes"] if count else [])
 
 
+def given(words, text=""):
+    """What the program gives with these words: its status, and what it prints, by its stream."""
+    ran = subprocess.run([PROGRAM, *map(str, words)], input=text.encode(), capture_output=True)
+    return ran.returncode, ran.stdout.decode(), ran.stderr.decode()
+
+
+def check_yaml(file, rows):
+    """What differs between a file in YAML and the same in JSON: what they are read as, what `check` and `routes` print, and
+    what a story of the label sets gives with each as its configuration."""
+    story = json.dumps({"until": "6m", "alerts": [{"labels": labels, "to": "5m"} for labels, _ in rows]})
+    with tempfile.NamedTemporaryFile("w", suffix=".json") as written:
+        written.write(story)
+        written.flush()
+        for words in (["check", file], ["routes", file], ["json", file], ["play", written.name, "--config", file]):
+            in_json = "".join(map(str, given(words))).replace(file.name, file.stem + ".yml")
+            in_yaml = "".join(map(str, given([it if it != file else file.with_suffix(".yml") for it in words])))
+            if in_yaml != in_json or not in_json.startswith("0") or in_json == "0":
+                pairs = zip_longest(in_yaml.splitlines(), in_json.splitlines())
+                ours, theirs = next((it for it in pairs if it[0] != it[1]), (in_yaml, in_json))
+                yield f"{words[0]} gives for the YAML {ours!r:.150}, and for the JSON {theirs!r:.150}"
+
+
+def check_lookups(file, rows):
+    """What differs where the command `routes` looks a label set up."""
+    for labels, wanted in rows[::SAMPLE]:
+        words = [f"{name}={value}" for name, value in labels.items()]
+        status, _, line = given(["routes", file.with_suffix(".yml"), *words, "--verify", ",".join(wanted)])
+        if status != 0:
+            yield f"{labels}: {line.rstrip()}"
+
+
 def check(file):
     """Whether the label sets of a file have the receivers that are stored, and reach each of its routes."""
     rows = [json.loads(line) for line in file.with_suffix(".routes").read_text().splitlines()]
@@ -71,14 +106,17 @@ def check(file):
     ]
     for labels, wanted, got in wrong[:3]:
         print(f"        {labels}: wanted {wanted}, got {got}")
-    missing = unreached(config, rows, notices)
-    for what in missing:
-        print(f"        no label set reaches {what}")
+    missing = [f"no label set reaches {it}" for it in unreached(config, rows, notices)]
+    missing += [*check_yaml(file, rows), *check_lookups(file, rows)]
+    for what in missing[:10]:
+        print(f"        {what}")
     is_right = len(rows) == SETS and not wrong and not missing
     print(f"{'ok     ' if is_right else 'differs'} {file.name}: {len(rows) - len(wrong)} of {len(rows)} label sets")
     return is_right
 
 
 files = sorted(FOLDER.glob("*.json"))
+if {it.stem for it in files} != {it.stem for it in FOLDER.glob("*.yml")}:
+    sys.exit("differs: not each file is there in YAML and in JSON")
 results = [check(file) for file in files]
 sys.exit(0 if files and all(results) else 1)

@@ -1,68 +1,77 @@
 -- The positions of a label set's routes: they ascend, and each is of a route.
-use Rattle.std.proofs.Common.{◌≡◌, ℕ, ◌+◌, ◌<◌, ◌≤◌, zero, suc, Bool, true, false, cond, List, [], ◌∷◌, length, slice_index, All, subst, arith}
+use Rattle.std.proofs.Common.{◌≡◌, ℕ, ◌+◌, ◌<◌, ◌≤◌, zero, suc, Bool, true, false, cond, List, [], ◌∷◌, ◌++◌, length, slice_index, All, subst, arith}
 use Rattle.std.specs.List.Sorted.{IsStrictlyIncreasing}
-use Rattle.std.proofs.lemmas.List.Elements.{All-nil, All-cons, All-weaker}
+use Rattle.std.proofs.lemmas.List.Elements.{All-nil, All-cons}
 use Rattle.am_alerts.specs.declared.labels.Label.{Label}
-use Rattle.am_alerts.specs.declared.route.Child.{Child}
+use Rattle.am_alerts.specs.Forest.{Forest, bare, grow, count}
 use Rattle.am_alerts.specs.Matcher.{match_all}
-use Rattle.am_alerts.specs.RoutingTree.{RoutingTree, matching_from, routes_of, or_root}
+use Rattle.am_alerts.specs.RoutingTree.{RoutingTree, TreeRoute, last_of, matching, or_self, routes_of}
 
--- numbers from one on, and below another
-abbrev Between : ℕ → ℕ → ℕ → Type 0
-Between low high q = (low ≤ q) × (q < high)
+-- numbers that ascend, from one on and below another
+abbrev pub Ascend : ℕ → ℕ → List ℕ → Type 0
+Ascend low high [] = low ≤ high
+Ascend low high (x ∷ xs) = (low ≤ x) × Ascend (x + 1) high xs
 
--- the positions are those of the children
-matching_from-between : (p : ℕ) (cs : List Child) (labels : List Label) → All (Between p (p + length cs)) (matching_from p cs labels)
-matching_from-between p [] labels = All-nil (Between p (p + 0))
-matching_from-between p (c ∷ cs) labels =
-    let high = p + length (c ∷ cs) in
-    let later : All (Between (p + 1) high) (matching_from (p + 1) cs labels) =
-    All-weaker (Between (p + 1) (p + 1 + length cs)) (Between (p + 1) high) (λ q h. (h.0, omega arith)) (matching_from (p + 1) cs labels) (matching_from-between (p + 1) cs labels) in
-    let wide : All (Between p high) (matching_from (p + 1) cs labels) = All-weaker (Between (p + 1) high) (Between p high) (λ q h. (omega arith, h.1)) (matching_from (p + 1) cs labels) later in
-    by (match_all c.matchers labels) c.goes_on wide
+ascend-lower : (low low' high : ℕ) (xs : List ℕ) → low' ≤ low → Ascend low high xs → Ascend low' high xs
+ascend-lower low low' high [] under h = omega arith
+ascend-lower low low' high (x ∷ xs) under h = (omega (arith, h.0), h.1)
+
+ascend-append : (low mid high : ℕ) (xs ys : List ℕ) → Ascend low mid xs → Ascend mid high ys → Ascend low high (xs ++ ys)
+ascend-append low mid high [] ys a b = ascend-lower mid low high ys a b
+ascend-append low mid high (x ∷ xs) ys a b = (a.0, ascend-append (x + 1) mid high xs ys a.1 b)
+
+ascend-self : (p high : ℕ) (xs : List ℕ) → Ascend (p + 1) high xs → Ascend p high (or_self p xs)
+ascend-self p high [] a = (omega arith, a)
+ascend-self p high (x ∷ xs) a = ascend-lower (p + 1) p high (x ∷ xs) (omega arith) a
+
+-- the positions of a forest's routes that match
+pub matching-ascend : (p : ℕ) (f : Forest TreeRoute) (labels : List Label) → Ascend p (p + count f) (matching p f labels)
+matching-ascend p bare labels = omega arith
+matching-ascend p (grow r below after) labels =
+    let mid = p + 1 + count below in
+    let high = p + (count below + 1 + count after) in
+    let e : mid + count after ≡ high = omega arith in
+    let later : Ascend mid high (matching mid after labels) = subst (λ h. Ascend mid h (matching mid after labels)) e (matching-ascend mid after labels) in
+    let reached : Ascend p mid (or_self p (matching (p + 1) below labels)) = ascend-self p mid (matching (p + 1) below labels) (matching-ascend (p + 1) below labels) in
+    by (match_all r.child.matchers labels) r.child.goes_on later reached
   where
-    by : (m on : Bool) → All (Between p (p + length (c ∷ cs))) (matching_from (p + 1) cs labels) → All (Between p (p + length (c ∷ cs))) (cond m (p ∷ cond on (matching_from (p + 1) cs labels) []) (matching_from (p + 1) cs labels))
-    by true true wide = All-cons (Between p (p + length (c ∷ cs))) p (matching_from (p + 1) cs labels) (omega arith, omega arith) wide
-    by true false wide = All-cons (Between p (p + length (c ∷ cs))) p [] (omega arith, omega arith) (All-nil (Between p (p + length (c ∷ cs))))
-    by false on wide = wide
+    by : (m on : Bool) → Ascend (p + 1 + count below) (p + (count below + 1 + count after)) (matching (p + 1 + count below) after labels) → Ascend p (p + 1 + count below) (or_self p (matching (p + 1) below labels)) → Ascend p (p + (count below + 1 + count after)) (cond m (or_self p (matching (p + 1) below labels) ++ cond on (matching (p + 1 + count below) after labels) []) (matching (p + 1 + count below) after labels))
+    by true true later reached = ascend-append p (p + 1 + count below) (p + (count below + 1 + count after)) (or_self p (matching (p + 1) below labels)) (matching (p + 1 + count below) after labels) reached later
+    by true false later reached = ascend-append p (p + 1 + count below) (p + (count below + 1 + count after)) (or_self p (matching (p + 1) below labels)) [] reached (omega arith)
+    by false on later reached = ascend-lower (p + 1 + count below) p (p + (count below + 1 + count after)) (matching (p + 1 + count below) after labels) (omega arith) later
+
+routes_of-ascend : (tree : RoutingTree) (labels : List Label) → Ascend 0 (1 + last_of tree) (routes_of tree labels)
+routes_of-ascend tree labels = ascend-self 0 (1 + last_of tree) (matching 1 tree.below labels) (matching-ascend 1 tree.below labels)
 
 -- a number before a list of greater ones that ascend
-rises-cons : (x : ℕ) (xs : List ℕ) → All (λ y. x < y) xs → IsStrictlyIncreasing xs → IsStrictlyIncreasing (x ∷ xs)
-rises-cons x xs above rises zero within = above 0 0 (omega arith)
-rises-cons x xs above rises (suc k) within =
+rises-cons : (x y : ℕ) (ys : List ℕ) → x + 1 ≤ y → IsStrictlyIncreasing (y ∷ ys) → IsStrictlyIncreasing (x ∷ y ∷ ys)
+rises-cons x y ys above rises zero within = omega arith
+rises-cons x y ys above rises (suc k) within =
     let e : suc (k + 1) ≡ suc k + 1 = omega arith in
-    subst (λ j. slice_index (x ∷ xs) (suc k) < slice_index (x ∷ xs) j) e (rises k (omega arith))
+    subst (λ j. slice_index (x ∷ y ∷ ys) (suc k) < slice_index (x ∷ y ∷ ys) j) e (rises k (omega arith))
 
-matching_from-rises : (p : ℕ) (cs : List Child) (labels : List Label) → IsStrictlyIncreasing (matching_from p cs labels)
-matching_from-rises p [] labels = λ k within. absurd (omega arith)
-matching_from-rises p (c ∷ cs) labels =
-    let above : All (λ q. p < q) (matching_from (p + 1) cs labels) =
-    All-weaker (Between (p + 1) (p + 1 + length cs)) (λ q. p < q) (λ q h. omega (arith, h.0)) (matching_from (p + 1) cs labels) (matching_from-between (p + 1) cs labels) in
-    by (match_all c.matchers labels) c.goes_on above (matching_from-rises (p + 1) cs labels)
+rises-ascend : (low high : ℕ) (xs : List ℕ) → Ascend low high xs → IsStrictlyIncreasing xs
+rises-ascend low high [] a = λ k within. absurd (omega arith)
+rises-ascend low high (x ∷ []) a = λ k within. absurd (omega arith)
+rises-ascend low high (x ∷ y ∷ ys) a = rises-cons x y ys a.1.0 (rises-ascend (x + 1) high (y ∷ ys) a.1)
+
+below-ascend : (low high : ℕ) (xs : List ℕ) → Ascend low (1 + high) xs → All (λ p. p ≤ high) xs
+below-ascend low high [] a = All-nil (λ p. p ≤ high)
+below-ascend low high (x ∷ xs) a = All-cons (λ p. p ≤ high) x xs (omega (arith, last (x + 1) (1 + high) xs a.1)) (below-ascend (x + 1) high xs a.1)
   where
-    by : (m on : Bool) → All (λ q. p < q) (matching_from (p + 1) cs labels) → IsStrictlyIncreasing (matching_from (p + 1) cs labels) → IsStrictlyIncreasing (cond m (p ∷ cond on (matching_from (p + 1) cs labels) []) (matching_from (p + 1) cs labels))
-    by true true above later = rises-cons p (matching_from (p + 1) cs labels) above later
-    by true false above later = rises-cons p [] (All-nil (λ q. p < q)) (λ k within. absurd (omega arith))
-    by false on above later = later
+    last : (low high : ℕ) (xs : List ℕ) → Ascend low high xs → low ≤ high
+    last low high [] a = a
+    last low high (x ∷ xs) a = omega (arith, a.0, last (x + 1) high xs a.1)
 
 pub routes_of-rises : (tree : RoutingTree) (labels : List Label) → IsStrictlyIncreasing (routes_of tree labels)
-routes_of-rises tree labels = by (matching_from 1 tree.children labels) (matching_from-rises 1 tree.children labels)
-  where
-    by : (ps : List ℕ) → IsStrictlyIncreasing ps → IsStrictlyIncreasing (or_root ps)
-    by [] rises = λ k within. absurd (omega arith)
-    by (p ∷ ps) rises = rises
+routes_of-rises tree labels = rises-ascend 0 (1 + last_of tree) (routes_of tree labels) (routes_of-ascend tree labels)
 
-pub routes_of-exist : (tree : RoutingTree) (labels : List Label) → All (λ p. p ≤ length tree.children) (routes_of tree labels)
-routes_of-exist tree labels =
-    by (matching_from 1 tree.children labels) (All-weaker (Between 1 (1 + length tree.children)) (λ p. p ≤ length tree.children) (λ q h. omega (arith, h.1)) (matching_from 1 tree.children labels) (matching_from-between 1 tree.children labels))
-  where
-    by : (ps : List ℕ) → All (λ p. p ≤ length tree.children) ps → All (λ p. p ≤ length tree.children) (or_root ps)
-    by [] all = All-cons (λ p. p ≤ length tree.children) 0 [] (omega arith) (All-nil (λ p. p ≤ length tree.children))
-    by (p ∷ ps) all = all
+pub routes_of-exist : (tree : RoutingTree) (labels : List Label) → All (λ p. p ≤ last_of tree) (routes_of tree labels)
+routes_of-exist tree labels = below-ascend 0 (last_of tree) (routes_of tree labels) (routes_of-ascend tree labels)
 
 pub routes_of-some : (tree : RoutingTree) (labels : List Label) → 0 < length (routes_of tree labels)
-routes_of-some tree labels = by (matching_from 1 tree.children labels)
+routes_of-some tree labels = by (matching 1 tree.below labels)
   where
-    by : (ps : List ℕ) → 0 < length (or_root ps)
+    by : (ps : List ℕ) → 0 < length (or_self 0 ps)
     by [] = omega arith
     by (p ∷ ps) = omega arith

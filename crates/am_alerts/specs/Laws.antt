@@ -1,7 +1,7 @@
 -- The limits and the faults' numbers, by their values.
 use Rattle.std.specs.Prelude.{◌≡◌, [], ◌∷◌}
 use Rattle.am_alerts.specs.declared.limits.TheConstants.{MAX_MOMENT, MAX_DURATION, MAX_LABELS, MAX_LABEL_BYTES, MAX_MATCHERS, MAX_NAMES}
-use Rattle.am_alerts.specs.declared.limits.TheConstants.{MAX_CHILDREN}
+use Rattle.am_alerts.specs.declared.limits.TheConstants.{MAX_CHILDREN, MAX_ROUTES, MAX_DEPTH}
 use Rattle.am_alerts.specs.declared.law.TheConstants.{LABEL_FAULTS, ALERT_FAULTS, MATCHER_FAULTS, ROUTE_FAULTS, DURATION_FAULTS}
 use Rattle.am_alerts.specs.declared.labels.LabelFault.TheVariants as label
 use Rattle.am_alerts.specs.declared.alert.AlertFault.TheVariants as alert
@@ -10,7 +10,7 @@ use Rattle.am_alerts.specs.declared.route.RouteFault.TheVariants as route
 use Rattle.am_alerts.specs.declared.duration.DurationFault.TheVariants as duration
 
 -- law: a moment is at most 10^15 ms and a duration at most 10^12; 64 labels, names and values of 1,024 bytes, 32 matchers in a list, 64
--- names in a list, 63 children
+-- names in a list, 63 children of a root of one level, 1,023 routes below a root, at 64 levels
 abbrev pub LimitsAre : Type 0
 LimitsAre =
     (MAX_MOMENT ≡ 1_000_000_000_000_000)
@@ -20,6 +20,8 @@ LimitsAre =
     × (MAX_MATCHERS ≡ 32)
     × (MAX_NAMES ≡ 64)
     × (MAX_CHILDREN ≡ 63)
+    × (MAX_ROUTES ≡ 1_023)
+    × (MAX_DEPTH ≡ 64)
 
 -- law: the numbers of the faults of label sets
 abbrev pub LabelFaultsAre : Type 0

@@ -1,12 +1,17 @@
 pub mod AlertData
 pub mod Duration
 pub mod Fault
+pub mod Forest
 pub mod LabelOrder
 pub mod LabelText
 pub mod Labels
 pub mod Laws
+pub mod Layout
 pub mod Matcher
+pub mod Nested
 pub mod Pattern
+pub mod Planted
 pub mod Route
 pub mod RoutingTree
 pub mod Searchers
+pub mod TreeLaws

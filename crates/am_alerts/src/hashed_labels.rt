@@ -1,4 +1,4 @@
-//! Labels with their hash.
+//! Labels with their hash, which is computed once, when the label set is made. `labels` shares it.
 ghost use Rattle.std.specs.Prelude.{◌≡◌};
 ghost use Rattle.am_alerts.specs.LabelOrder.{label_set_hash};
 ghost use Rattle.am_alerts.specs.Labels.{label_set_cmp, same_label_set};

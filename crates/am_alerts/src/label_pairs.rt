@@ -1,4 +1,6 @@
-//! Pairs of a name and a value, before they are a label set.
+//! Pairs of a name and a value, before they are a label set. `Labels::read` checks them.
+//!
+//! Cost: the square of the number of pairs that have a value, at most 64.
 ghost use Rattle.std.specs.Prelude.{◌≡◌, ◌&&◌, filter, length, IfOk, bytes_eq};
 ghost use Rattle.std.specs.List.{list_any};
 ghost use Rattle.am_alerts.specs.Fault.{ok_unless, first_fault};

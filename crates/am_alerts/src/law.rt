@@ -1,5 +1,6 @@
-//! The limits and the faults' numbers, each as it is meant.
+//! The limits, the faults' numbers and the laws of routing trees, which verifiers read.
 ghost use Rattle.am_alerts.specs.Laws.{LimitsAre, LabelFaultsAre, AlertFaultsAre, MatcherFaultsAre, RouteFaultsAre, DurationFaultsAre};
+ghost use Rattle.am_alerts.specs.TreeLaws.{OneLevelIsTriedInOrder, OptionsAreTheNearest, TheRestIsItsOwn, EachRouteIsReachedOrNot};
 
 use crate::alert::AlertFault;
 use crate::duration::DurationFault;
@@ -54,4 +55,23 @@ pub fn fault_numbers_are()
     ensures matchers { MatcherFaultsAre }
     ensures routes { RouteFaultsAre }
     ensures durations { DurationFaultsAre }
+{}
+
+/// In a tree of one level the children are tried in order, and one that matches ends the search
+/// unless it goes on; the root alone where none matches.
+pub fn one_level_is_tried_in_order()
+    ensures { OneLevelIsTriedInOrder }
+{}
+
+/// Each option of a route of `Routes::nested` is the one that it says, or else that of the nearest
+/// route above it that says it. Its name, its matchers and its `continue` are its own.
+pub fn options_are_the_nearest()
+    ensures options { OptionsAreTheNearest }
+    ensures others { TheRestIsItsOwn }
+{}
+
+/// The routes of a label set are exactly those that match it with all routes above them, where none
+/// right below matches, and beside each of these none before it matches that has no `continue`.
+pub fn each_route_is_reached_or_not()
+    ensures { EachRouteIsReachedOrNot }
 {}

@@ -1,4 +1,4 @@
-//! The bounds of moments, durations, labels and lists.
+//! The bounds of times, durations, labels and lists.
 
 /// The greatest moment of an alert or a silence, in milliseconds.
 pub const MAX_MOMENT: u64 = 1_000_000_000_000_000;
@@ -18,5 +18,11 @@ pub const MAX_MATCHERS: usize = 32;
 /// How many names `group_by` or an inhibition rule's `equal` may have.
 pub const MAX_NAMES: usize = 64;
 
-/// How many children the root route may have.
+/// How many children the root route of one level may have.
 pub const MAX_CHILDREN: usize = 63;
+
+/// How many routes may stand below the root of a tree.
+pub const MAX_ROUTES: usize = 1_023;
+
+/// At how many levels they may stand.
+pub const MAX_DEPTH: usize = 64;

@@ -1,4 +1,9 @@
-//! Matchers.
+//! Matchers. Routes, silences and inhibition rules are made of them.
+//!
+//! A pattern is built once, by `Matcher::new`, at most 10 MiB. What searches for it isn't stored:
+//! the kit's `regex::Matcher` borrows the pattern, so no value can keep both. Each search changes
+//! it, so threads could not share it. `Matcher::matches` makes it anew and takes an allocator.
+//! Where one list of matchers meets many label sets, `Searchers` keeps it from one to the next.
 ghost use Rattle.std.specs.Prelude.{◌≡◌, ◌⊎◌, Err, IfErr, IfOk, IfSome, IsOk, IsTrue, None, option_copied};
 ghost use Rattle.am_alerts.specs.Labels.{value_of};
 ghost use Rattle.am_alerts.specs.Matcher.{compares_texts, compare_texts, has_pattern, is_passed, matches_parts, match_all, matcher_fault};

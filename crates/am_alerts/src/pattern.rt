@@ -1,4 +1,9 @@
-//! Patterns, which are regular expressions in the syntax of the crate `regex`.
+//! Patterns, which are regular expressions in the syntax of the crate `regex`. `matcher` builds
+//! them.
+//!
+//! A match is stated over the pattern's text: what the grammar reads in `^(?:p)$`, and its leftmost
+//! match. The kit can refuse any pattern for its size, so only tests show that a good one is
+//! accepted.
 ghost use Rattle.std.specs.Prelude.{◌≡◌, IfOk, IsTrue, string_bytes};
 ghost use Rattle.am_alerts.specs.Pattern.{anchored, is_pattern, has_match};
 

@@ -1,20 +1,21 @@
-//! The routing tree.
-ghost use Rattle.std.specs.Prelude.{◌≡◌, ◌<◌, ◌≤◌, All, IfOk, IsTrue, None, bytes_eq, length, map, string_bytes};
+//! Routes, and the checks on a root and the routes below it. `routes.rt` makes routing trees of them.
+//!
+//! Names of routes and grouping names have the form of a label name and no limit on bytes. Names of
+//! receivers and names in `equal` have neither.
+ghost use Rattle.std.specs.Prelude.{◌≡◌, ◌<◌, ◌≤◌, IfOk, bytes_eq, map};
 ghost use Rattle.std.specs.List.{list_all, list_any};
-ghost use Rattle.std.specs.List.Sorted.{IsStrictlyIncreasing};
-ghost use Rattle.am_alerts.specs.Fault.{ok_unless};
 ghost use Rattle.am_alerts.specs.Labels.{has_text_twice};
-ghost use Rattle.am_alerts.specs.Route.{group_labels_of, key_text_of, has_grouping_names, has_few_names, is_interval, has_good_intervals};
-ghost use Rattle.am_alerts.specs.RoutingTree.{tree_of, route_at, matching_from, or_root, routes_of, has_good_child_names, has_good_names};
-ghost use Rattle.am_alerts.specs.RoutingTree.{has_route_twice, is_small_child, is_within_limits, have_good_intervals, route_fault};
+ghost use Rattle.am_alerts.specs.Route.{has_grouping_names, has_few_names, is_interval, has_good_intervals};
+ghost use Rattle.am_alerts.specs.RoutingTree.{has_good_child_names, has_good_names, has_route_twice, is_small_child, are_small};
+ghost use Rattle.am_alerts.specs.RoutingTree.{have_good_intervals, fault_where};
 
-use crate::labels::{Labels, is_label_name};
-use crate::limits::{MAX_CHILDREN, MAX_DURATION, MAX_MATCHERS, MAX_NAMES};
-use crate::matcher::{Matcher, all_match};
+use crate::labels::is_label_name;
+use crate::limits::{MAX_DURATION, MAX_MATCHERS, MAX_NAMES};
+use crate::matcher::Matcher;
+pub use crate::routes::Routes;
 use crate::sequence::Sequence;
 use crate::text::Text;
 use std::alloc::{AllocError, Global};
-use std::marker::Model;
 use thiserror::Error;
 
 /// The labels by which a route groups.
@@ -54,181 +55,62 @@ pub enum RouteFault {
     BadName = 1,
     #[error("two routes have one name")]
     Twice = 2,
-    #[error("too many children, grouping names or matchers")]
+    #[error("too many routes, levels of them, grouping names or matchers")]
     TooMany = 3,
     #[error("an interval is zero or above 10^12")]
     BadInterval = 4,
 }
 
-/// A root, at position 0, and its children at positions 1, 2, ..
-#[derive(Debug, Drop)]
-pub struct Routes {
-    root: Route,
-    children: Sequence<Child>,
-}
-
-impl Model for Routes {
-    ghost use Rattle.std.specs.Prelude.{◌≡◌, None};
-    ghost use Rattle.am_alerts.specs.RoutingTree.{RoutingTree, tree_of, route_fault};
-
-    ghost Value = { RoutingTree };
-
-    ghost view = { λ r. tree_of r.root r.children };
-
-    ghost invariant = { λ r. route_fault (tree_of r.root r.children) ≡ None };
-}
-
-impl Routes {
-    /// The routing tree of a root and its children. Refused in this order:
-    ///
-    /// - `BadName`: the root isn't named `root`, or a child's name or a grouping name is no label
-    ///   name.
-    /// - `Twice`: two routes have one name.
-    /// - `TooMany`: there are more than 63 children, or a route has more than 64 grouping names,
-    ///   or a child more than 32 matchers.
-    /// - `BadInterval`: a duration is above 10^12, or `group_interval` or `repeat_interval` is
-    ///   zero.
-    ///
-    /// Takes no memory.
-    pub fn new(root: Route, children: Vec<Child>) -> Result<Routes, RouteFault>
-        ensures { result ≡ ok_unless (route_fault (tree_of root children.items))
-            (tree_of root children.items) }
+impl GroupBy {
+    /// A copy of it.
+    pub(crate) fn copy(&self, alloc: Global) -> Result<GroupBy, AllocError>
+        ensures { IfOk result (λ copy. copy ≡ self.now) }
     {
-        if !has_good_names(&root, children.as_slice()) {
-            return Err(RouteFault::BadName);
+        match self {
+            GroupBy::All => Ok(GroupBy::All),
+            GroupBy::Names(names) => Ok(GroupBy::Names(names.copy(alloc)?)),
         }
-        if has_route_twice(&root, children.as_slice()) {
-            return Err(RouteFault::Twice);
-        }
-        if !is_within_limits(&root, children.as_slice()) {
-            return Err(RouteFault::TooMany);
-        }
-        if !have_good_intervals(&root, children.as_slice()) {
-            return Err(RouteFault::BadInterval);
-        }
-        Ok(Routes {
-            root,
-            children: Sequence::from(children),
+    }
+}
+
+impl Route {
+    /// A copy of this route.
+    pub(crate) fn copy(&self, alloc: Global) -> Result<Route, AllocError>
+        ensures { IfOk result (λ copy. copy ≡ self.now) }
+    {
+        Ok(Route {
+            name: self.name.copy(alloc)?,
+            receiver: self.receiver.copy(alloc)?,
+            group_by: self.group_by.copy(alloc)?,
+            group_wait: self.group_wait,
+            group_interval: self.group_interval,
+            repeat_interval: self.repeat_interval,
         })
     }
-
-    /// The route at a position, which exists.
-    pub fn route(&self, position: u32) -> &Route
-        requires { position ≤ length self.now.children }
-        ensures route { result.now ≡ route_at self.now position }
-        ensures intervals { IsTrue (has_good_intervals result.now) }
-    {
-        if position == 0 {
-            &self.root
-        } else {
-            &self.children.as_slice()[position as usize - 1].route
-        }
-    }
-
-    /// The labels of a set by which the route at a position, which exists, groups it.
-    pub fn group_labels(
-        &self,
-        alloc: Global,
-        position: u32,
-        labels: &Labels,
-    ) -> Result<Labels, AllocError>
-        requires { position ≤ length self.now.children }
-        ensures { IfOk result
-            (λ group. group ≡ group_labels_of (route_at self.now position) labels.now) }
-    {
-        let route = self.route(position);
-        match &route.group_by {
-            GroupBy::All => labels.copy(alloc),
-            GroupBy::Names(names) => labels.only(alloc, names.as_slice()),
-        }
-    }
-
-    /// The text of a group of the route at a position, which exists: the route's name, `:` and
-    /// the text of these labels, which are taken as its group labels and not cut.
-    pub fn key_text(
-        &self,
-        alloc: Global,
-        position: u32,
-        labels: &Labels,
-    ) -> Result<String, AllocError>
-        requires { position ≤ length self.now.children }
-        ensures { IfOk result
-            (λ text. string_bytes text ≡ key_text_of (route_at self.now position) labels.now) }
-    {
-        let mut text = String::from_str(alloc, self.route(position).name.as_str())?;
-        text.push_str(":")?;
-        labels.push_text(&mut text)?;
-        Ok(text)
-    }
-
-    /// The root, at position 0.
-    pub fn root(&self) -> &Route
-        ensures root { result.now ≡ self.now.root }
-        ensures sound { route_fault self.now ≡ None }
-    {
-        &self.root
-    }
-
-    /// The children, at positions 1, 2, ..
-    pub fn children(&self) -> &[Child]
-        ensures children { result.now ≡ self.now.children }
-        ensures few { length self.now.children ≤ MAX_CHILDREN }
-        ensures sound { route_fault self.now ≡ None }
-    {
-        self.children.as_slice()
-    }
-
-    /// The positions of the routes of a label set, ascending: children are tried in order, and one
-    /// that matches ends the search unless it goes on. If none matches, the root alone.
-    pub fn of(&self, alloc: Global, labels: &Labels) -> Result<Vec<u32>, AllocError>
-        ensures value { IfOk result (λ positions. positions.items ≡ routes_of self.now labels.now) }
-        ensures ascending { IfOk result (λ positions. IsStrictlyIncreasing positions.items) }
-        ensures some { IfOk result (λ positions. 0 < length positions.items) }
-        ensures exist { IfOk result
-            (λ positions. All (λ p. p ≤ length self.now.children) positions.items) }
-    {
-        matching_or_root(alloc, self.children.as_slice(), labels)
-    }
 }
 
-fn matching_or_root(
-    alloc: Global,
-    children: &[Child],
-    labels: &Labels,
-) -> Result<Vec<u32>, AllocError>
-    requires { length children.now ≤ MAX_CHILDREN }
-    ensures { IfOk result
-        (λ positions. positions.items ≡ or_root (matching_from 1 children.now labels.now)) }
+/// Why a root and the routes below it make no routing tree. `fits`: whether these are few and stand
+/// at few levels.
+pub(crate) fn fault_where(fits: bool, root: &Route, children: &[Child]) -> Option<RouteFault>
+    ensures { result ≡ fault_where fits root.now children.now }
 {
-    let mut positions = matching(alloc, children, labels)?;
-    if positions.is_empty() {
-        positions.push(0)?;
+    if !has_good_names(root, children) {
+        return Some(RouteFault::BadName);
     }
-    Ok(positions)
-}
-
-/// The positions of the children that match, up to the first that doesn't go on.
-fn matching(alloc: Global, children: &[Child], labels: &Labels) -> Result<Vec<u32>, AllocError>
-    requires { length children.now ≤ MAX_CHILDREN }
-    ensures { IfOk result
-        (λ positions. positions.items ≡ matching_from 1 children.now labels.now) }
-{
-    let mut positions = Vec::new(alloc);
-    let mut position: u32 = 0;
-    for child in children {
-        position += 1;
-        if all_match(alloc, child.matchers.as_slice(), labels)? {
-            positions.push(position)?;
-            if !child.goes_on {
-                return Ok(positions);
-            }
-        }
+    if has_route_twice(root, children) {
+        return Some(RouteFault::Twice);
     }
-    Ok(positions)
+    if !(fits && are_small(root, children)) {
+        return Some(RouteFault::TooMany);
+    }
+    if !have_good_intervals(root, children) {
+        return Some(RouteFault::BadInterval);
+    }
+    None
 }
 
 fn has_good_names(root: &Route, children: &[Child]) -> bool
-    ensures { result ≡ has_good_names (tree_of root.now children.now) }
+    ensures { result ≡ has_good_names root.now children.now }
 {
     root.name.as_str() == "root" && has_grouping_names(root) && have_good_names(children)
 }
@@ -249,7 +131,7 @@ fn has_grouping_names(route: &Route) -> bool
 }
 
 fn has_route_twice(root: &Route, children: &[Child]) -> bool
-    ensures { result ≡ has_route_twice (tree_of root.now children.now) }
+    ensures { result ≡ has_route_twice root.now children.now }
 {
     has_route(children, root.name.as_str()) || has_child_twice(children)
 }
@@ -271,13 +153,13 @@ fn has_route(children: &[Child], name: &str) -> bool
     children.iter().any(|c| c.route.name.as_str() == name)
 }
 
-fn is_within_limits(root: &Route, children: &[Child]) -> bool
-    ensures { result ≡ is_within_limits (tree_of root.now children.now) }
+fn are_small(root: &Route, children: &[Child]) -> bool
+    ensures { result ≡ are_small root.now children.now }
 {
-    children.len() <= MAX_CHILDREN && has_few_names(root) && are_small(children)
+    has_few_names(root) && are_small_children(children)
 }
 
-fn are_small(children: &[Child]) -> bool
+fn are_small_children(children: &[Child]) -> bool
     ensures { result ≡ list_all is_small_child children.now }
 {
     children.iter().all(|c| has_few_names(&c.route) && c.matchers.len() <= MAX_MATCHERS)
@@ -293,7 +175,7 @@ fn has_few_names(route: &Route) -> bool
 }
 
 fn have_good_intervals(root: &Route, children: &[Child]) -> bool
-    ensures { result ≡ have_good_intervals (tree_of root.now children.now) }
+    ensures { result ≡ have_good_intervals root.now children.now }
 {
     has_good_intervals(root) && children_have_good_intervals(children)
 }

@@ -1,4 +1,7 @@
-//! Matchers that meet many label sets.
+//! A list of matchers that meets many label sets. `am_mute` uses it for the sources of an
+//! inhibition rule.
+//!
+//! What searches for a pattern is made when the first match needs it, and used again by later ones.
 ghost use Rattle.std.specs.Prelude.{◌≡◌, ◌≤◌, IfOk, IfSome, IsOk, IsTrue, OnErr, OnOk, vec_len};
 ghost use Rattle.am_alerts.specs.Matcher.{compares_texts, compare_texts, matches_parts, match_all, pattern_of};
 ghost use Rattle.am_alerts.specs.Searchers.{with_pattern, with_pattern_of, AreFirstPatterns, IsAt};

@@ -1,4 +1,9 @@
-//! A list that contracts compare by what is in it.
+//! `Sequence`: a list that contracts compare by its elements. Types that contracts compare use it
+//! in place of `Vec`.
+//!
+//! Contracts see a `Vec` with its address and its capacity, so a copy would not equal its source. A
+//! sequence is made of a `Vec` and gives it back without memory. The trait `Copied` gives copies
+//! that contracts can't tell from their source.
 ghost use Rattle.std.specs.Prelude.{◌≡◌, [], length, ◌↔◌, IsTrue, IfOk};
 ghost use Rattle.std.specs.Hash as fed;
 ghost use Rattle.std.specs.Hash.{items_Alike};

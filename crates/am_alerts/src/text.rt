@@ -1,4 +1,5 @@
-//! A text of its own, which contracts see as its bytes.
+//! `Text`: a text that contracts see as its bytes. Types that contracts compare use it in place of
+//! `String`.
 ghost use Rattle.std.specs.Prelude.{◌≡◌, IfOk, string_bytes, refl, Some, nat_eq};
 ghost use Rattle.std.specs.Ordering.{nat_cmp};
 ghost use Rattle.std.specs.Hash as fed;

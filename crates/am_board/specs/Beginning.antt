@@ -1,4 +1,4 @@
--- How a begin goes by the definitions of Begin: what it finds in the group that it takes, and the flush that it opens.
+-- Beginning: between the code of a begin and the definition Begin. What it finds in its group, and the flush that it opens.
 use Rattle.std.specs.Prelude.{◌≡◌, ℕ, ◌&&◌, Bool, IsTrue, List, [], filter, map, Some, if◌then◌else◌, ◌≢◌, ◌*◌, ◌≤◌, ◌<◌, ◌⊎◌, min}
 use Rattle.std.specs.Prelude.{IfSome, All, Option, None, Result, Ok, Err, vec_len, vec_capacity, ◌+◌, not, nat_le, length, slice_index_or}
 use Rattle.am_alerts.specs.AlertData.{AlertData, is_resolved}

@@ -1,6 +1,7 @@
--- What holds of a board's fields.
+-- Board: the invariant of a board's fields.
 use Rattle.std.specs.Prelude.{◌≡◌, ◌+◌, ◌≤◌, None, All, length, vec_len, vec_capacity}
-use Rattle.am_alerts.specs.declared.limits.TheConstants.{MAX_CHILDREN}
+use Rattle.am_alerts.specs.RoutingTree.{last_of}
+use Rattle.am_alerts.specs.declared.limits.TheConstants.{MAX_ROUTES}
 use Rattle.am_board.specs.declared.board.Board.TheInside.{Inside}
 use Rattle.am_mute.specs.Sources.{AreLearnt}
 use Rattle.am_model.specs.Config.{AreAllowed, config_fault}
@@ -15,7 +16,7 @@ use Rattle.am_model.specs.Replay.{replay, IsLegal}
 pub record IsSound (b : Inside) : Type 0 where
   pub limits : AreAllowed b.config.limits
   pub configured : config_fault b.config ≡ None
-  pub children : length b.config.routes.children ≤ MAX_CHILDREN
+  pub few_routes : last_of b.config.routes ≤ MAX_ROUTES
   pub legal : IsLegal b.config b.id b.state.history.items
   pub agrees : EqualUpToRowOrder (state_of b.state) (replay b.config b.state.history.items)
   pub names : length (state_of b.state).known ≤ b.config.limits.names

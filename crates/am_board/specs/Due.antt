@@ -1,4 +1,4 @@
--- When groups are due, as keys in order: what the set of them has, while it is whole.
+-- Due: the keys of the set of due times, and what the set has while it is complete.
 use Rattle.std.specs.Prelude.{◌≡◌, ◌<◌, ℕ, Bool, true, false, Option, Some, None, List, All, IsTrue, length, slice_index_or}
 use Rattle.std.specs.List.{list_any, IsDistinct}
 use Rattle.std.specs.Map.{keys_of, values_of}

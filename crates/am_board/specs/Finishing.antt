@@ -1,4 +1,4 @@
--- What a finish and a note put into the log that is kept.
+-- Finishing: between the code of a finish or a note and the definitions. What they put into the stored log.
 use Rattle.std.specs.Prelude.{◌≡◌, ℕ, ◌+◌, ◌==◌, Bool, true, not, ◌&&◌, List}
 use Rattle.std.specs.Prelude.{map, filter, fold, position, slice_set, slice_index_or, Option, Some, None, IsSome}
 use Rattle.am_alerts.specs.Labels.{same_label_set}

@@ -1,7 +1,7 @@
--- Groups as they are kept, and what is done to one of them.
+-- Group: stored groups, and the changes of one of them.
 use Rattle.std.specs.Prelude.{◌≡◌, ℕ, ◌+◌, ◌≤◌, ◌⊎◌, List, [], ◌∷◌, ◌++◌, map, length, All}
 use Rattle.std.specs.Prelude.{slice_index_or, slice_set}
-use Rattle.am_alerts.specs.RoutingTree.{RoutingTree}
+use Rattle.am_alerts.specs.RoutingTree.{RoutingTree, last_of}
 use Rattle.am_model.specs.declared.group.GroupName.{GroupName}
 use Rattle.am_board.specs.declared.group.Group.{Group}
 use Rattle.am_board.specs.GroupList.{GroupList}
@@ -15,7 +15,7 @@ names_of groups = map (λ g. g.name) groups
 
 -- each name's route is one of the tree
 abbrev pub AreRouted : RoutingTree → List GroupName → Type 0
-AreRouted tree names = All (λ n. n.route ≤ length tree.children) names
+AreRouted tree names = All (λ n. n.route ≤ last_of tree) names
 
 -- the name was added last, or nothing was
 abbrev pub AddsAtMost : List GroupName → GroupName → List GroupName → Type 0

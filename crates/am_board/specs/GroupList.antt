@@ -1,4 +1,4 @@
--- The groups as they are kept: under their names, in the order in which they were made.
+-- GroupList: the stored groups, under their names, in the order in which they were made.
 use Rattle.std.specs.Prelude.{ℕ, List}
 use Rattle.am_board.specs.declared.group.Group.{Group}
 use Rattle.am_model.specs.declared.group.GroupName.{GroupName}

@@ -1,4 +1,4 @@
--- The names of the groups that known alerts go to, as they are kept.
+-- GroupNameCache: the cached names of known alerts' groups are those that the configuration gives.
 use Rattle.std.specs.Prelude.{◌≡◌, ◌≤◌, ℕ, List, length, Option, Some}
 use Rattle.am_alerts.specs.AlertData.{AlertData}
 use Rattle.am_model.specs.declared.config.Config.{Config}
@@ -9,4 +9,5 @@ use Rattle.am_mute.specs.Sources.{IsAt}
 -- names are kept for the first of these known alerts, for each at its place, or none are: they are those of its groups
 pub record AreKept (config : Config) (known : List AlertData) (kept : List (Option (List GroupName))) : Type 0 where
   pub within : length kept ≤ length known
-  pub names : (i : ℕ) (a : AlertData) (names : List GroupName) → IsAt known i a → IsAt kept i (Some names) → names ≡ names_for config a.labels
+  pub names : (i : ℕ) (a : AlertData) (names : List GroupName) → IsAt known i a → IsAt kept i (Some names)
+      → names ≡ names_for config a.labels

@@ -1,4 +1,4 @@
--- A board as contracts see it: its configuration, its id and its history.
+-- History: a board as contracts see it, by its configuration, its id and its history.
 use Rattle.std.specs.Prelude.{◌≡◌, ◌≤◌, ℕ, List, [], ◌∷◌, ◌++◌, length, Some, Result, Ok, Err}
 use Rattle.am_model.specs.declared.config.Config.{Config}
 use Rattle.am_model.specs.declared.record.Record.{Record}

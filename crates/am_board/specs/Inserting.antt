@@ -1,9 +1,10 @@
--- The placements of an insert: what they put into groups, and the room that they need.
+-- Inserting: between the code of an insert and the definition Insert. What it puts into groups, and the capacity that it needs.
 use Rattle.std.specs.List.{IsDistinct}
-use Rattle.std.specs.Prelude.{◌≡◌, ℕ, ◌+◌, ◌<◌, ◌≤◌, ◌==◌, false, Option, None, List, [], length, map, position, All, IfSome, vec_len, vec_capacity}
+use Rattle.std.specs.Prelude.{◌≡◌, ℕ, ◌+◌, ◌<◌, ◌≤◌, ◌==◌, false, Option, None}
+use Rattle.std.specs.Prelude.{List, [], length, map, position, All, IfSome, vec_len, vec_capacity}
 use Rattle.am_alerts.specs.AlertData.{AlertData}
 use Rattle.am_alerts.specs.Route.{group_labels_of}
-use Rattle.am_alerts.specs.RoutingTree.{RoutingTree, route_at}
+use Rattle.am_alerts.specs.RoutingTree.{RoutingTree, last_of, route_at}
 use Rattle.am_alerts.specs.declared.labels.Label.{Label}
 use Rattle.am_model.specs.declared.config.Config.{Config}
 use Rattle.am_model.specs.declared.group.GroupName.{GroupName}
@@ -35,21 +36,21 @@ target_of p = record { name = p.name; place = p.place }
 abbrev pub AreFound : List Group → List Placement → Type 0
 AreFound groups placements = All (λ p. IsFound groups (target_of p)) placements
 
--- no two placements are of one route
+-- no two placements are of one route, so each group gets one alert
 abbrev pub AreApart : List Placement → Type 0
 AreApart placements = IsDistinct (λ p q. p.name.route == q.name.route) placements
 
--- the list for a group that has to be made has room for so many, and the group's name and the alert's labels are there once more
-abbrev pub IsEmptyWithRoom : ℕ → Placement → Type 0
-IsEmptyWithRoom n placement =
+-- the list for a group that has to be made has room for an alert, and the group's name and the alert's labels are there once more
+abbrev pub IsEmptyWithRoom : Placement → Type 0
+IsEmptyWithRoom placement =
     (placement.members.items ≡ [])
-    × (placement.place ≡ None → n ≤ placement.members.room)
+    × (placement.place ≡ None → 0 < placement.members.room)
     × (placement.key ≡ placement.name)
     × (placement.labels ≡ placement.member.alert.labels)
 
--- the group of each placement has room for so many more
-abbrev pub HaveRoom : ℕ → List Group → List Placement → Type 0
-HaveRoom n groups placements = All (λ p. HasRoom n p.name groups) placements
+-- the group of each placement has room for one more alert
+abbrev pub HaveRoom : List Group → List Placement → Type 0
+HaveRoom groups placements = All (λ p. HasRoom 1 p.name groups) placements
 
 -- a state holds what it held, with no less room for records
 pub record IsReservedState (old new : State) : Type 0 where
@@ -68,11 +69,11 @@ pub record IsReadyFor (state : State) (placements : List Placement) : Type 0 whe
   pub records : vec_len state.history + vec_len state.flushes + 1 ≤ vec_capacity state.history
   pub known : 1 ≤ state.known.room
   pub spare : length placements ≤ state.groups.room
-  pub room : HaveRoom (length placements) state.groups.items placements
+  pub room : HaveRoom state.groups.items placements
 
 -- each placement is of a route of the tree
 abbrev pub AreRoutedPlacements : RoutingTree → List Placement → Type 0
-AreRoutedPlacements tree placements = All (λ p. p.name.route ≤ length tree.children) placements
+AreRoutedPlacements tree placements = All (λ p. p.name.route ≤ last_of tree) placements
 
 -- the name of a label set's group of the route at a position
 abbrev pub name_at : RoutingTree → List Label → ℕ → GroupName

@@ -1,4 +1,4 @@
--- Entries that stand under what their values tell of themselves.
+-- Keyed: tables in which each value is under the key that the value itself gives.
 use Rattle.std.specs.Prelude.{◌≡◌, List, All}
 
 -- each entry stands under its value's key

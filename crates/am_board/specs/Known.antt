@@ -1,4 +1,4 @@
--- The known alerts as they are kept: under their labels, in the order in which these first came.
+-- Known: the stored known alerts, under their labels, in the order of arrival.
 use Rattle.std.specs.Prelude.{ℕ, List}
 use Rattle.am_alerts.specs.AlertData.{AlertData}
 use Rattle.am_alerts.specs.declared.labels.Label.{Label}

@@ -1,4 +1,4 @@
--- The notification log as the list of its rows.
+-- LogRows: the stored log as the list of its rows.
 use Rattle.std.specs.Prelude.{List, map}
 use Rattle.am_alerts.specs.declared.labels.Label.{Label}
 use Rattle.am_nflog.specs.Log.{Slots, rows_of}

@@ -1,4 +1,4 @@
--- The alerts of a group as they are kept, with their order.
+-- MemberTable: the stored alerts of a group, with the order of their labels.
 use Rattle.std.specs.Prelude.{ℕ, List, Option, Vec}
 use Rattle.std.specs.Global.{Global}
 use Rattle.std.specs.Map.{values_of}

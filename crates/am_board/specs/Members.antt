@@ -1,4 +1,4 @@
--- The alerts of a group as they are kept: under their labels, in the order in which these came into the group.
+-- Members: the stored alerts of a group, under their labels, in the order in which the label sets came into it.
 use Rattle.std.specs.Prelude.{◌≡◌, ℕ, false, List, All}
 use Rattle.std.specs.Map.{values_of}
 use Rattle.am_alerts.specs.declared.labels.Label.{Label}

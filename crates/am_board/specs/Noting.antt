@@ -1,4 +1,4 @@
--- What a note finds among the kept flushes before it changes anything.
+-- Noting: between the code of a note and the definition Note. What it finds among the stored flushes.
 use Rattle.std.specs.Prelude.{◌≡◌, ℕ, ◌==◌, List, position, slice_get, slice_index_or, Some}
 use Rattle.std.specs.Option.{option_map}
 use Rattle.am_board.specs.declared.flush.OpenFlush.{OpenFlush}

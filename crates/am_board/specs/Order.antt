@@ -1,4 +1,4 @@
--- The alerts of a group in the order of their labels.
+-- Order: the alerts of a group in the order of their labels, as places.
 use Rattle.std.specs.Prelude.{◌≡◌, ℕ, List, Option, IfSome, Vec, length, map, slice_get}
 use Rattle.std.specs.Global.{Global}
 use Rattle.std.specs.List.{range_with_len}

@@ -1,4 +1,4 @@
--- Why an integration is asked, by the row that the log keeps for it.
+-- Preview: why an integration is notified, by its row in the stored log.
 use Rattle.std.specs.Prelude.{ℕ, ◌+◌, Bool, not, ◌&&◌, nat_lt, List, Option, Some, None, if◌then◌else◌}
 use Rattle.am_alerts.specs.Labels.{same_label_set}
 use Rattle.am_alerts.specs.declared.labels.Label.{Label}

@@ -1,4 +1,4 @@
--- A state as the code keeps it.
+-- Refinement: how the stored state of a board represents a state of the definitions.
 use Rattle.std.specs.Prelude.{◌≡◌, ◌*◌, min, List, [], map, vec_len, is_none, IfSome, IsTrue, All, IsPermutation}
 use Rattle.am_alerts.specs.declared.labels.Label.{Label}
 use Rattle.am_nflog.specs.Log.{Slots, is_known}

@@ -1,8 +1,18 @@
-//! Begins.
+//! Begins: `Board::begin` calls `take_group`, which picks the group and opens a flush or ends it at
+//! once.
+//!
+//! Steps of `take_group`: `Groups::first_due` picks the group, `put_in_order` sorts it, `plan`
+//! finds what is unmuted and whom to notify. A begin that opens a flush allocates in this order:
+//! - the unmuted alerts, their label sets, the integrations that need an update;
+//! - all that goes into the board and the ticket;
+//! - the capacity of the history, the open flush, the log keys.
+//!
+//! `TooManyOpen` comes once it is known that an integration needs an update. Log keys of a failed
+//! begin can stay known: a known key without a row shows nowhere.
 ghost use Rattle.std.specs.Prelude.{◌≡◌, ◌≢◌, ℕ, ◌+◌, ◌<◌, ◌≤◌, [], None, length, map};
 ghost use Rattle.std.specs.Prelude.{All, IsTrue, MatchResult, OnOk, vec_len, vec_capacity};
 ghost use Rattle.std.specs.List.{IsDistinct};
-ghost use Rattle.am_alerts.specs.RoutingTree.{route_at};
+ghost use Rattle.am_alerts.specs.RoutingTree.{last_of, route_at};
 ghost use Rattle.am_nflog.specs.Log.{is_known};
 ghost use Rattle.am_nflog.specs.declared.key.LogKey.{LogKey};
 ghost use Rattle.am_mute.specs.Sources.{AreLearnt};
@@ -36,11 +46,11 @@ use am_mute::sources::Sources;
 use am_nflog::{LogKey, NfLog};
 use std::alloc::{AllocError, Global};
 
-/// The answer to a begin. A ticket must be spent.
+/// The reply to a begin. A ticket in it must be finished.
 pub enum Begun {
     /// No group without an open flush is due.
     NothingDue,
-    /// No integration needs an update; so many resolved alerts left the group.
+    /// No integration needs an update; `removed` resolved alerts left the group.
     Quiet { group: GroupName, removed: usize },
     /// A flush was opened.
     Flush(Ticket),
@@ -51,7 +61,7 @@ pub enum Begun {
 pub(crate) struct ChosenGroup {
     pub(crate) pass: u32,
     pub(crate) now: u64,
-    /// The moment of the call.
+    /// The time of the call.
     pub(crate) t: u64,
     /// The place of the group.
     pub(crate) place: usize,
@@ -111,14 +121,14 @@ fn put_in_order(alloc: Global, state: &mut State, place: usize)
 
 /// When a group of this route that is taken at `t` is due again.
 fn due_again(config: &Config, route: u32, t: u64) -> u64
-    requires route { route ≤ length config.now.routes.children }
+    requires route { route ≤ last_of config.now.routes }
     requires moment { t ≤ MAX_MOMENT }
     ensures { result ≡ t + (route_at config.now.routes route).group_interval }
 {
     t.saturating_add(config.routes.route(route).group_interval)
 }
 
-/// A begin for which no group is due.
+/// Ends a begin for which no group is due.
 fn begin_nothing(state: &mut State, pass: u32, now: u64, t: u64) -> Result<Begun, Fault>
     ensures { (config : ConfigData) (id : ℕ) → StateInvariant config state.old
         → t ≡ moment (state_of state.old) now → taken (state_of state.old) t ≡ None
@@ -134,7 +144,7 @@ fn begin_nothing(state: &mut State, pass: u32, now: u64, t: u64) -> Result<Begun
     Ok(Begun::NothingDue)
 }
 
-/// A begin that asks nobody.
+/// Ends a begin that notifies no integration.
 fn begin_quiet(alloc: Global, state: &mut State, chosen: ChosenGroup) -> Result<Begun, Fault>
     requires { chosen.place < length state.old.groups.items }
     ensures { (config : ConfigData) (id : ℕ) (g : Group) → StateInvariant config state.old → IsChosen config state.old chosen g
@@ -161,7 +171,7 @@ fn begin_quiet(alloc: Global, state: &mut State, chosen: ChosenGroup) -> Result<
     })
 }
 
-/// A begin that opens a flush.
+/// Opens the planned flush of a begin.
 fn begin_flush(
     alloc: Global,
     id: u64,

@@ -1,4 +1,5 @@
-//! The dispatcher of one thread.
+//! `Board` and its calls. Each hands the board's fields to the module of the call. `note` and
+//! `finish` first compare the ticket's id with the board's.
 ghost use Rattle.std.specs.Prelude.{◌≡◌, ◌≢◌, ◌≤◌, ◌↔◌, None, Some, length, IfOk, IfErr, OnOk, OnErr, IsErrOf};
 ghost use Rattle.std.specs.Option.{option_map};
 ghost use Rattle.am_alerts.specs.Fault.{ok_unless};
@@ -31,23 +32,28 @@ use am_mute::sources::Sources;
 use std::alloc::Global;
 use std::marker::Model;
 
-/// A dispatcher: known alerts, groups, open flushes and the notification log, with the history of
-/// all calls that it accepted.
+/// A dispatcher of one thread: known alerts, groups, silences, open flushes, the log, the history.
+///
+/// Contracts see its configuration, its id and its history.
 #[derive(Debug, Drop)]
 pub struct Board {
     pub(crate) config: Config,
     pub(crate) id: u64,
     pub(crate) state: State,
-    /// What was learnt of the configuration's rules and of the known alerts.
+    /// What was learned about the known alerts as inhibition sources. An index.
     pub(crate) sources: Sources,
-    /// Where the known alerts go.
+    /// The names of the known alerts' groups. A cache.
     pub(crate) destinations: GroupNameCache,
 }
 
 impl Model for Board {
+    ghost use Rattle.std.specs.Coded.{codes};
+    ghost use Rattle.am_alerts.specs.Layout.{forest_code};
     ghost use Rattle.am_board.specs.History.{BoardData};
 
     ghost Value = { BoardData };
+
+    ghost coded = { Prim.hlevel (codes, forest_code) };
 
     ghost use Rattle.am_board.specs.Board.{IsSound};
 
@@ -57,10 +63,11 @@ impl Model for Board {
 }
 
 impl Board {
-    /// A dispatcher of this configuration, with nothing in it, whose tickets name this id.
+    /// Returns an empty dispatcher of this configuration, whose tickets carry this id.
     ///
-    /// Refused by `BadConfig` where `Config::check` refuses the configuration, and only there. Takes
-    /// no memory.
+    /// # Errors
+    ///
+    /// `BadConfig` exactly where `Config::check` fails. Never allocates.
     pub fn new(alloc: Global, config: Config, id: u64) -> Result<Board, BoardFault>
         ensures { result ≡ ok_unless (option_map BoardFault.BadConfig (config_fault config)) (opening config id) }
     {
@@ -76,12 +83,19 @@ impl Board {
         }
     }
 
-    /// Puts an alert in place of the known one with its labels, or adds it, and likewise in each
-    /// group of its routes; missing groups are made.
+    /// Adds an alert to the known ones and to the groups of its routes, or replaces it there.
     ///
-    /// Refused in this order: `HistoryFull`, `TooManyNames` (the label set is new and as many are
-    /// known as may be), `TooManyGroups`, `NoMemory`; but memory that is refused while the groups are
-    /// worked out comes before `TooManyGroups`. A refusal changes nothing.
+    /// Missing groups are made. `now` is in milliseconds (`dispatch.processAlert`).
+    ///
+    /// # Errors
+    ///
+    /// In this order, and each changes nothing:
+    /// - `HistoryFull`: the history has no capacity for the record.
+    /// - `TooManyNames`: the label set is new, and the limit of known alerts is reached.
+    /// - `TooManyGroups`: with the missing groups there would be more than the limit.
+    /// - `NoMemory`, which can precede `TooManyGroups` while the groups are looked for.
+    ///
+    /// Cost: constant on average for a known label set; a new one is matched with all routes.
     pub fn insert(
         &mut self,
         alloc: Global,
@@ -111,10 +125,14 @@ impl Board {
         inserted
     }
 
-    /// Puts a silence in place of the one with its id, or adds it.
+    /// Adds a silence, or replaces the one with its id. `now` is in milliseconds.
     ///
-    /// Refused in this order: `HistoryFull`, `TooManySilences` (no silence has its id, and there are
-    /// as many as there may be), `NoMemory`. A refusal changes nothing.
+    /// # Errors
+    ///
+    /// In this order, and each changes nothing:
+    /// - `HistoryFull`: the history has no capacity for the record.
+    /// - `TooManySilences`: the id is new, and the limit of silences is reached.
+    /// - `NoMemory`.
     pub fn silence(
         &mut self,
         alloc: Global,
@@ -131,12 +149,22 @@ impl Board {
         put_silence(alloc, &self.config, &mut self.state, pass, now, silence)
     }
 
-    /// Takes the group that is due first (of those, by route, then by group labels) and has no open
-    /// flush, and opens a flush of it unless no integration needs an update.
+    /// Starts a flush of the group that was due first, unless no integration needs an update.
     ///
-    /// Refused in this order: `HistoryFull`, `TooManyOpen` (the begin would open a flush, and as many
-    /// are open as may be), `NoMemory`; but memory that is refused while the asked integrations are
-    /// worked out comes before `TooManyOpen`. A refusal changes nothing.
+    /// Among the due groups without an open flush it takes the first by due time, route and group
+    /// labels. `now` is in milliseconds (`dispatch.aggrGroup.flush`). It reserves all that the
+    /// finish needs.
+    ///
+    /// # Errors
+    ///
+    /// In this order, and each changes nothing:
+    /// - `HistoryFull`: the history has no capacity for this record and the finish's, also if
+    ///   nothing is due.
+    /// - `TooManyOpen`: it would open a flush, and the limit of open flushes is reached. The group
+    ///   stays due.
+    /// - `NoMemory`, which can precede `TooManyOpen` while the log is read.
+    ///
+    /// Clause `fresh`: the ticket carries the board's id, and has no outcome.
     pub fn begin(&mut self, alloc: Global, pass: u32, now: u64) -> Result<Begun, Fault>
         ensures recorded { IfOk result (λ begun. self.new ≡ with_record self.old (entry pass (Call.Begin now) (reply_of begun))) }
         ensures reply { IfOk result (λ begun. IsReplyAt self.old (Call.Begin now) (reply_of begun)) }
@@ -156,11 +184,19 @@ impl Board {
         )
     }
 
-    /// Logs the success of the notice at a place of a ticket, before its flush is finished.
+    /// Logs the success of the notice at `place` of a ticket, before its flush is finished.
     ///
-    /// Refused in this order: `Foreign`, `NotOpen`, `NotReady` (the ticket has no such notice, its
-    /// integration wasn't asked, or it has something to send and isn't reported delivered),
-    /// `Already`, `HistoryFull`, `NoMemory` (for the record). A refusal changes nothing.
+    /// `now` is in milliseconds (`notify.SetNotifiesStage`).
+    ///
+    /// # Errors
+    ///
+    /// In this order, and each changes nothing:
+    /// - `Foreign`: the ticket carries another board's id.
+    /// - `NotOpen`: no open flush has the ticket's number.
+    /// - `NotReady`: no such notice, its integration wasn't notified, or it isn't reported
+    ///   delivered.
+    /// - `Already`: it was noted before.
+    /// - `HistoryFull`, then `NoMemory`, for the record.
     pub fn note(
         &mut self,
         _alloc: Global,
@@ -170,7 +206,8 @@ impl Board {
         now: u64,
     ) -> Result<Noted, NoteFault>
         ensures noted { OnOk result
-            ((r : Record) × IsNoteOf pass now ticket.now place r × (self.new ≡ with_record self.old r) × IsReplyAt self.old r.call r.reply) }
+            ((r : Record) × IsNoteOf pass now ticket.now place r × (self.new ≡ with_record self.old r)
+            × IsReplyAt self.old r.call r.reply) }
         ensures cause { IsNoteCaused
             (note_cause self.old.config self.old.id (calls_at self.old) (state_at self.old) ticket.now place) result }
         ensures refused { OnErr result (self.new ≡ self.old) }
@@ -182,11 +219,18 @@ impl Board {
         note_success(&self.config, &mut self.state, pass, ticket, place, now)
     }
 
-    /// Finishes a flush: each success that wasn't noted is logged, and if every integration that was
-    /// asked succeeded, the alerts that were resolved at the begin leave the group, but for those
-    /// that were inserted again since. Takes no memory.
+    /// Ends a flush: logs each success that wasn't noted, and removes resolved alerts.
     ///
-    /// Refused in this order: `Foreign`, which hands the ticket back, and `NotOpen`.
+    /// Those that were resolved at the begin leave, if every notified integration succeeded.
+    /// Exception: an alert that was inserted again since stays. `now` is in milliseconds. Never
+    /// allocates.
+    ///
+    /// # Errors
+    ///
+    /// In this order, and each changes nothing of the board:
+    /// - `Foreign`: the ticket carries another board's id. Clause `handed_back`: the ticket comes
+    ///   back.
+    /// - `NotOpen`: no open flush has the ticket's number. The ticket is spent.
     pub fn finish(&mut self, pass: u32, ticket: Ticket, now: u64) -> Result<Finished, FinishFault>
         ensures recorded { IfOk result (λ finished.
             self.new ≡ with_record self.old (entry pass (Call.Finish now ticket.number ticket.outcomes) (Reply.Finished finished))) }
@@ -215,9 +259,14 @@ impl Board {
         Ok(finish_flush(&mut self.state, pass, f, outcomes, now))
     }
 
-    /// Removes the groups without alerts, and the rows of the log whose expiry has come.
+    /// Removes the groups without alerts and the expired log rows.
     ///
-    /// Refused in this order: `HistoryFull`, `NoMemory` (for the record). A refusal changes nothing.
+    /// A row has expired if its expiry is at or before `now` (milliseconds). A maintenance also
+    /// rebuilds the set of due times, if a group went or the set is incomplete.
+    ///
+    /// # Errors
+    ///
+    /// In this order, and each changes nothing: `HistoryFull`, then `NoMemory` for the record.
     pub fn maintain(&mut self, _alloc: Global, pass: u32, now: u64) -> Result<Maintained, Fault>
         ensures recorded { IfOk result
             (λ maintained. self.new ≡ with_record self.old (entry pass (Call.Maintain now) (Reply.Maintained maintained))) }
@@ -228,10 +277,11 @@ impl Board {
         sweep(&self.config, &mut self.state, pass, now)
     }
 
-    /// The calls that were accepted, in their order. The history is legal, and looking back from its
-    /// end finds the alerts and the rows that `groups` and `rows` show, and why each begin asked whom it
-    /// asked (`law::legal_histories_look_back`). It has no more records than the limits, and the state
-    /// after it no more known alerts, groups, silences and open flushes.
+    /// Returns the accepted calls with their replies, in order.
+    ///
+    /// Clause `legal`: the history is legal. Clause `looks_back`: looking back from its end finds
+    /// the alerts and rows that `groups` and `rows` return, and the reason of each notification
+    /// (`law::legal_histories_look_back`). Clauses `within`, `limits`: no limit is passed.
     pub fn history(&self) -> &[Record]
         ensures history { result.now ≡ self.now.history }
         ensures legal { IsLegal self.now.config self.now.id self.now.history }
@@ -242,7 +292,7 @@ impl Board {
         self.state.history.as_slice()
     }
 
-    /// The configuration, which `Config::check` accepts.
+    /// Returns the configuration, which `Config::check` accepts.
     pub fn config(&self) -> &Config
         ensures config { result.now ≡ self.now.config }
         ensures limits { AreAllowed self.now.config.limits }
@@ -251,7 +301,7 @@ impl Board {
         &self.config
     }
 
-    /// The id that this board's tickets name.
+    /// Returns the id that the board's tickets carry.
     pub fn id(&self) -> u64
         ensures { result ≡ self.now.id }
     {

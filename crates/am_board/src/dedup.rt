@@ -1,6 +1,7 @@
-//! Which integrations a flush asks: those that need an update, by the log (Alertmanager's DedupStage).
+//! Which integrations need an update, by the log (`notify.DedupStage`). `plan` calls it.
 ghost use Rattle.std.specs.Prelude.{◌≡◌, ◌≤◌, IfOk, length, map, filter};
 ghost use Rattle.std.specs.List.{enumerate_from};
+ghost use Rattle.am_alerts.specs.RoutingTree.{last_of};
 ghost use Rattle.am_model.specs.Begin.{needs};
 ghost use Rattle.am_model.specs.Configured.{HaveFewIntegrations, integrations_of};
 ghost use Rattle.am_board.specs.Beginning.{update_of, needs_update_for};
@@ -32,7 +33,7 @@ pub(crate) fn asked(
     sets: &AlertSets,
     t: u64,
 ) -> Result<Vec<Update>, AllocError>
-    requires route { group.now.route ≤ length config.now.routes.children }
+    requires route { group.now.route ≤ last_of config.now.routes }
     requires few { HaveFewIntegrations config.now }
     ensures { IfOk result (λ asked. asked.items ≡ map update_of
         (filter (needs config.now (state_of state.now) t group.now sets.now.firing sets.now.resolved)

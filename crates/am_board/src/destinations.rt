@@ -1,4 +1,8 @@
-//! Where known alerts go.
+//! The names of the groups that known alerts go to. `insert` fills and reads this cache.
+//!
+//! A name in it is the group's own shared copy where the group exists. It is not replaced when the
+//! group goes: the next group of that name takes it over. A group is found by its name each time,
+//! and not by a cached place, since a maintenance moves groups.
 ghost use Rattle.std.specs.Prelude.{◌≡◌, ◌<◌, [], IfSome, List, length, position};
 ghost use Rattle.am_alerts.specs.AlertData.{AlertData};
 ghost use Rattle.am_alerts.specs.Labels.{same_label_set};
@@ -13,10 +17,10 @@ use am_alerts::sequence::Sequence;
 use std::alloc::{AllocError, Global};
 use std::marker::Model;
 
-/// The names of the groups that known alerts go to. They follow from the label set and the
-/// configuration alone, so they are worked out once.
+/// The names of the groups that known alerts go to.
 ///
-/// This only saves time: names that aren't kept are worked out anew.
+/// They follow from the label set and the configuration, so they are computed once. This only saves
+/// time: names that aren't cached are computed again.
 #[derive(Debug, Drop)]
 pub(crate) struct GroupNameCache {
     /// By the place of the alert among the known ones.
@@ -42,7 +46,7 @@ impl GroupNameCache {
         }
     }
 
-    /// The names that are kept for the known alert at a place, if there is one.
+    /// Returns the cached names of the known alert at a place, if there are any.
     pub(crate) fn of(&self, place: Option<usize>) -> Option<&Sequence<GroupName>>
         ensures { (config : Config) (known : List AlertData) (labels : List Label) → AreKept config known self.now
             → place ≡ position (λ a. same_label_set labels a.labels) known
@@ -52,8 +56,7 @@ impl GroupNameCache {
         names.as_ref()
     }
 
-    /// Keeps names for the known alert at a place, if there are some. Where memory for it is refused
-    /// they are worked out again.
+    /// Caches names for the known alert at a place, if there are any and memory allows.
     pub(crate) fn keep(&mut self, place: usize, names: Option<Sequence<GroupName>>)
         ensures { (config : Config) (known : List AlertData) → AreKept config known self.old → place < length known
             → ((a : AlertData) → IsAt known place a → IfSome names (λ names. names ≡ names_for config a.labels))

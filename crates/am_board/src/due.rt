@@ -1,4 +1,10 @@
-//! When groups are due, in order.
+//! The set of due times: keys of groups by due time and name. `groups` keeps it.
+//!
+//! Why keys can be stale: the invariant (specs/Due.antt) says only that each group has its key
+//! while the set is complete. A begin that meets a key checks that the group is there and due at
+//! the key's time. A call that changes a due time removes the old key, and a maintenance by which
+//! groups go rebuilds the set, so stale keys don't pile up. A finish never allocates, so it doesn't
+//! touch the set: a group with an open flush keeps its key, and a begin passes over it.
 ghost use Rattle.std.specs.Prelude.{◌≡◌, false};
 ghost use Rattle.am_model.specs.State.{same_name};
 ghost use Rattle.am_board.specs.Due.{key_at, AreDue, HasKey};
@@ -8,18 +14,18 @@ use crate::group::{Group, GroupName};
 use std::alloc::Global;
 use std::collections::BTreeSet;
 
-/// When the group of a name is due. Keys are ordered by moment, then by name.
+/// The due time of the group of a name. Keys are ordered by time, then by name.
 #[derive(Debug, Drop, PartialEq, Eq, PartialOrd, Ord)]
 pub(crate) struct DueKey {
     pub(crate) due: u64,
     pub(crate) name: GroupName,
 }
 
-/// When groups are due, in order, so that the first is found at once. A key may be stale: its group
-/// is gone, or due at another moment.
+/// The due times of groups, in order. A key can be stale: its group is gone, or due at another
+/// time.
 ///
-/// The set only saves time: no call is refused for want of memory for a key. The set isn't whole
-/// then, and nobody may rely on it until it is made anew.
+/// The set only saves time: no call fails because a key lacks memory. The set is incomplete then,
+/// and isn't used until it is rebuilt.
 #[derive(Debug, Drop)]
 pub(crate) struct DueSet {
     alloc: Global,
@@ -38,7 +44,7 @@ impl DueSet {
         }
     }
 
-    /// A group is due at this moment.
+    /// Adds the key of a group that is due at this time.
     pub(crate) fn put(&mut self, name: &GroupName, due: u64)
         ensures has { HasKey self.new (key_at name.now due) }
         ensures keeps { (key : DueKey) → HasKey self.old key → HasKey self.new key }
@@ -52,7 +58,7 @@ impl DueSet {
         }
     }
 
-    /// A group that was due at one moment is due at another.
+    /// Replaces the key of a group that was due at one time and is due at another.
     pub(crate) fn change(&mut self, name: &GroupName, from: u64, to: u64)
         requires { HasKey self.old (key_at name.now from) }
         ensures has { HasKey self.new (key_at name.now to) }
@@ -70,8 +76,7 @@ impl DueSet {
         self.insert(key);
     }
 
-    /// So many groups are gone, and these are left: drops the stale keys, and makes the set whole if
-    /// there is memory for it.
+    /// Drops stale keys after so many groups went, and completes the set if memory allows.
     pub(crate) fn tidy(&mut self, groups: &[Group], gone: usize)
         requires { AreDue self.old groups.now }
         ensures { AreDue self.new groups.now }
@@ -103,7 +108,7 @@ impl DueSet {
         }
     }
 
-    /// Memory for a key was refused: the set isn't whole from now on, and needs none of its keys.
+    /// Gives all keys up where one lacks memory: the set is incomplete from now on.
     fn lose(&mut self)
         ensures { self.new.whole ≡ false }
     {

@@ -1,4 +1,9 @@
-//! Finishes.
+//! Finishes: `Board::finish` calls `finish_flush`. It never allocates.
+//!
+//! It walks once over the notified integrations and logs each success that wasn't noted
+//! (`log_rest`). If all succeeded, it takes the resolved alerts out of their group (`take_out`).
+//! Each is looked up, and marked if its stamp is that of the begin. All marked alerts go in one
+//! walk. A row takes the label sets that its integration shares with the flush.
 ghost use Rattle.std.specs.Prelude.{◌≡◌, ℕ, ◌+◌, ◌<◌, ◌^◌, List, [], ◌∷◌};
 ghost use Rattle.std.specs.Prelude.{length, map, count_by, slice_index_or, vec_len, IsTrue, All, IsPermutation};
 ghost use Rattle.std.specs.List.{list_all, IsDistinct};
@@ -69,7 +74,7 @@ pub(crate) fn finish_flush(
     finished
 }
 
-/// How it went for the integrations that a flush asked.
+/// What became of the integrations that a flush notified.
 #[derive(Clone, Copy)]
 struct Successes {
     /// How many successes were logged.
@@ -78,7 +83,7 @@ struct Successes {
     all: bool,
 }
 
-/// Logs each success that wasn't noted, and answers how many, and whether all succeeded.
+/// Logs each success that wasn't noted. Returns how many, and whether all integrations succeeded.
 fn log_rest(
     log: &mut NfLog<GroupName, Labels>,
     asked: Vec<Asked>,
@@ -106,8 +111,8 @@ fn log_rest(
     Successes { logged, all }
 }
 
-/// Logs the success of an integration that was asked, unless it was noted, and answers how many rows
-/// that makes.
+/// Logs the success of a notified integration, unless it was noted. Returns how many rows that
+/// makes.
 fn log_one(log: &mut NfLog<GroupName, Labels>, asked: Asked, kept_for: u64, t: u64) -> usize
     requires known { IsTrue (is_known same_name log.old asked.key) }
     requires fits { t + kept_for < 2 ^ 64 }
@@ -132,7 +137,7 @@ fn log_one(log: &mut NfLog<GroupName, Labels>, asked: Asked, kept_for: u64, t: u
     }
 }
 
-/// Logs what an integration was told, under its key.
+/// Logs the label sets of a notification under its key.
 pub(crate) fn log_sets(
     log: &mut NfLog<GroupName, Labels>,
     key: &LogKey<GroupName>,
@@ -149,8 +154,10 @@ pub(crate) fn log_sets(
     log.put(key, sets.into_row(t, kept_for));
 }
 
-/// Takes the alerts that were resolved at the begin out of their group if every integration that was
-/// asked succeeded, and answers how many.
+/// Takes the alerts that were resolved at the begin out of their group, if all integrations
+/// succeeded.
+///
+/// Returns how many.
 fn take_out(
     groups: &mut Groups,
     name: &GroupName,
@@ -172,8 +179,9 @@ fn take_out(
     }
 }
 
-/// Takes the alerts out of a group that stand there as they did when they were found resolved, and
-/// answers how many.
+/// Takes out of a group the alerts that are as they were when they were found resolved.
+///
+/// Returns how many.
 pub(crate) fn take_leaving(group: &mut Group, leaving: &[LeavingAlert]) -> usize
     ensures group { group_state group.new ≡ record (group_state group.old) {
       members = without (is_leaving (map stamped leaving.now)) (map member_state group.old.members.items);
@@ -183,7 +191,7 @@ pub(crate) fn take_leaving(group: &mut Group, leaving: &[LeavingAlert]) -> usize
     group.members.take_leaving(leaving)
 }
 
-/// Whether an integration that was asked succeeded.
+/// Returns whether a notified integration succeeded.
 fn has_succeeded(asked: &Asked, outcomes: &[(u32, Outcome)]) -> bool
     ensures { result ≡ succeeds outcomes.now (asked_state_of asked.now) }
 {
@@ -192,7 +200,7 @@ fn has_succeeded(asked: &Asked, outcomes: &[(u32, Outcome)]) -> bool
         || is_delivered(outcome_of(outcomes, asked.key.integration))
 }
 
-/// Whether a notice is reported delivered.
+/// Returns whether an outcome is Delivered.
 pub(crate) fn is_delivered(outcome: Option<Outcome>) -> bool
     ensures { result ≡ says_delivered outcome }
 {

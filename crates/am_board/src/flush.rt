@@ -1,4 +1,8 @@
-//! Open flushes.
+//! Open flushes, and what they keep for their notes and their finish. `begin` adds one, `finish`
+//! removes it.
+//!
+//! `AlertSets` of an integration are gone once it is noted. Those of the flush stay, and say what
+//! they were.
 ghost use Rattle.std.specs.Prelude.{◌≡◌, ◌+◌, ◌<◌, ◌==◌, ◌^◌, length, position, IfOk, IfSome};
 ghost use Rattle.std.specs.List.{list_any};
 ghost use Rattle.am_model.specs.State.{same_name};
@@ -8,15 +12,16 @@ use am_alerts::labels::Labels;
 use am_nflog::{LogKey, LogRow, Members};
 use std::alloc::AllocError;
 
-/// The label sets of a flush: those that fire and those that are resolved. A begin makes them once;
-/// the flush, its asked integrations and their log rows share them.
+/// The label sets of a flush: the firing and the resolved ones.
+///
+/// A begin makes them once. The flush, its notified integrations and their log rows share them.
 #[derive(Debug, Drop)]
 pub(crate) struct AlertSets {
     pub(crate) firing: Members<Labels>,
     pub(crate) resolved: Members<Labels>,
 }
 
-/// An integration that was asked, with what its log row is to hold until it is noted.
+/// An integration that a flush notifies, with what its log row will have, until it is noted.
 #[derive(Debug, Drop)]
 pub(crate) struct Asked {
     pub(crate) key: LogKey<GroupName>,
@@ -36,7 +41,7 @@ pub(crate) struct LeavingAlert {
 pub(crate) struct OpenFlush {
     pub(crate) number: u64,
     pub(crate) group: GroupName,
-    /// How long the rows of this flush are kept, in milliseconds.
+    /// How long the rows of this flush stay in the log, in milliseconds.
     pub(crate) kept_for: u64,
     pub(crate) asked: Vec<Asked>,
     pub(crate) sets: AlertSets,
@@ -54,7 +59,7 @@ impl AlertSets {
         })
     }
 
-    /// The row of an integration that was told this at `t`.
+    /// Returns the log row of an integration that was notified of these label sets at `t`.
     pub(crate) fn into_row(self, t: u64, kept_for: u64) -> LogRow<Labels>
         ensures { t + kept_for < 2 ^ 64
             → result ≡ record { moment = t; firing = self.firing; resolved = self.resolved; expiry = t + kept_for } }
@@ -84,7 +89,7 @@ pub(crate) fn is_open(flushes: &[OpenFlush], name: &GroupName) -> bool
     flushes.iter().any(|flush| *name == flush.group)
 }
 
-/// The place of this integration among those that were asked.
+/// Returns the place of this integration among those of a flush.
 pub(crate) fn find_asked(asked: &[Asked], integration: u32) -> Option<usize>
     ensures within { IfSome result (λ i. i < length asked.now) }
     ensures first { result ≡ position (λ a. a.key.integration == integration) asked.now }

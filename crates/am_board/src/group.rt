@@ -1,4 +1,4 @@
-//! Aggregation groups.
+//! One group: its name, its due time and its alerts.
 ghost use Rattle.std.specs.Prelude.{◌≡◌, ◌+◌, ◌<◌, ◌≤◌, ◌&&◌, min, nat_lt, not, true, if◌then◌else◌, OnOk};
 ghost use Rattle.std.specs.List.{IsDistinct};
 ghost use Rattle.am_model.specs.Begin.{count_resolved, without_resolved};
@@ -34,8 +34,9 @@ pub(crate) struct Group {
 }
 
 impl Group {
-    /// Puts an alert in place of the one with its labels, or adds it; there is room for one more. An
-    /// alert whose wait is over makes the group due at `t`, if it wasn't flushed.
+    /// Adds an alert, or replaces the one with its labels. Memory is reserved.
+    ///
+    /// An alert whose wait is over makes the group due at `t`, if it wasn't flushed.
     pub(crate) fn insert(&mut self, labels: Labels, member: Member, wait: u64, t: u64)
         requires labels { labels ≡ member.alert.labels }
         requires room { 0 < self.old.members.room }
@@ -63,7 +64,7 @@ impl Group {
     }
 }
 
-/// Makes room for so many more alerts in a group.
+/// Reserves memory for so many more alerts in a group.
 pub(crate) fn reserve_members(group: &mut Group, more: usize) -> Result<(), AllocError>
     ensures kept { IsReserved group.old group.new }
     ensures room { OnOk result (Fits more group.new) }
@@ -79,7 +80,7 @@ pub(crate) fn put_in_order(group: &mut Group, alloc: Global)
     group.members.put_in_order(alloc);
 }
 
-/// A group that was taken is due at this moment again.
+/// Marks a group that a begin took: it is flushed, and due again at this time.
 pub(crate) fn mark_begun(group: &mut Group, due: u64)
     ensures { group.new ≡ record group.old { due = due; flushed = true } }
 {

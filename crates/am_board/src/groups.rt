@@ -1,4 +1,10 @@
-//! All groups, found by their names.
+//! All groups: a table by name, and the set of due times. `insert`, `begin`, `finish` and
+//! `maintain` change it.
+//!
+//! Contracts see the list of groups in the order in which they were made. A call changes one group
+//! at a place (`Changes` in specs/Group.antt), never its name. Invariant: each group is under its
+//! name, which no other group has. While the set of due times is complete, it has the key of each
+//! group.
 ghost use Rattle.std.specs.Prelude.{◌≡◌, ◌^◌, ◌<◌, ◌≤◌, [], length, slice_index_or, OnOk};
 
 mod change;
@@ -10,8 +16,7 @@ use indexmap::IndexMap;
 use std::alloc::{AllocError, Global};
 use std::marker::Model;
 
-/// Groups of different names, in the order in which they were made, with room for more, and when they
-/// are due.
+/// Groups of different names, in the order in which they were made, and their due times.
 #[derive(Debug, Drop)]
 pub(crate) struct Groups {
     groups: IndexMap<GroupName, Group>,
@@ -65,7 +70,7 @@ impl Groups {
         &self.as_slice()[i]
     }
 
-    /// Makes room for so many more groups.
+    /// Reserves memory for so many more groups.
     pub(crate) fn reserve(&mut self, more: usize) -> Result<(), AllocError>
         ensures items { self.new.items ≡ self.old.items }
         ensures room { OnOk result (more ≤ self.new.room) }

@@ -1,7 +1,15 @@
-//! Inserts.
-ghost use Rattle.std.specs.Prelude.{◌≡◌, ℕ, suc, ◌+◌, ◌<◌, ◌≤◌, [], count_by, false, fold, is_none, length, map, position, None, All};
+//! Inserts: `Board::insert` calls `put_alert`, which finds the groups first and changes the state
+//! last.
+//!
+//! Memory is allocated in this order. First come the names of the groups and the list for the name
+//! cache. Each name is found once. Then, if no limit is passed, come the copies (`prepare_all`),
+//! and the capacity of the history, the known alerts, the groups and each group (`reserve_insert`).
+//! From the first change on nothing can fail. Groups are added last, and no two routes have one
+//! group, so no place that was found moves, and each group needs capacity for one alert. At the end the names are cached, if memory allows.
+//! `Board::insert` then has a new label set learned by the index of sources, if memory allows.
+ghost use Rattle.std.specs.Prelude.{◌≡◌, ℕ, ◌+◌, ◌<◌, ◌≤◌, ◌==◌, [], count_by, false, fold, is_none, length, map, position, None, All};
 ghost use Rattle.std.specs.Prelude.{IfSome, IfOk, IfErr, OnOk, MatchResult, vec_len};
-ghost use Rattle.am_alerts.specs.RoutingTree.{RoutingTree, routes_of};
+ghost use Rattle.am_alerts.specs.RoutingTree.{RoutingTree, last_of, routes_of};
 ghost use Rattle.am_board.specs.GroupNameCache.{AreKept};
 ghost use Rattle.am_board.specs.Group.{names_of, AreRouted, AddsAtMost, HasRoom};
 ghost use Rattle.am_model.specs.Causes.{insert_cause, is_full, is_name_too_many};
@@ -46,14 +54,14 @@ pub(crate) struct Placement {
     pub(crate) name: GroupName,
     /// The place of the group, where it is there.
     pub(crate) place: Option<usize>,
-    /// The name once more, for a group that has to be made to stand under.
+    /// The name once more, as the table's key, for a group that has to be made.
     pub(crate) key: GroupName,
-    /// The labels of the alert, for it to stand under.
+    /// The labels of the alert, as the table's key.
     pub(crate) labels: Labels,
     pub(crate) member: Member,
     /// How long the group waits for its first flush, in milliseconds.
     pub(crate) wait: u64,
-    /// An empty list with room, for a group that has to be made.
+    /// An empty list with capacity for one alert, for a group that has to be made.
     pub(crate) members: Members,
 }
 
@@ -66,8 +74,7 @@ pub(crate) struct Found {
     pub(crate) targets: Vec<Target>,
 }
 
-/// Puts an alert in place of the known one with its labels, or adds it, and likewise in each group of
-/// its routes; the names of these groups are kept.
+/// Adds an alert to the known ones and to the groups of its routes, and caches the groups' names.
 pub(crate) fn put_alert(
     alloc: Global,
     config: &Config,
@@ -100,7 +107,7 @@ pub(crate) fn put_alert(
     inserted
 }
 
-/// Puts an alert to the known ones and into the groups that were found for it.
+/// Adds an alert to the known ones and to the groups that were found for it.
 fn put_found(
     alloc: Global,
     config: &Config,
@@ -142,8 +149,9 @@ fn put_found(
     Ok(inserted)
 }
 
-/// The place of the known alert with the labels of this one. Refused where the history has no room
-/// for a record, or where the labels are new and no more may be known.
+/// Returns the place of the known alert with these labels, if there is one.
+///
+/// Fails where the history has no capacity, or where the labels are new and the limit is reached.
 fn find_place(config: &Config, state: &State, alert: &Alert) -> Result<Option<usize>, Fault>
     ensures place { IfOk result (λ place. place ≡ position (same_alert alert.now) state.now.known.items) }
     ensures within { IfOk result (λ place. IfSome place (λ i. i < length state.now.known.items)) }
@@ -161,7 +169,7 @@ fn find_place(config: &Config, state: &State, alert: &Alert) -> Result<Option<us
     Ok(place)
 }
 
-/// Puts an alert to the known ones and into its groups, for all of which there is room.
+/// Adds an alert to the known ones and to its groups. All memory is reserved.
 fn put_prepared(
     state: &mut State,
     t: u64,
@@ -175,7 +183,7 @@ fn put_prepared(
     requires within { IfSome known (λ i. i < length state.old.known.items) }
     requires inserts { state.old.inserts ≤ vec_len state.old.history }
     requires ready { IsReadyFor state.old placements.items }
-    requires empty { All (IsEmptyWithRoom (vec_len placements)) placements.items }
+    requires empty { All IsEmptyWithRoom placements.items }
     requires found { AreFound state.old.groups.items placements.items }
     requires apart { AreApart placements.items }
     ensures log { state.new.log ≡ state.old.log }
@@ -194,7 +202,7 @@ fn put_prepared(
     place_all(&mut state.groups, placements, t);
 }
 
-/// Makes room for an insert, and for the finish of each open flush.
+/// Reserves memory for an insert, and for the finish of each open flush.
 fn reserve_insert(state: &mut State, placements: &[Placement]) -> Result<(), AllocError>
     requires distinct { IsDistinct same_name (names_of state.old.groups.items) }
     requires found { AreFound state.old.groups.items placements.now }
@@ -207,8 +215,8 @@ fn reserve_insert(state: &mut State, placements: &[Placement]) -> Result<(), All
     reserve_all(&mut state.groups, placements)
 }
 
-/// The groups that an alert of these labels goes to, in the order of its routes: those of the names
-/// that are kept, if they are.
+/// Returns the groups that an alert goes to, in the order of its routes, by cached names if there
+/// are any.
 fn find_targets(
     alloc: Global,
     routes: &Routes,
@@ -245,8 +253,7 @@ fn find_named(
     Ok(targets)
 }
 
-/// The groups that an alert of these labels goes to, in the order of its routes, with their names
-/// worked out.
+/// Returns the groups that an alert goes to, in the order of its routes, by names that it computes.
 fn find_routed(
     alloc: Global,
     routes: &Routes,
@@ -273,7 +280,7 @@ fn find_target(
     route: u32,
     labels: &Labels,
 ) -> Result<Target, AllocError>
-    requires { route ≤ length routes.now.children }
+    requires { route ≤ last_of routes.now }
     ensures name { IfOk result (λ target. target.name ≡ name_at routes.now labels.now route) }
     ensures found { IfOk result (IsFound groups.now.items) }
 {
@@ -284,8 +291,9 @@ fn find_target(
     Ok(Target { name, place })
 }
 
-/// The name of a group, which is at this place or isn't there: the group's own where it is there, so
-/// that its texts are kept once.
+/// Returns the group's own copy of its name where the group exists, and else this name.
+///
+/// So the texts of a name are stored once.
 fn own_name(
     alloc: Global,
     groups: &Groups,
@@ -302,7 +310,7 @@ fn own_name(
     }
 }
 
-/// The names of these groups, to be kept: none where they are kept already, or memory is refused.
+/// Returns copies of the groups' names for the cache, unless they are cached or memory lacks.
 fn new_names(
     alloc: Global,
     kept: Option<&Sequence<GroupName>>,
@@ -345,15 +353,14 @@ fn prepare_all(
     alert: &Alert,
     stamp: u64,
 ) -> Result<Vec<Placement>, AllocError>
-    requires { All (λ t. t.name.route ≤ length routes.now.children) targets.items }
+    requires { All (λ t. t.name.route ≤ last_of routes.now) targets.items }
     ensures targets { IfOk result (λ placements. map target_of placements.items ≡ targets.items) }
-    ensures ready { IfOk result (λ placements. All (IsEmptyWithRoom (vec_len placements)) placements.items) }
+    ensures ready { IfOk result (λ placements. All IsEmptyWithRoom placements.items) }
     ensures placed { IfOk result (λ placements. All (IsPlacementOf routes.now (stamped_alert alert.now stamp)) placements.items) }
 {
-    let room = targets.len();
-    let mut placements = Vec::with_capacity(alloc, room)?;
+    let mut placements = Vec::with_capacity(alloc, targets.len())?;
     for target in targets {
-        placements.push(prepare(alloc, routes, target, alert, stamp, room)?)?;
+        placements.push(prepare(alloc, routes, target, alert, stamp)?)?;
     }
     Ok(placements)
 }
@@ -365,11 +372,10 @@ fn prepare(
     target: Target,
     alert: &Alert,
     stamp: u64,
-    room: usize,
 ) -> Result<Placement, AllocError>
-    requires { target.name.route ≤ length routes.now.children }
+    requires { target.name.route ≤ last_of routes.now }
     ensures target { IfOk result (λ placement. target_of placement ≡ target) }
-    ensures ready { IfOk result (IsEmptyWithRoom room) }
+    ensures ready { IfOk result IsEmptyWithRoom }
     ensures placed { IfOk result (IsPlacementOf routes.now (stamped_alert alert.now stamp)) }
 {
     let Target { name, place } = target;
@@ -385,34 +391,34 @@ fn prepare(
             stamp,
             leaves: false,
         },
-        members: list_for(alloc, place, room)?,
+        members: list_for(alloc, place)?,
     })
 }
 
-/// The list for a group that has to be made, with room for so many alerts. A group that is there
-/// needs none.
-fn list_for(alloc: Global, place: Option<usize>, room: usize) -> Result<Members, AllocError>
+/// Returns the list of a group that has to be made, with capacity for one alert.
+///
+/// A group that exists needs none.
+fn list_for(alloc: Global, place: Option<usize>) -> Result<Members, AllocError>
     ensures empty { IfOk result (λ members. members.items ≡ []) }
-    ensures room { place ≡ None → IfOk result (λ members. room ≤ members.room) }
+    ensures room { place ≡ None → IfOk result (λ members. 0 < members.room) }
 {
     match place {
         Some(_) => Ok(Members::new(alloc)),
-        None => Members::with_capacity(alloc, room),
+        None => Members::with_capacity(alloc, 1),
     }
 }
 
-/// Makes room for so many more alerts in each group of these placements.
+/// Reserves memory for one more alert in each group of these placements.
 fn reserve_all(groups: &mut Groups, placements: &[Placement]) -> Result<(), AllocError>
     requires distinct { IsDistinct same_name (names_of groups.old.items) }
     requires found { AreFound groups.old.items placements.now }
     ensures names { names_of groups.new.items ≡ names_of groups.old.items }
     ensures states { map group_state groups.new.items ≡ map group_state groups.old.items }
     ensures spare { groups.new.room ≡ groups.old.room }
-    ensures room { OnOk result (HaveRoom (length placements.now) groups.new.items placements.now) }
+    ensures room { OnOk result (HaveRoom groups.new.items placements.now) }
 {
-    let more = placements.len();
     for placement in placements {
-        groups.reserve_found(placement.place, more)?;
+        groups.reserve_found(placement.place, 1)?;
     }
     Ok(())
 }
@@ -420,8 +426,8 @@ fn reserve_all(groups: &mut Groups, placements: &[Placement]) -> Result<(), Allo
 /// Puts each placement into its group, in their order.
 fn place_all(groups: &mut Groups, mut placements: Vec<Placement>, t: u64)
     requires spare { vec_len placements ≤ groups.old.room }
-    requires room { HaveRoom (vec_len placements) groups.old.items placements.items }
-    requires ready { All (IsEmptyWithRoom (vec_len placements)) placements.items }
+    requires room { HaveRoom groups.old.items placements.items }
+    requires ready { All IsEmptyWithRoom placements.items }
     requires found { AreFound groups.old.items placements.items }
     requires apart { AreApart placements.items }
     ensures routed { (tree : RoutingTree) → AreRouted tree (names_of groups.old.items)
@@ -440,12 +446,12 @@ fn place_all(groups: &mut Groups, mut placements: Vec<Placement>, t: u64)
 fn place(groups: &mut Groups, placement: Placement, t: u64)
     requires spare { 0 < groups.old.room }
     requires room { HasRoom 1 placement.name groups.old.items }
-    requires ready { IsEmptyWithRoom 1 placement }
+    requires ready { IsEmptyWithRoom placement }
     requires found { IsFound groups.old.items (target_of placement) }
     ensures spare { groups.old.room ≤ groups.new.room + 1 }
     ensures names { AddsAtMost (names_of groups.old.items) placement.name (names_of groups.new.items) }
-    ensures others { (n : ℕ) (name : GroupName) → IsEmptyWithRoom (suc n) placement
-        → HasRoom (suc n) name groups.old.items → HasRoom n name groups.new.items }
+    ensures others { (name : GroupName) → (name.route == placement.name.route) ≡ false
+        → HasRoom 1 name groups.old.items → HasRoom 1 name groups.new.items }
     ensures state { (config : Config) (m : MemberState) → t ≤ MAX_MOMENT → IsPlacementOf config.routes m placement
         → map group_state groups.new.items ≡ put_into_group config t m (map group_state groups.old.items) placement.name }
 {

@@ -1,4 +1,8 @@
-//! Known alerts, found by their labels.
+//! Known alerts: a table by label set. Contracts see it as the list in the order of arrival, so a
+//! look-up is `position` and a put is `upsert` of the definitions. `insert` changes it; nothing
+//! removes an alert.
+//!
+//! Invariant: each alert is under its labels.
 ghost use Rattle.std.specs.Prelude.{◌≡◌, ◌<◌, ◌≤◌, [], length, position, IfSome, OnOk};
 ghost use Rattle.am_alerts.specs.Labels.{same_label_set};
 ghost use Rattle.am_model.specs.Insert.{same_alert};
@@ -10,7 +14,7 @@ use indexmap::IndexMap;
 use std::alloc::{AllocError, Global};
 use std::marker::Model;
 
-/// Alerts of different labels, in the order in which these first came, with room for more.
+/// The known alerts, each label set once, in the order of arrival.
 #[derive(Debug, Drop)]
 pub(crate) struct Known {
     alerts: IndexMap<Labels, Alert>,
@@ -61,7 +65,7 @@ impl Known {
         self.alerts.get_index_of(labels)
     }
 
-    /// Makes room for so many more alerts.
+    /// Reserves memory for so many more alerts.
     pub(crate) fn reserve(&mut self, more: usize) -> Result<(), AllocError>
         ensures items { self.new.items ≡ self.old.items }
         ensures room { OnOk result (more ≤ self.new.room) }

@@ -1,5 +1,23 @@
-//! The dispatcher of one thread: aggregation groups, their flushes and the notification log,
-//! with the history of every call.
+//! The dispatcher of one thread: `Board`, its tickets, and the history of every call. Embedders,
+//! `am_desk`, `am_rehearsal` and tests call it.
+//!
+//! The definitions are those of `am_model`; this crate has none of its own of what a call replies.
+//! Its modules:
+//!
+//! - `board`, `ticket`, `preview`, `views`, `fault`: the public calls and types.
+//! - `state`, `known`, `groups`, `group`, `members`, `flush`: the stored state. Contracts see the
+//!   tables as plain lists in the order of arrival, with their capacity.
+//! - `due`, `order`, `destinations`: indexes and caches, which only save time. No contract above
+//!   them mentions them.
+//! - `insert`, `silence`, `begin` (with `unmuted`, `dedup`, `plan`), `note`, `finish`, `maintain`:
+//!   one module for each call, named after it.
+//!
+//! Each module of a call has one function over the plain state with the exact contract. It relies
+//! on `StateInvariant` and ensures `AppliesCall` or `LeavesUnchanged` (specs/Step.antt). The
+//! board's method hands its fields over. `state_of` (specs/Refinement.antt) reads the stored state
+//! as a state of `am_model`. `IsSound` (specs/Board.antt) is the board's invariant: the history is
+//! legal, and the stored state agrees with its replay. proofs/lemmas/invariant carries it over each
+//! call.
 #![tactic(auto)]
 
 pub mod begin;

@@ -1,4 +1,5 @@
-//! Maintenance.
+//! Maintenance: `Board::maintain` calls `sweep`, which removes groups without alerts and expired
+//! rows.
 ghost use Rattle.std.specs.Prelude.{◌≡◌, ℕ, None, MatchResult, vec_len};
 ghost use Rattle.am_model.specs.Causes.{maintain_cause};
 ghost use Rattle.am_model.specs.Records.{entry};

@@ -1,4 +1,8 @@
-//! The alerts of a group, found by their labels.
+//! The alerts of one group: a table by label set, with the order of its labels as a cache.
+//!
+//! Contracts see the list in the order of arrival. Invariant (specs/MemberTable.antt): each alert
+//! is under its labels, none is marked as leaving between calls, and a stored order is that of the
+//! alerts.
 ghost use Rattle.std.specs.Prelude.{◌≡◌, ◌+◌, ◌<◌, ◌≤◌, ◌↔◌, All, IfOk, IsTrue, OnOk, [], count_by, length, map, not};
 ghost use Rattle.std.specs.List.{IsDistinct, list_any};
 ghost use Rattle.std.specs.Map.{values_of};
@@ -20,12 +24,11 @@ use indexmap::IndexMap;
 use std::alloc::{AllocError, Global};
 use std::marker::Model;
 
-/// Alerts of different labels, in the order in which these came into the group, with room for more.
+/// The alerts of a group, each label set once, in the order of arrival.
 #[derive(Debug, Drop)]
 pub(crate) struct Members {
     members: IndexMap<Labels, Member>,
-    /// Their places in the order of their labels, unless a label set came or left since that was
-    /// worked out.
+    /// Their places in the order of their labels. None after a label set came or left.
     order: Option<Vec<usize>>,
 }
 
@@ -53,7 +56,7 @@ impl Members {
         }
     }
 
-    /// No alerts, with room for so many.
+    /// Returns an empty list with capacity for so many alerts.
     pub(crate) fn with_capacity(alloc: Global, room: usize) -> Result<Members, AllocError>
         ensures empty { IfOk result (λ members. members.items ≡ []) }
         ensures room { IfOk result (λ members. room ≤ members.room) }
@@ -92,8 +95,7 @@ impl Members {
         ordered(alloc, &self.order, self.members.values().as_slice())
     }
 
-    /// Works the order of the alerts by their labels out, unless it is there. It only saves time:
-    /// where memory for it is refused, it is worked out at each use.
+    /// Computes the order of the alerts by labels, unless it is there and if memory allows.
     pub(crate) fn put_in_order(&mut self, alloc: Global)
         requires { IsDistinct same_member (map member_state self.old.items) }
         ensures { self.new ≡ self.old }
@@ -101,7 +103,7 @@ impl Members {
         renew(alloc, &mut self.order, self.members.values().as_slice());
     }
 
-    /// Makes room for so many more alerts.
+    /// Reserves memory for so many more alerts.
     pub(crate) fn reserve(&mut self, more: usize) -> Result<(), AllocError>
         ensures items { self.new.items ≡ self.old.items }
         ensures kept { self.old.room ≤ self.new.room }
@@ -110,7 +112,7 @@ impl Members {
         self.members.reserve(more)
     }
 
-    /// Puts an alert in place of the one with its labels, or adds it, for which there is room.
+    /// Adds an alert, or replaces the one with its labels. Memory is reserved.
     pub(crate) fn put(&mut self, labels: Labels, mut member: Member)
         requires labels { labels ≡ member.alert.labels }
         requires room { 0 < self.old.room }
@@ -143,10 +145,12 @@ impl Members {
         before - self.members.len()
     }
 
-    /// Takes the alerts out that stand here as they did when they were found resolved, and answers how
-    /// many: each is looked up and marked, and all that are marked go at once.
+    /// Takes out the alerts that are as they were when they were found resolved. Returns how many.
+    ///
+    /// Each is looked up and marked, and all marked ones go in one walk.
     pub(crate) fn take_leaving(&mut self, leaving: &[LeavingAlert]) -> usize
-        ensures members { map member_state self.new.items ≡ without (is_leaving (map stamped leaving.now)) (map member_state self.old.items) }
+        ensures members { map member_state self.new.items
+            ≡ without (is_leaving (map stamped leaving.now)) (map member_state self.old.items) }
         ensures count { result ≡ count_by (is_leaving (map stamped leaving.now)) (map member_state self.old.items) }
     {
         if leaving.is_empty() {
@@ -178,7 +182,7 @@ fn is_any_resolved(members: &[Member], t: u64) -> bool
     members.iter().any(|member| member.alert.resolved_at(t))
 }
 
-/// Marks the alerts of a group that stand there as they did when they were found resolved.
+/// Marks the alerts of a group that are as they were when they were found resolved.
 fn mark_all(members: &mut IndexMap<Labels, Member>, leaving: &[LeavingAlert])
     requires { AreMembers members.old.entries }
     ensures keyed { AreKeyed labels_of members.new.entries }
@@ -190,7 +194,7 @@ fn mark_all(members: &mut IndexMap<Labels, Member>, leaving: &[LeavingAlert])
     }
 }
 
-/// Marks the alert of a group that stands there as it did when it was found resolved, if there is one.
+/// Marks the alert that is as it was when it was found resolved, if it is there.
 fn mark(members: &mut IndexMap<Labels, Member>, found: &LeavingAlert)
     requires { AreKeyed labels_of members.old.entries }
     ensures keyed { AreKeyed labels_of members.new.entries }

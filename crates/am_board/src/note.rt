@@ -1,4 +1,4 @@
-//! Notes: a success that is logged at once.
+//! Notes: `Board::note` calls `note_success`, which logs one success before its flush is finished.
 ghost use Rattle.std.specs.Prelude.{◌≡◌, ℕ, ◌+◌, ◌<◌, ◌^◌, Bool, true, List, None, Some, slice_get, slice_index_or, map};
 ghost use Rattle.std.specs.Prelude.{vec_len, All, IsPermutation, IsSome, IfOk, IfErr, OnOk, MatchResult};
 ghost use Rattle.std.specs.Option.{option_map};
@@ -70,8 +70,7 @@ pub(crate) fn note_success(
     Ok(Noted)
 }
 
-/// What is noted: the place of an open flush, that of an integration among those that it asked, the
-/// integration and its outcome.
+/// What is noted: places of the flush and of the integration in it, the integration, its outcome.
 #[derive(Clone, Copy)]
 struct NoteTarget {
     flush: usize,
@@ -80,7 +79,7 @@ struct NoteTarget {
     outcome: Option<Outcome>,
 }
 
-/// What the notice at a place of a ticket asks to be noted, where it may be.
+/// Returns what a note of the notice at a place of a ticket logs, if it can be noted.
 fn find_noting(
     flushes: &[OpenFlush],
     ticket: &Ticket,
@@ -116,7 +115,7 @@ fn integration_at(ticket: &Ticket, place: usize) -> Option<u32>
     }
 }
 
-/// The place of an integration that may be noted among those that a flush asked.
+/// Returns the place of an integration that can be noted among those of a flush.
 fn find_ready(
     flush: &OpenFlush,
     integration: u32,
@@ -133,7 +132,7 @@ fn find_ready(
     Ok(a)
 }
 
-/// Whether an integration that was asked may be noted with this outcome.
+/// Returns whether an integration can be noted with this outcome.
 fn check_ready(asked: &Asked, outcome: Option<Outcome>) -> Result<(), NoteFault>
     ensures ready { OnOk result ((is_ready outcome (asked_state_of asked.now) ≡ true) × IsSome asked.now.sets) }
     ensures cause { (config : ConfigData) (records : ℕ) (s : Data)
@@ -148,7 +147,7 @@ fn check_ready(asked: &Asked, outcome: Option<Outcome>) -> Result<(), NoteFault>
     Ok(())
 }
 
-/// Logs what an asked integration of an open flush was told, which is noted from now on.
+/// Logs the success of an integration of an open flush, which is noted from now on.
 fn log_at_once(log: &mut NfLog<GroupName, Labels>, flush: &mut OpenFlush, a: usize, t: u64)
     requires place { a < vec_len flush.old.asked }
     requires asked { All (IsAsked log.old flush.old) flush.old.asked.items }

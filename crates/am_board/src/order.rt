@@ -1,4 +1,7 @@
-//! The alerts of a group in the order of their labels.
+//! The order of a group's alerts by labels, as a list of places. `begin` computes it, and `members`
+//! drops it when a label set comes or goes.
+//!
+//! It only saves time. Where its memory is refused, each use computes it again.
 ghost use Rattle.std.specs.Prelude.{◌≡◌, IfOk, None, if◌then◌else◌, map, slice_get};
 ghost use Rattle.std.specs.List.{IsDistinct, filter_map, range_with_len};
 ghost use Rattle.std.specs.Option.{option_copied};
@@ -44,7 +47,7 @@ pub(crate) fn forget(order: &mut Option<Vec<usize>>)
     *order = None;
 }
 
-/// Alerts in the order of their labels: at these places, or as it is worked out.
+/// Returns alerts in the order of their labels, by these places or by sorting.
 pub(crate) fn ordered<'m>(
     alloc: Global,
     order: &Option<Vec<usize>>,
@@ -134,7 +137,7 @@ fn members_at<'m>(
     Ok(found)
 }
 
-/// Alerts in the order of their labels, which is worked out.
+/// Returns alerts in the order of their labels, by sorting.
 fn sorted_members<'m>(alloc: Global, members: &'m [Member]) -> Result<Vec<&'m Member>, AllocError>
     requires { IsDistinct same_member (map member_state members.now) }
     ensures { IfOk result (λ found. map (λ m. m.now) found.items ≡ in_order member_cmp members.now) }

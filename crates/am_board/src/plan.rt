@@ -1,7 +1,11 @@
-//! The flush to open: what its begin puts into the board and its ticket.
+//! The flush to open: all that its begin puts into the board and its ticket. `begin` calls `plan`.
+//!
+//! The label sets are made once. The open flush and each notified integration share them, so a note
+//! or the finish moves them into the log and never allocates.
 ghost use Rattle.std.specs.Prelude.{◌≡◌, ◌<◌, ◌≤◌, IfOk, length, map, slice_index_or, vec_len};
 ghost use Rattle.std.specs.List.{IsDistinct};
 ghost use Rattle.am_mute.specs.Sources.{AreLearnt};
+ghost use Rattle.am_alerts.specs.RoutingTree.{last_of};
 ghost use Rattle.am_model.specs.Begin.{asked_of};
 ghost use Rattle.am_model.specs.Configured.{HaveFewIntegrations};
 ghost use Rattle.am_board.specs.Beginning.{IsFlushAsking, IsUnmuted, asked_for_update, alert_sets_of};
@@ -41,7 +45,7 @@ pub(crate) struct PlannedFlush {
     pub(crate) recorded_notices: Sequence<Notice>,
 }
 
-/// The flush that a begin opens; none where nobody is asked.
+/// Returns the flush that a begin opens, unless no integration needs an update.
 pub(crate) fn plan(
     alloc: Global,
     config: &Config,
@@ -61,7 +65,7 @@ pub(crate) fn plan(
     plan_of(alloc, config, id, state, sources, group, chosen.t)
 }
 
-/// The flush of a group that a begin at `t` opens; none where nobody is asked.
+/// Returns the flush of a group that a begin at `t` opens, unless no integration needs an update.
 fn plan_of(
     alloc: Global,
     config: &Config,
@@ -72,7 +76,7 @@ fn plan_of(
     t: u64,
 ) -> Result<Option<PlannedFlush>, Fault>
     requires sources { AreLearnt config.now.rules state.now.known.items sources.now }
-    requires route { group.now.name.route ≤ length config.now.routes.children }
+    requires route { group.now.name.route ≤ last_of config.now.routes }
     requires few { HaveFewIntegrations config.now }
     requires apart { IsDistinct same_member (group_state group.now).members }
     requires moment { t ≤ MAX_MOMENT }
@@ -104,8 +108,7 @@ fn plan_of(
     Ok(Some(planned))
 }
 
-/// The flush to open of a group at `t`, with what is unmuted in it and the label sets of that, which
-/// asks these integrations.
+/// Returns the flush to open of a group at `t`, for these integrations.
 fn open(
     alloc: Global,
     config: &Config,
@@ -117,7 +120,7 @@ fn open(
     asked: &[Update],
     t: u64,
 ) -> Result<PlannedFlush, AllocError>
-    requires route { group.now.name.route ≤ length config.now.routes.children }
+    requires route { group.now.name.route ≤ last_of config.now.routes }
     requires moment { t ≤ MAX_MOMENT }
     requires sets { sets ≡ alert_sets_of unmuted.now }
     requires unmuted { IsUnmuted config.now (state_of state.now) t (group_state group.now) unmuted.now }
@@ -143,8 +146,7 @@ fn open(
     })
 }
 
-/// The flush of a group at `t`, with what is unmuted in it and the label sets of that, which asks
-/// these integrations.
+/// Returns the open flush of a group at `t`, with the label sets that these integrations share.
 fn flush_of(
     alloc: Global,
     number: u64,
@@ -168,7 +170,7 @@ fn flush_of(
     })
 }
 
-/// A notice for each integration that is asked.
+/// Returns a notice for each integration that needs an update.
 fn notices(
     alloc: Global,
     desk: u64,
@@ -196,7 +198,7 @@ fn notices(
     Ok(notices)
 }
 
-/// The integrations that a flush of a group asks, with what their log rows are to hold.
+/// Returns the integrations of a flush, each with what its log row will have.
 fn asked_by(
     alloc: Global,
     group: &GroupName,

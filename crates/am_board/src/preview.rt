@@ -1,7 +1,12 @@
-//! When a begin takes a group, what it is to do with it, and why.
+//! When a begin takes a group, what it would do, and why. `am_rehearsal` and embedders ask before a
+//! begin.
+//!
+//! A preview changes nothing. Where a begin would sort the group, a preview sorts it for itself
+//! alone.
 ghost use Rattle.std.specs.Prelude.{◌≡◌, ◌+◌, ◌<◌, ◌≤◌, ◌^◌, All, IfOk, IfSome, length, map, option_copied};
 ghost use Rattle.std.specs.List.{enumerate_from, filter_map, IsDistinct};
 ghost use Rattle.am_mute.specs.Sources.{AreLearnt};
+ghost use Rattle.am_alerts.specs.RoutingTree.{last_of};
 ghost use Rattle.am_board.specs.History.{state_at};
 ghost use Rattle.am_model.specs.Begin.{next_due};
 ghost use Rattle.am_model.specs.Configured.{HaveFewIntegrations, integrations_of};
@@ -32,21 +37,24 @@ use am_nflog::{LogKey, LogRow, NfLog, is_subset};
 use std::alloc::{AllocError, Global};
 
 impl Board {
-    /// What a begin at `now` (milliseconds) is to do with the group that it takes: which of its alerts
-    /// are muted, and why, and why each integration of its receiver is asked or not. None where no
-    /// group without an open flush is due. Nothing changes.
+    /// Returns what a begin at `now` (milliseconds) would do, and why.
     ///
-    /// The reasons are those that looking back over the history finds (`law::previews_look_back`), so
-    /// that a begin at once asks just those for whom there is a reason to ask (`law::reasons_are_exact`).
+    /// That is the group that it would take, and the muted alerts with their causes. For each
+    /// integration it is the reason why it is notified or not. None where no group without an open
+    /// flush is due.
+    ///
+    /// The reasons are those that the history gives (`law::previews_look_back`). A begin at once
+    /// notifies exactly the integrations whose reason says so (`law::reasons_are_exact`).
     pub fn preview(&self, alloc: Global, now: u64) -> Result<Option<Preview>, AllocError>
         ensures { IfOk result (λ found. found ≡ preview self.now.config self.now.history now) }
     {
         preview_of(alloc, &self.config, &self.state, &self.sources, now)
     }
 
-    /// When the next group is due of those that have no open flush, in milliseconds; none where there
-    /// is no such group. From this moment on, and not before, a begin takes a group, if nothing
-    /// changes until then. Takes no memory.
+    /// Returns when the next group without an open flush is due, in milliseconds, if there is one.
+    ///
+    /// From this time on, and not before, a begin takes a group, if nothing changes until then.
+    /// Never allocates.
     pub fn next_due(&self) -> Option<u64>
         ensures { result ≡ next_due (state_at self.now) }
     {
@@ -97,7 +105,7 @@ fn preview_on(
     t: u64,
 ) -> Result<Preview, AllocError>
     requires sources { AreLearnt config.now.rules state.now.known.items sources.now }
-    requires route { group.now.name.route ≤ length config.now.routes.children }
+    requires route { group.now.name.route ≤ last_of config.now.routes }
     requires few { HaveFewIntegrations config.now }
     requires apart { IsDistinct same_member (group_state group.now).members }
     requires moments { All (λ row. row.moment ≤ MAX_MOMENT) (log_rows state.now.log) }
@@ -141,7 +149,7 @@ fn muted_in(
     Ok(Sequence::from(muted))
 }
 
-/// Why each integration of a group's receiver is asked at `t`, or why not.
+/// Returns why each integration of a group's receiver is notified at `t`, or why not.
 fn reasons_on(
     alloc: Global,
     config: &Config,
@@ -151,7 +159,7 @@ fn reasons_on(
     t: u64,
 ) -> Result<Sequence<Reason>, AllocError>
     requires sources { AreLearnt config.now.rules state.now.known.items sources.now }
-    requires route { group.now.name.route ≤ length config.now.routes.children }
+    requires route { group.now.name.route ≤ last_of config.now.routes }
     requires few { HaveFewIntegrations config.now }
     requires apart { IsDistinct same_member (group_state group.now).members }
     requires moments { All (λ row. row.moment ≤ MAX_MOMENT) (log_rows state.now.log) }
@@ -176,7 +184,7 @@ fn reasons_on(
     )
 }
 
-/// Why each of a receiver's integrations is asked about a group, or why not.
+/// Returns why each of these integrations is notified about a group, or why not.
 fn reasons_of(
     alloc: Global,
     integrations: &[Integration],
@@ -205,7 +213,7 @@ fn reasons_of(
     Ok(Sequence::from(reasons))
 }
 
-/// Why an integration with this row in the log is asked, or why not.
+/// Returns why an integration with this log row is notified, or why not.
 fn reason(
     logged: Option<&LogRow<Labels>>,
     sets: &AlertSets,
@@ -227,7 +235,7 @@ fn reason(
     }
 }
 
-/// Why an integration with this row is asked, or why not, where something is left to tell.
+/// Returns why an integration with this row is notified, or why not, where alerts are left.
 fn reason_by(
     row: &LogRow<Labels>,
     sets: &AlertSets,
@@ -255,7 +263,7 @@ fn reason_by(
     Reason::NotYet { from: over + 1 }
 }
 
-/// Why an integration is asked where no alert fires, or why not.
+/// Returns why an integration is notified where no alert fires, or why not.
 fn ended(row: &LogRow<Labels>) -> Reason
     ensures { result ≡ reason_ended row.now }
 {

@@ -1,4 +1,4 @@
-//! What a dispatcher holds.
+//! The stored state of a board, which the module of each call changes.
 ghost use Rattle.std.specs.Prelude.{◌≡◌, ◌+◌, ◌≤◌, ◌↔◌, IsTrue, IsOkAnd, max, min, vec_len};
 ghost use Rattle.am_board.specs.Refinement.{IsNew};
 
@@ -13,11 +13,12 @@ use am_mute::silences::Silences;
 use am_nflog::NfLog;
 use std::alloc::{AllocError, Global};
 
+/// The stored state. `state_of` (specs/Refinement.antt) reads it as a state of `am_model`.
 #[derive(Debug, Drop)]
 pub(crate) struct State {
-    /// The last moment that was used, in milliseconds.
+    /// The greatest time of any call so far, in milliseconds.
     pub(crate) clock: u64,
-    /// How many inserts there were.
+    /// The number of inserts so far.
     pub(crate) inserts: u64,
     pub(crate) known: Known,
     pub(crate) groups: Groups,
@@ -26,12 +27,12 @@ pub(crate) struct State {
     pub(crate) flushes: Vec<OpenFlush>,
     /// The number of the next flush.
     pub(crate) next_number: u64,
-    /// The accepted calls.
+    /// The accepted calls. It has capacity for the finish of each open flush.
     pub(crate) history: Vec<Record>,
 }
 
 impl State {
-    /// Nothing yet.
+    /// Returns the state of an empty board.
     pub(crate) fn new(alloc: Global) -> Result<State, AllocError>
         ensures { IsOkAnd result IsNew }
     {
@@ -48,7 +49,8 @@ impl State {
         })
     }
 
-    /// Whether the history has room for so many records, beside one for the finish of each open flush.
+    /// Returns whether the history has capacity for so many records and the finish of each open
+    /// flush.
     pub(crate) fn has_room(&self, records: usize, limit: usize) -> bool
         requires { records ≤ 2 }
         ensures { IsTrue result ↔ (vec_len self.now.history + vec_len self.now.flushes + records ≤ limit) }
@@ -56,7 +58,7 @@ impl State {
         self.history.as_slice().len() + self.flushes.as_slice().len() + records <= limit
     }
 
-    /// The moment of a call: moments never go back, and end at 10^15.
+    /// Returns the time of a call: times never go back, and end at 10^15.
     pub(crate) fn moment(&self, now: u64) -> u64
         ensures { result ≡ max self.now.clock (min now MAX_MOMENT) }
     {

@@ -1,4 +1,5 @@
-//! The ticket of an open flush.
+//! `Ticket`: the notices of an open flush and their outcomes. `begin` makes it, whoever sends reads
+//! it and records reports, and `finish` takes it.
 ghost use Rattle.std.specs.Prelude.{◌≡◌, ◌≤◌, ℕ, Some, None, MatchResult, length, slice_get};
 ghost use Rattle.std.specs.Option.{option_and_then};
 ghost use Rattle.am_model.specs.declared.config.TheConstants.{MAX_INTEGRATIONS};
@@ -12,15 +13,18 @@ use am_model::outcome::outcome_of;
 use am_retry::Outcome;
 use std::marker::Model;
 
-/// A flush that was begun and has to be finished. It can be neither copied nor dropped: `finish`
-/// alone takes it.
+/// An open flush that has to be finished, with its notices and their outcomes.
+///
+/// There is one notice for each integration that needs an update. A ticket can be neither copied
+/// nor dropped: `finish` alone takes it. Its list of outcomes has capacity for each notice that has
+/// none yet.
 pub struct Ticket {
     pub(crate) desk: u64,
     pub(crate) number: u64,
     pub(crate) group: GroupName,
     pub(crate) deadline: u64,
     pub(crate) notices: Vec<Notice>,
-    /// There is room for one of each notice.
+    /// Has capacity for one outcome of each notice.
     pub(crate) outcomes: Vec<(u32, Outcome)>,
 }
 
@@ -48,35 +52,35 @@ impl Model for Ticket {
 }
 
 impl Ticket {
-    /// The number of the flush.
+    /// Returns the number of the flush.
     pub fn number(&self) -> u64
         ensures { result ≡ self.now.number }
     {
         self.number
     }
 
-    /// The id of the desk that gave this ticket.
+    /// Returns the id of the board or desk that made this ticket.
     pub fn desk(&self) -> u64
         ensures { result ≡ self.now.desk }
     {
         self.desk
     }
 
-    /// The group that is flushed.
+    /// Returns the name of the group that is flushed.
     pub fn group(&self) -> &GroupName
         ensures { result.now ≡ self.now.group }
     {
         &self.group
     }
 
-    /// Before this moment, in milliseconds, an attempt may be made.
+    /// Returns the time, in milliseconds, before which an attempt can start.
     pub fn deadline(&self) -> u64
         ensures { result ≡ self.now.deadline }
     {
         self.deadline
     }
 
-    /// The notices, by integration; no more than a receiver may have integrations.
+    /// Returns the notices by integration, at most 8.
     pub fn notices(&self) -> &[Notice]
         ensures notices { result.now ≡ self.now.notices }
         ensures within { length self.now.notices ≤ MAX_INTEGRATIONS }
@@ -84,7 +88,7 @@ impl Ticket {
         self.notices.as_slice()
     }
 
-    /// What was recorded for the notice at a place; none where there is no report or no notice.
+    /// Returns the outcome that was recorded for the notice at `place`, if there is one.
     pub fn outcome(&self, place: usize) -> Option<Outcome>
         ensures { result ≡ option_and_then (λ n. first_outcome self.now.outcomes n.integration) (slice_get self.now.notices place) }
     {
@@ -94,8 +98,14 @@ impl Ticket {
         }
     }
 
-    /// Records a report on one of the notices. Refused in this order: `Stranger` (another desk or
-    /// flush, or no notice with something to send has the integration), `Twice`.
+    /// Stores the outcome of a report on one of the notices. Never allocates.
+    ///
+    /// # Errors
+    ///
+    /// In this order, and each changes nothing:
+    /// - `Stranger`: another board or flush, or no notice with something to send has this
+    ///   integration.
+    /// - `Twice`: the notice has an outcome.
     pub fn record(&mut self, report: Report) -> Result<(), ReportFault>
         ensures { MatchResult result
             (λ _. (report_fault self.old report ≡ None) × (self.new ≡ recorded self.old report))

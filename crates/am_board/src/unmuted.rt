@@ -1,4 +1,7 @@
-//! What is unmuted in a group: its alerts that are neither silenced nor inhibited.
+//! What is unmuted in a group: its alerts that are neither silenced nor inhibited. `begin` and
+//! `preview` call it (the two mute stages of `notify`).
+//!
+//! One walk in the order of labels finds the firing and the resolved alerts. Each has its own list.
 ghost use Rattle.std.specs.Prelude.{◌≡◌, ◌&&◌, IfOk, filter, map};
 ghost use Rattle.std.specs.List.{IsDistinct};
 ghost use Rattle.am_alerts.specs.AlertData.{is_resolved};

@@ -1,4 +1,4 @@
-//! What a dispatcher holds: its log rows and its groups.
+//! What a board has, as values that callers can read and compare: counts, log rows and groups.
 ghost use Rattle.std.specs.Prelude.{◌≡◌, ◌*◌, ◌≤◌, ◌++◌, [], ◌∷◌, All, IfOk, OnOk, length, map, sum_by, vec_len};
 ghost use Rattle.std.specs.List.{IsDistinct};
 ghost use Rattle.std.specs.Option.{option_copied};
@@ -22,7 +22,7 @@ use am_nflog::{LogKey, LogRow, NfLog};
 use std::alloc::{AllocError, Global};
 
 impl Board {
-    /// How much there is, without alerts and rows. It reads three lengths, and takes no memory.
+    /// Returns the numbers of calls, groups and open flushes. Never allocates; reads three lengths.
     pub fn glance(&self) -> Glance
         ensures glance { result ≡ glance self.now.config self.now.history }
         ensures within { (result.calls ≤ self.now.config.limits.history)
@@ -33,7 +33,9 @@ impl Board {
         glance_of(&self.state)
     }
 
-    /// How much there is. Takes no memory.
+    /// Returns the numbers of calls, groups, alerts, open flushes and log rows. Never allocates.
+    ///
+    /// Cost: the groups and the log's keys.
     pub fn summary(&self) -> Summary
         ensures summary { summary_data result ≡ summary self.now.config self.now.history }
         ensures within { (result.calls ≤ self.now.config.limits.history)
@@ -43,14 +45,14 @@ impl Board {
         summary_of(&self.state)
     }
 
-    /// The rows of the log, by route position, group labels and integration.
+    /// Returns copies of the log's rows, by route position, group labels and integration.
     pub fn rows(&self, alloc: Global) -> Result<Vec<RowView>, AllocError>
         ensures { IfOk result (λ rows. rows.items ≡ row_views (state_at self.now)) }
     {
         rows_of(alloc, &self.state)
     }
 
-    /// The groups, by route position and group labels; no more than the limits.
+    /// Returns copies of the groups, by route position and group labels.
     pub fn groups(&self, alloc: Global) -> Result<Vec<GroupView>, AllocError>
         ensures groups { IfOk result (λ groups. groups.items ≡ group_views (state_at self.now)) }
         ensures within { IfOk result (λ groups. length groups.items ≤ self.now.config.limits.groups) }
@@ -72,7 +74,7 @@ fn glance_of(state: &State) -> Glance
 
 /// How much there is in a state.
 fn summary_of(state: &State) -> Summary
-    requires alerts { sum_by (λ g. length g.members) (state_of state.now).groups ≤ 64 * state.now.inserts }
+    requires alerts { sum_by (λ g. length g.members) (state_of state.now).groups ≤ 1_024 * state.now.inserts }
     requires inserts { state.now.inserts ≤ MAX_HISTORY }
     ensures { summary_data result ≡ summary_at (vec_len state.now.history) (state_of state.now) }
 {

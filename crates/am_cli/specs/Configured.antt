@@ -6,6 +6,7 @@ use Rattle.std.specs.Str.{bytes_eq}
 use Rattle.serde_json.specs.Data.{Data, no_items, item, string, Members}
 use Rattle.serde_json.specs.Find.{as_array, as_object, as_str}
 use Rattle.am_alerts.specs.Labels.{IsReadOf, labels_in}
+use Rattle.am_alerts.specs.RoutingTree.{tree_of}
 use Rattle.am_alerts.specs.declared.labels.Label.{Label}
 use Rattle.am_alerts.specs.declared.matcher.MatcherParts.{MatcherParts}
 use Rattle.am_alerts.specs.declared.matcher.Operator.{Operator}
@@ -119,5 +120,7 @@ pub record DecodesToConfig (dialect : Dialect) (value : Data) (config : Config) 
   pub limits : HasOr DecodesToLimits greatest_limits (codes "limits") members config.limits
   pub receivers : Has (IsList DecodesToReceiver) (codes "receivers") members config.receivers
   pub root : Has DecodesToRoot (codes "route") members config.routes.root
-  pub children : HasOr (IsList (DecodesToChild dialect)) [] (codes "children") members config.routes.children
+  pub children : List Child
+  pub listed : HasOr (IsList (DecodesToChild dialect)) [] (codes "children") members children
+  pub tree : config.routes ≡ tree_of config.routes.root children
   pub rules : HasOr (IsList (DecodesToRule dialect)) [] (codes "inhibit") members config.rules

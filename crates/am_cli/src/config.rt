@@ -1,4 +1,9 @@
-//! The configuration of a dispatcher.
+//! The configuration of a dispatcher, from JSON. `am_scenario` and `am_rehearse` read theirs by it.
+//!
+//! What is built of several values is checked once, by the type that it becomes. Only when that
+//! fails, `refusal` looks for the pointer of the fault. So a retention of zero is a fault of the
+//! whole configuration, and a `group_interval` or `repeat_interval` of zero is one of its own
+//! value.
 ghost use Rattle.std.specs.Prelude.{◌≡◌, IfOk, None, codes};
 ghost use Rattle.am_alerts.specs.RoutingTree.{tree_of};
 ghost use Rattle.am_model.specs.Config.{config_fault, greatest_limits};

@@ -1,4 +1,8 @@
-//! Where an input comes from, and where what is made of it goes.
+//! `Source` and `Sink`: where an input comes from and where an output goes. The programs' `main`
+//! has those of standard input and output; tests have fake ones.
+//!
+//! Contracts see the bytes that went through our own calls, in an `IoTrace`. Nothing says that the
+//! system shows the bytes on a screen.
 ghost use Rattle.std.specs.Prelude.{◌≡◌, ◌≤◌, ◌+◌, ◌++◌, ◌==◌, List, ℕ, length, IfOk, is_ok, if◌then◌else◌};
 ghost use Rattle.std.specs.Result.{result_unwrap_or};
 ghost use Rattle.am_cli.specs.Bytes.{moved, is_end};

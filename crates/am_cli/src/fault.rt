@@ -1,4 +1,4 @@
-//! Why an input is refused.
+//! Why an input is rejected: the error kind and the pointer. All readers return these.
 use std::alloc::{AllocError, AllocFailed};
 use std::fmt;
 use thiserror::Error;

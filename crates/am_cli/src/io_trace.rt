@@ -1,4 +1,4 @@
-//! What a device did, in proofs alone.
+//! `IoTrace`: what a device did, in proofs alone. Devices keep one.
 ghost use Rattle.std.specs.Prelude.{◌≡◌, ◌+◌, ◌++◌, []};
 
 use am_ghost::GhostList;

@@ -1,4 +1,4 @@
-//! Label sets.
+//! Label sets in JSON. Readers of alerts and expectations call it.
 ghost use Rattle.std.specs.Prelude.{IfOk};
 ghost use Rattle.am_alerts.specs.Labels.{labels_in};
 ghost use Rattle.serde_json.specs.View.{view};

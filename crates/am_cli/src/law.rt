@@ -1,4 +1,4 @@
-//! The limit of an input, as it is meant.
+//! The limit of an input, as a law that verifiers read.
 ghost use Rattle.std.specs.Prelude.{◌≡◌};
 ghost use Rattle.am_cli.specs.declared.transfer.TheConstants.{MAX_INPUT};
 

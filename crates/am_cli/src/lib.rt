@@ -1,5 +1,5 @@
-//! What the programs share: devices whose bytes contracts see, JSON that is read with its places,
-//! and the form of a configuration.
+//! What the programs share: devices whose bytes contracts see, a JSON reader with pointers, and the
+//! form of a configuration. `am_scenario`, `am_config`, `am_play` and `am_rehearse` call it.
 #![tactic(auto)]
 
 pub mod config;

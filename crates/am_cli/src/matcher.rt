@@ -1,4 +1,4 @@
-//! Matchers, and the inhibition rules that are made of them.
+//! Matchers and inhibition rules in JSON. `config`, and readers of silences, call it.
 ghost use Rattle.std.specs.Prelude.{◌≡◌, IfOk, IfSome};
 ghost use Rattle.serde_json.specs.View.{view};
 ghost use Rattle.am_cli.specs.Configured.{IsMatcher, operator_text};

@@ -1,4 +1,9 @@
 //! Matchers as amtool and `alertmanager.yml` write them: `severity="critical"`, `dc=~"a|b"`.
+//! `matcher` and `am_config` read them.
+//!
+//! They are read as Alertmanager's classic parser does: escapes count with quotes and without, and
+//! a backslash that escapes nothing is itself. A comma outside of quotes, a backslash at the end
+//! and a lone quote are rejected. What the name can be is the matcher's own rule.
 use am_alerts::matcher::{MatcherParts, Operator};
 use am_alerts::text::Text;
 use std::alloc::{AllocError, Global};

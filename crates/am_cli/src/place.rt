@@ -1,4 +1,6 @@
-//! Where something stands in an input.
+//! `JsonPointer`: where a value is in an input. Faults carry its text.
+//!
+//! In the name of a field `~` and `/` are written `~0` and `~1`.
 ghost use Rattle.am_cli.specs.Read.{IsRefusedBy};
 
 use crate::fault::{FaultKind, InputFault};

@@ -1,4 +1,14 @@
-//! Going down a JSON value, with the place at each step.
+//! Going down a JSON value with its pointer. The modules that read one part each call it.
+//!
+//! A reader carries the value, its pointer and the dialect. The strict dialect rejects what the
+//! lenient one ignores, and rejects at the value at fault. Of two faults the same one is reported
+//! in both, except unknown fields, which come first. Contracts see the value and the dialect.
+//!
+//! A type that is read (`FromJson`) has a relation `decodes_to` between a JSON value and itself,
+//! with a line for each field and its default. The reader of a list hands the relation of its items
+//! on. It is a relation and not a function: a reference to a text and a built pattern have no value
+//! to compute. In the strict dialect it says nothing of a matcher that is one text and of labels
+//! that are an object.
 ghost use Rattle.std.specs.Prelude.{◌≡◌, ◌<◌, ◌≤◌, [], Some, IfErr, IfOk, IfSome, MatchOption};
 ghost use Rattle.std.specs.Prelude.{find, is_ok, is_some, not, option_map, string_bytes, vec_len};
 ghost use Rattle.std.specs.BTreeMap.{keys};

@@ -1,4 +1,4 @@
-//! Where the fault stands for which a configuration is refused as a whole.
+//! The pointer of the fault for which a configuration is rejected as a whole. `config` calls it.
 use crate::fault::{FaultKind, InputFault};
 use crate::reader::{Dialect, FromJson, Reader};
 use crate::route::ALL_LABELS;

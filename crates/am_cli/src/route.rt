@@ -1,4 +1,8 @@
-//! The routing tree of a configuration.
+//! The routing tree of a configuration. `config` calls it.
+//!
+//! In `group_by` a `...` must be alone: a second one is rejected too. Names that are listed twice
+//! count twice for the limit of 64. In the lenient dialect `name`, `matchers` and `continue` of the
+//! root are ignored.
 ghost use Rattle.std.specs.Prelude.{◌≡◌, [], IfOk, List, ℕ, codes};
 ghost use Rattle.std.specs.List.{list_any};
 ghost use Rattle.std.specs.Str.{bytes_eq};

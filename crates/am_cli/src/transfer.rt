@@ -1,4 +1,4 @@
-//! Reading a whole input and writing all of a text.
+//! Reading a whole input and writing a whole text. The programs' runs call it.
 ghost use Rattle.std.specs.Prelude.{◌≡◌, ◌≤◌, ◌<◌, ◌+◌, ◌++◌, ◌⊎◌, ◌↔◌, length, IfOk, IsErr, OnOk};
 
 use crate::device::{Sink, Source};

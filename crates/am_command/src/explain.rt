@@ -1,6 +1,6 @@
 //! What is wrong with a value, in words.
 use crate::durations::rewritten;
-use crate::fields::{FIELDS, Wanted, in_words};
+use crate::fields::{FIELDS, Wanted, in_words, wanted_in};
 use crate::spelling::Nearest;
 use crate::spot::Spot;
 use serde_json::Value;
@@ -40,8 +40,12 @@ impl Wrong {
 /// The limits that are named where one is passed.
 #[derive(Clone, Copy, Debug, PartialEq, Eq)]
 pub struct Bounds {
-    /// Routes below the root.
+    /// Routes below the root of a configuration's own list.
+    pub children: usize,
+    /// Routes below the root of a tree.
     pub routes: usize,
+    /// Levels at which they stand.
+    pub levels: usize,
     pub receivers: usize,
     /// Integrations of a receiver.
     pub integrations: usize,
@@ -99,15 +103,21 @@ fn missing_config(alloc: Global, top: &Value) -> Result<String, AllocError> {
 
 fn wrong_type(alloc: Global, spot: &Spot<'_>) -> Result<String, AllocError> {
     let found = kind_in_words(spot.value);
-    let Some(wanted) = spot.wanted else {
-        return format!(in alloc; "another kind of value is wanted here, not {found}");
+    let wanted = match spot.wanted {
+        Some(wanted) => wanted,
+        None if spot.name.is_empty() => Wanted::Object,
+        None => return format!(in alloc; "another kind of value is wanted here, not {found}"),
     };
     let words = in_words(wanted, spot.item.is_some());
+    let verb = match words {
+        "fields" | "labels and their values" => "are",
+        _ => "is",
+    };
     let hint = match spot.value {
         Some(Value::Number(_) | Value::Bool(_)) if is_text(wanted) => " (write it in quotes)",
         _ => "",
     };
-    format!(in alloc; "{words} is wanted here, not {found}{hint}")
+    format!(in alloc; "{words} {verb} wanted here, not {found}{hint}")
 }
 
 fn is_text(wanted: Wanted) -> bool {
@@ -129,6 +139,9 @@ fn kind_in_words(value: Option<&Value>) -> &'static str {
 
 fn unknown(alloc: Global, spot: &Spot<'_>) -> Result<String, AllocError> {
     let name = spot.name.as_str();
+    if wanted_in(name).is_some() {
+        return format!(in alloc; "`{name}` doesn't belong here");
+    }
     let mut nearest = Nearest::to(name);
     for (known, _) in &FIELDS {
         nearest.consider(alloc, known)?;
@@ -148,9 +161,7 @@ fn unsupported(alloc: Global, spot: &Spot<'_>) -> Result<String, AllocError> {
             "`{name}` isn't supported: the program doesn't follow time intervals"
         );
     }
-    format!(in alloc;
-        "a route with `continue`, or beside or below one, isn't supported here: it needs exactly one matcher"
-    )
+    format!(in alloc; "`{name}` isn't supported")
 }
 
 /// Says that a limit is reached. Where routes group by all labels, each alert takes a group of its own.
@@ -238,7 +249,9 @@ fn bad_duration(
         }
         Some(_) => match name {
             "until" => format!(in alloc; "`{text}` is too long: a story has at most {days} days"),
-            "to" => format!(in alloc; "`{text}` comes before the beginning, or is too long"),
+            "to" => format!(in alloc;
+                "`{text}` comes before the beginning, is too long, or stands beside `at`"
+            ),
             _ => format!(in alloc; "`{text}` is out of range for `{name}`"),
         },
     }
@@ -308,45 +321,58 @@ fn receivers_for<'v>(top: &'v Value, pointer: &str) -> Option<&'v Vec<Value>> {
 
 /// Says which limit a list or a number passes, if it can be told.
 fn too_many(alloc: Global, spot: &Spot<'_>, bounds: &Bounds) -> Result<String, AllocError> {
-    let Bounds {
-        routes,
-        receivers,
-        integrations,
-        rules,
-        matchers,
-        names,
-        label_bytes,
-        days: _,
-    } = *bounds;
     match spot.name.as_str() {
-        "routes" | "children" => format!(in alloc;
-            "there are too many routes: at most {routes} stand below the root, with at most {matchers} matchers each"
+        "children" => format!(in alloc; "there are too many routes: at most {}", bounds.children),
+        "routes" => format!(in alloc;
+            "there are too many routes: at most {} stand below the root, at {} levels",
+            bounds.routes, bounds.levels
         ),
         "receivers" if spot.item.is_some() => format!(in alloc;
-            "the receiver has too many integrations: at most {integrations}"
+            "the receiver has too many integrations: at most {}",
+            bounds.integrations
         ),
-        "receivers" => format!(in alloc; "there are too many receivers: at most {receivers}"),
+        "receivers" => format!(in alloc;
+            "there are too many receivers: at most {}",
+            bounds.receivers
+        ),
         "integrations" => format!(in alloc;
-            "there are too many integrations: at most {integrations}"
+            "there are too many integrations: at most {}",
+            bounds.integrations
         ),
         "inhibit" | "inhibit_rules" => format!(in alloc;
-            "there are too many inhibition rules: at most {rules}"
+            "there are too many inhibition rules: at most {}",
+            bounds.rules
         ),
         "group_by" | "equal" => format!(in alloc;
-            "too many names, or `...` beside another: at most {names}, and `...` alone"
+            "too many names, or `...` beside another: at most {}, and `...` alone",
+            bounds.names
         ),
         "labels" | "firing" | "resolved" => format!(in alloc;
-            "this is no label set: at most {names} labels, each with a name and a value of at most {label_bytes} bytes"
+            "this is no label set: at most {} labels, each with a name and a value of at most {} bytes",
+            bounds.names, bounds.label_bytes
         ),
         "matchers" | "match" | "match_re" | "source" | "target" => format!(in alloc;
-            "these matchers aren't allowed here: at most {matchers}, and none at the root"
+            "these matchers aren't allowed here: at most {}, and none at the root",
+            bounds.matchers
         ),
+        _ => not_allowed(alloc, spot.name.as_str()),
+    }
+}
+
+fn not_allowed(alloc: Global, name: &str) -> Result<String, AllocError> {
+    match name {
         "spans" => format!(in alloc;
             "the spans don't follow each other, or one before the last has no end"
         ),
         "alertmanager" => format!(in alloc;
             "a story has one configuration: `config` or `alertmanager`"
         ),
-        name => format!(in alloc; "this value isn't allowed for `{name}`"),
+        "integration" => format!(in alloc;
+            "the receiver has no integration of this number; they are counted from 0"
+        ),
+        "none" => format!(in alloc;
+            "`none` stands alone: it is true, and neither `firing` nor `resolved` stands beside it"
+        ),
+        _ => format!(in alloc; "this value isn't allowed for `{name}`"),
     }
 }

@@ -4,4 +4,4 @@ use Rattle.am_config.specs.declared.dropped.IgnoredSettings.{IgnoredSettings}
 
 -- nothing is dropped
 abbrev pub nothing : IgnoredSettings
-nothing = record { global = false; templates = false; time_intervals = false; settings = false }
+nothing = record { global = false; tracing = false; templates = false; time_intervals = false; settings = false }

@@ -1,3 +1,2 @@
 pub mod IgnoredSettings
 pub mod Faults
-pub mod Flattened

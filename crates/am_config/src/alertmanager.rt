@@ -1,25 +1,24 @@
-//! Alertmanager's configuration.
+//! Reads a whole `alertmanager.yml`, as JSON. `am_rehearse` calls `read_alertmanager`.
 ghost use Rattle.std.specs.Prelude.{◌≡◌, IfErr, IfOk, None};
 ghost use Rattle.am_config.specs.Faults.{Tells};
-ghost use Rattle.am_config.specs.Flattened.{MatchesSameRoutes, HasSameOptions};
 ghost use Rattle.am_model.specs.Config.{config_fault};
 
 use crate::dropped::IgnoredSettings;
 use crate::faults::{Faults, Refusal};
-use crate::flattened::Flattened;
 use crate::inhibit::read_rules;
 use crate::optional::{has_items, non_null};
 use crate::receiver::read_receivers;
-use crate::route::{Routing, flatten, read_tree};
+use crate::route::{Routing, Tree, read_tree};
+use am_alerts::route::Routes;
 use am_alerts::sequence::Sequence;
+use am_alerts::tree::TreeFault;
 use am_cli::fault::{FaultKind, InputFault};
 use am_cli::reader::{Object, Reader};
 use am_model::config::{Config, Limits, Receiver};
 use am_mute::inhibit::InhibitRule;
-use am_tree::tree::Node;
 
-/// The members of release 0.25.
-const MEMBERS: [&str; 7] = [
+/// The members of release 0.25, and `tracing` of later ones, which only concerns how things are sent.
+const MEMBERS: [&str; 8] = [
     "global",
     "templates",
     "route",
@@ -27,10 +26,11 @@ const MEMBERS: [&str; 7] = [
     "inhibit_rules",
     "mute_time_intervals",
     "time_intervals",
+    "tracing",
 ];
 
-/// The members of `global`.
-const GLOBAL: [&str; 25] = [
+/// The members of `global`, also of later releases.
+const GLOBAL: [&str; 41] = [
     "resolve_timeout",
     "http_config",
     "smtp_from",
@@ -56,6 +56,22 @@ const GLOBAL: [&str; 25] = [
     "victorops_api_key_file",
     "telegram_api_url",
     "webex_api_url",
+    "jira_api_url",
+    "smtp_tls_config",
+    "smtp_force_implicit_tls",
+    "slack_app_token",
+    "slack_app_token_file",
+    "slack_app_url",
+    "wechat_api_secret_file",
+    "telegram_bot_token",
+    "telegram_bot_token_file",
+    "rocketchat_api_url",
+    "rocketchat_token",
+    "rocketchat_token_file",
+    "rocketchat_token_id",
+    "rocketchat_token_id_file",
+    "mattermost_webhook_url",
+    "mattermost_webhook_url_file",
 ];
 
 /// How long the notification log keeps an entry: 120 hours, in milliseconds.
@@ -65,8 +81,6 @@ const RETENTION: u64 = 432_000_000;
 #[derive(Drop)]
 pub struct Alertmanager {
     pub config: Config,
-    /// The tree of routes below the root, of which `config` has the flat list.
-    pub below: Vec<Node>,
     /// What it says beside.
     pub dropped: IgnoredSettings,
 }
@@ -74,18 +88,16 @@ pub struct Alertmanager {
 /// The parts of a configuration. They are whole where nothing was refused.
 #[derive(Drop)]
 struct Parts {
-    routes: Option<Flattened>,
+    tree: Option<Tree>,
     receivers: Vec<Receiver>,
     rules: Vec<InhibitRule>,
 }
 
 /// Reads Alertmanager's configuration. Where it can't be read exactly all faults are answered, in the
-/// order of reading: unknown members, `global`, `templates`, the times, the routes from the root down,
-/// those that can't be laid flat, receivers and inhibition rules.
+/// order of reading: unknown members, `global`, `tracing`, `templates`, the times, the routes from the root
+/// down, receivers and inhibition rules.
 pub fn read_alertmanager(reader: &Reader<'_, '_>) -> Result<Alertmanager, Refusal>
     ensures sound { IfOk result (λ read. config_fault read.config ≡ None) }
-    ensures finds { IfOk result (λ read. MatchesSameRoutes read.config.routes read.below.items) }
-    ensures says { IfOk result (λ read. HasSameOptions read.config.routes read.below.items) }
     ensures told { IfErr result Tells }
 {
     let mut faults = Faults::none(reader.alloc());
@@ -107,11 +119,12 @@ fn read_parts(
     };
     faults.only(&top, &MEMBERS)?;
     drop_parts(faults, dropped, &top)?;
-    let routes = read_routes(faults, &top)?;
+    let mut routing = Routing::new(&top)?;
+    let tree = read_tree(faults, &mut routing, &top)?;
     let receivers = read_receivers(faults, dropped, &top)?;
     let rules = read_rules(faults, &top)?;
     Ok(Some(Parts {
-        routes,
+        tree,
         receivers,
         rules,
     }))
@@ -129,20 +142,14 @@ fn drop_parts(
             dropped.global = !global.members().is_empty();
         }
     }
+    if let Some(member) = non_null(top, "tracing") {
+        dropped.tracing = faults.kept(member.object())?.is_some();
+    }
     dropped.templates = has_items(faults, top, "templates")?;
     let muted = has_items(faults, top, "mute_time_intervals")?;
     let named = has_items(faults, top, "time_intervals")?;
     dropped.time_intervals = muted || named;
     Ok(())
-}
-
-/// Reads the routes, and lays them flat.
-fn read_routes(faults: &mut Faults, top: &Object<'_, '_>) -> Result<Option<Flattened>, InputFault> {
-    let mut routing = Routing::new(top)?;
-    match read_tree(faults, &mut routing, top)? {
-        None => Ok(None),
-        Some(tree) => flatten(top.alloc(), faults, &routing, tree),
-    }
 }
 
 /// The configuration of parts that are whole.
@@ -153,17 +160,20 @@ fn finish(
     parts: Parts,
 ) -> Result<Alertmanager, Refusal>
     ensures sound { IfOk result (λ read. config_fault read.config ≡ None) }
-    ensures finds { IfOk result (λ read. MatchesSameRoutes read.config.routes read.below.items) }
-    ensures says { IfOk result (λ read. HasSameOptions read.config.routes read.below.items) }
     ensures told { IfErr result Tells }
 {
     let Parts {
-        routes,
+        tree,
         receivers,
         rules,
     } = parts;
-    let Some(Flattened { routes, below }) = routes else {
+    let Some(Tree { root, routes }) = tree else {
         return Err(refused(reader, faults));
+    };
+    let routes = match Routes::nested(reader.alloc(), root, routes) {
+        Ok(routes) => routes,
+        Err(TreeFault::NoMemory) => return Err(Refusal::One(InputFault::NoMemory)),
+        Err(TreeFault::Unfit(_)) => return Err(refused(reader, faults)),
     };
     let config = Config {
         routes,
@@ -173,11 +183,7 @@ fn finish(
         limits: Limits::default(),
     };
     match config.check() {
-        Ok(()) => Ok(Alertmanager {
-            config,
-            below,
-            dropped,
-        }),
+        Ok(()) => Ok(Alertmanager { config, dropped }),
         Err(_) => Err(refused(reader, faults)),
     }
 }

@@ -1,4 +1,5 @@
-//! What of a configuration is dropped.
+//! The settings of an `alertmanager.yml` that are ignored. `alertmanager` collects them,
+//! `am_rehearse` prints them.
 use std::fmt;
 
 /// What Alertmanager's configuration says beside what is read of it. Nothing of it changes which notice
@@ -7,6 +8,8 @@ use std::fmt;
 pub struct IgnoredSettings {
     /// What holds for all integrations.
     pub global: bool,
+    /// Where traces of requests are sent.
+    pub tracing: bool,
     /// Files of templates.
     pub templates: bool,
     /// Times that no route names.
@@ -25,6 +28,7 @@ impl IgnoredSettings {
     {
         IgnoredSettings {
             global: false,
+            tracing: false,
             templates: false,
             time_intervals: false,
             settings: false,
@@ -35,7 +39,7 @@ impl IgnoredSettings {
     pub fn is_something(&self) -> bool
         ensures { IsFalse result ↔ (self.now ≡ nothing) }
     {
-        self.global || self.templates || self.time_intervals || self.settings
+        self.global || self.tracing || self.templates || self.time_intervals || self.settings
     }
 }
 
@@ -44,6 +48,7 @@ impl fmt::Display for IgnoredSettings {
         let mut separator = "";
         for (is_dropped, name) in [
             (self.global, "global"),
+            (self.tracing, "tracing"),
             (self.templates, "templates"),
             (self.time_intervals, "time intervals"),
             (self.settings, "settings of integrations"),

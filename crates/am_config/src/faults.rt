@@ -1,4 +1,5 @@
-//! The faults of a configuration.
+//! The faults of an `alertmanager.yml`, in the order of reading. Every module of this crate adds to
+//! them.
 use am_cli::fault::{FaultKind, InputFault};
 use am_cli::reader::{Object, is_one_of};
 use std::alloc::Global;

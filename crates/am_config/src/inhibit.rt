@@ -1,4 +1,4 @@
-//! Inhibition rules.
+//! Inhibition rules of an `alertmanager.yml`. `alertmanager` calls it.
 use crate::faults::Faults;
 use crate::matchers::{MatcherMembers, read_matchers};
 use crate::optional::non_null;
@@ -10,8 +10,9 @@ use am_cli::reader::{Object, Reader};
 use am_model::config::MAX_RULES;
 use am_mute::inhibit::InhibitRule;
 
-/// The members of a rule.
-const MEMBERS: [&str; 7] = [
+/// The members of a rule. Its name, of later releases, is for people.
+const MEMBERS: [&str; 8] = [
+    "name",
     "source_match",
     "source_match_re",
     "source_matchers",

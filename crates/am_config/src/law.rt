@@ -1,4 +1,4 @@
-//! How much is told, as it is meant.
+//! The limit of reported faults, as a law that verifiers read.
 ghost use Rattle.std.specs.Prelude.{◌≡◌};
 ghost use Rattle.am_config.specs.declared.faults.TheConstants.{MAX_FAULTS};
 

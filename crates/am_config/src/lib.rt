@@ -1,11 +1,13 @@
-//! Alertmanager's own configuration: what `alertmanager.yml` says, as JSON, is read as a dispatcher's
-//! configuration, or all of it that can't be is told with its places.
+//! Alertmanager's own configuration, as JSON: read as a dispatcher's configuration, or all its
+//! faults with their pointers. `am_rehearse` calls it.
+//!
+//! It follows release 0.25, with the receivers of later ones. The order of reading is fixed, since
+//! the fields of an object come by name and not as the text has them.
 #![tactic(auto)]
 
 pub mod alertmanager;
 pub mod dropped;
 pub mod faults;
-mod flattened;
 mod inhibit;
 pub mod law;
 mod matchers;

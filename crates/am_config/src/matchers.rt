@@ -1,4 +1,4 @@
-//! Matchers as Alertmanager's configuration has them.
+//! Matchers of an `alertmanager.yml`. `route` and `inhibit` call it.
 use crate::faults::Faults;
 use crate::optional::non_null;
 use am_alerts::limits::MAX_MATCHERS;

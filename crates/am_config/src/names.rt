@@ -1,4 +1,5 @@
-//! The names of routes, which Alertmanager doesn't name.
+//! The names of routes, which Alertmanager doesn't name. `route` gives each one its receiver's
+//! name.
 use am_alerts::text::Text;
 use std::alloc::{AllocError, Global};
 
@@ -6,6 +7,8 @@ use std::alloc::{AllocError, Global};
 #[derive(Drop)]
 pub(crate) struct RouteNames {
     given: Vec<Text>,
+    /// The receivers' names that were asked for, as label names, each with the number to try next.
+    bases: Vec<(Text, usize)>,
 }
 
 impl RouteNames {
@@ -13,7 +16,10 @@ impl RouteNames {
     pub(crate) fn of_root(alloc: Global) -> Result<RouteNames, AllocError> {
         let mut given = Vec::new(alloc);
         given.push(Text::new(alloc, "root")?)?;
-        Ok(RouteNames { given })
+        Ok(RouteNames {
+            given,
+            bases: Vec::new(alloc),
+        })
     }
 
     /// Gives the name of a route with this receiver: the receiver's as a label name, and where a route
@@ -24,18 +30,47 @@ impl RouteNames {
         Ok(name)
     }
 
-    fn free(&self, alloc: Global, receiver: &str) -> Result<Text, AllocError> {
+    fn free(&mut self, alloc: Global, receiver: &str) -> Result<Text, AllocError> {
         let base = Text::from(label_name_of(alloc, receiver)?);
+        let place = self.place_of(alloc, &base)?;
         if !self.is_given(base.as_str()) {
             return Ok(base);
         }
-        for number in 0..self.given.len() {
+        // (each number is tried once for a base, since none is taken back)
+        let first = self.next_of(place);
+        for number in first..=first.saturating_add(self.given.len()) {
             let name = numbered(alloc, &base, number)?;
             if !self.is_given(name.as_str()) {
+                self.set_next(place, number.saturating_add(1));
                 return Ok(name);
             }
         }
         Ok(base)
+    }
+
+    /// Returns the place of a base among those that were asked for, behind which it is put if it is new.
+    fn place_of(&mut self, alloc: Global, base: &Text) -> Result<usize, AllocError> {
+        for (place, (known, _)) in self.bases.iter().enumerate() {
+            if known == base {
+                return Ok(place);
+            }
+        }
+        let place = self.bases.len();
+        self.bases.push((base.copy(alloc)?, 2))?;
+        Ok(place)
+    }
+
+    fn next_of(&self, place: usize) -> usize {
+        match self.bases.get(place) {
+            None => 2,
+            Some((_, next)) => *next,
+        }
+    }
+
+    fn set_next(&mut self, place: usize, number: usize) {
+        if let Some((_, next)) = self.bases.get_mut(place) {
+            *next = number;
+        }
     }
 
     fn is_given(&self, name: &str) -> bool {
@@ -43,10 +78,9 @@ impl RouteNames {
     }
 }
 
-/// A name with the number behind it that is two more than this one.
+/// A name with a number behind it.
 fn numbered(alloc: Global, base: &Text, number: usize) -> Result<Text, AllocError> {
     let base = base.as_str();
-    let number = number.saturating_add(2);
     Ok(Text::from(format!(in alloc; "{base}_{number}")?))
 }
 

@@ -1,4 +1,4 @@
-//! Members that say something.
+//! Fields that can be absent or null. The other modules read theirs by it.
 use crate::faults::Faults;
 use am_cli::duration::{duration, interval};
 use am_cli::fault::{FaultKind, InputFault};

@@ -1,4 +1,4 @@
-//! What a route says that those below it take from it.
+//! The options of a route that the routes below it inherit. `route` calls it.
 use crate::faults::Faults;
 use crate::inhibit::label_name;
 use crate::optional::{non_null, optional_duration, optional_interval, optional_text};
@@ -7,9 +7,9 @@ use am_alerts::limits::MAX_NAMES;
 use am_alerts::route::GroupBy;
 use am_alerts::sequence::Sequence;
 use am_alerts::text::Text;
+use am_alerts::tree::Options;
 use am_cli::fault::{FaultKind, InputFault};
 use am_cli::reader::{Object, Reader};
-use am_tree::tree::Options;
 use serde_json::Value;
 
 /// Stands in `group_by` for all labels.

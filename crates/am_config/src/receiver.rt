@@ -1,4 +1,4 @@
-//! Receivers and their integrations.
+//! Receivers and their integrations. `alertmanager` calls it.
 use crate::dropped::IgnoredSettings;
 use crate::faults::Faults;
 use crate::optional::{flag_or, non_null, required};

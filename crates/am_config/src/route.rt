@@ -1,21 +1,23 @@
-//! The tree of routes.
+//! The tree of routes. `alertmanager` calls it.
+//!
+//! The first route that the tree has no capacity for is rejected: there are 1,023 already, or it
+//! stands more than 64 levels below the root. Routes that it has no capacity for aren't read. An
+//! empty `group_by` below the root is none, as in Alertmanager.
 ghost use Rattle.std.specs.Prelude.{◌<◌, IfOk, IsTrue};
 
 use crate::faults::Faults;
-use crate::flattened::Flattened;
 use crate::matchers::{MatcherMembers, read_matchers};
 use crate::names::RouteNames;
 use crate::optional::{flag_or, has_items, has_members, non_null, required};
 use crate::options::read_options;
 use crate::receiver::receiver_names;
-use am_alerts::limits::MAX_CHILDREN;
-use am_alerts::matcher::Matcher;
-use am_alerts::route::{GroupBy, Route, Routes};
+use am_alerts::limits::{MAX_DEPTH, MAX_ROUTES};
+use am_alerts::route::{GroupBy, Route};
 use am_alerts::sequence::Sequence;
 use am_alerts::text::Text;
+use am_alerts::tree::{Node, Options, RouteSpec};
 use am_cli::fault::{FaultKind, InputFault};
 use am_cli::reader::{Object, Reader};
-use am_tree::tree::{Cause, FlatFault, Node, Options, Refusal, RouteSpec, Tree};
 use std::alloc::Global;
 
 /// The members of a route, the root among them.
@@ -50,20 +52,23 @@ const GROUP_INTERVAL: u64 = 300_000;
 /// When a notice without news is repeated: after 4 hours, in milliseconds.
 const REPEAT_INTERVAL: u64 = 14_400_000;
 
+/// A root, and the routes right below it.
+#[derive(Drop)]
+pub(crate) struct Tree {
+    pub(crate) root: Route,
+    pub(crate) routes: Vec<Node>,
+}
+
 /// What is known of the routes that were read.
 #[derive(Drop)]
 pub(crate) struct Routing<'v> {
     /// The names of the receivers, if they can be told.
     pub(crate) receivers: Option<Vec<&'v str>>,
     names: RouteNames,
-    /// The places of the routes below the root, each behind those below it.
-    places: Vec<String>,
     /// How many routes below the root were begun.
     begun: usize,
-    /// Whether there were more.
+    /// Whether one wasn't, for want of capacity.
     is_full: bool,
-    /// Whether nothing was refused that decides which routes a label set has.
-    is_whole: bool,
 }
 
 impl<'v> Routing<'v> {
@@ -71,10 +76,8 @@ impl<'v> Routing<'v> {
         Ok(Routing {
             receivers: receiver_names(top)?,
             names: RouteNames::of_root(top.alloc())?,
-            places: Vec::new(top.alloc()),
             begun: 0,
             is_full: false,
-            is_whole: true,
         })
     }
 
@@ -86,8 +89,8 @@ impl<'v> Routing<'v> {
         }
     }
 
-    /// Counts another route, under which so many levels may be, itself the first. One that is behind the
-    /// sixty-third isn't read, and the first such is refused.
+    /// Counts another route, under which so many levels may be, itself the first. One that there is no
+    /// capacity for isn't read, and the first such is refused.
     fn begins(
         &mut self,
         faults: &mut Faults,
@@ -96,13 +99,12 @@ impl<'v> Routing<'v> {
     ) -> Result<bool, InputFault>
         ensures { IfOk result (λ begins. IsTrue begins → 0 < levels) }
     {
-        if self.begun < MAX_CHILDREN && levels > 0 {
+        if self.begun < MAX_ROUTES && levels > 0 {
             self.begun += 1;
             return Ok(true);
         }
         if !self.is_full {
             self.is_full = true;
-            self.is_whole = false;
             faults.push(reader.refuse(FaultKind::BadValue))?;
         }
         Ok(false)
@@ -126,13 +128,7 @@ pub(crate) fn read_tree(
     refuse_root(faults, &route, &options)?;
     refuse_times(faults, &route)?;
     let root = root_of(top.alloc(), options)?;
-    let routes = read_routes(
-        faults,
-        routing,
-        &route,
-        root.receiver.as_str(),
-        MAX_CHILDREN,
-    )?;
+    let routes = read_routes(faults, routing, &route, root.receiver.as_str(), MAX_DEPTH)?;
     Ok(Some(Tree { root, routes }))
 }
 
@@ -228,7 +224,6 @@ fn read_routes(
         return Ok(routes);
     };
     let Some(items) = faults.kept(member.array())? else {
-        routing.is_whole = false;
         return Ok(routes);
     };
     for (index, value) in items.iter().enumerate() {
@@ -252,12 +247,12 @@ fn read_node(
     levels: usize,
 ) -> Result<Option<Node>, InputFault> {
     let Some(route) = faults.kept(reader.object())? else {
-        routing.is_whole = false;
         return Ok(None);
     };
     faults.only(&route, &MEMBERS)?;
     let options = read_options(faults, routing, &route)?;
-    let (matchers, goes_on) = read_search(faults, routing, &route)?;
+    let matchers = read_matchers(faults, &route, &MATCHERS)?;
+    let goes_on = flag_or(faults, &route, "continue", false)?;
     refuse_times(faults, &route)?;
     let receiver = match &options.receiver {
         None => Text::new(route.alloc(), above)?,
@@ -265,7 +260,6 @@ fn read_node(
     };
     let name = routing.names.give(route.alloc(), receiver.as_str())?;
     let routes = read_routes(faults, routing, &route, receiver.as_str(), levels)?;
-    routing.places.push(reader.place().text(route.alloc())?)?;
     Ok(Some(Node {
         rule: RouteSpec {
             name,
@@ -275,78 +269,4 @@ fn read_node(
         },
         routes,
     }))
-}
-
-/// Reads what decides whether a route matches, and whether the search goes on behind it.
-fn read_search(
-    faults: &mut Faults,
-    routing: &mut Routing<'_>,
-    route: &Object<'_, '_>,
-) -> Result<(Vec<Matcher>, bool), InputFault> {
-    let before = faults.len();
-    let matchers = read_matchers(faults, route, &MATCHERS)?;
-    let goes_on = flag_or(faults, route, "continue", false)?;
-    if faults.len() > before {
-        routing.is_whole = false;
-    }
-    Ok((matchers, goes_on))
-}
-
-/// Lays a tree flat. Where that can't be done each route at which it can't is refused.
-pub(crate) fn flatten(
-    alloc: Global,
-    faults: &mut Faults,
-    routing: &Routing<'_>,
-    tree: Tree,
-) -> Result<Option<Flattened>, InputFault> {
-    if !routing.is_whole {
-        return Ok(None);
-    }
-    match tree.flatten(alloc) {
-        Ok(children) => {
-            let Tree {
-                root,
-                routes: below,
-            } = tree;
-            match Routes::new(root, children) {
-                Ok(routes) => Ok(Some(Flattened { routes, below })),
-                Err(_) => Ok(None),
-            }
-        }
-        Err(FlatFault::Refused(refusals)) => {
-            refuse_routes(alloc, faults, routing, refusals.as_slice())?;
-            Ok(None)
-        }
-        Err(FlatFault::Unfit(_)) => Ok(None),
-        Err(FlatFault::NoMemory) => Err(InputFault::NoMemory),
-    }
-}
-
-fn refuse_routes(
-    alloc: Global,
-    faults: &mut Faults,
-    routing: &Routing<'_>,
-    refusals: &[Refusal],
-) -> Result<(), InputFault> {
-    for refusal in refusals {
-        refuse_route(alloc, faults, routing, *refusal)?;
-    }
-    Ok(())
-}
-
-fn refuse_route(
-    alloc: Global,
-    faults: &mut Faults,
-    routing: &Routing<'_>,
-    refusal: Refusal,
-) -> Result<(), InputFault> {
-    let fault_kind = match refusal.cause {
-        Cause::Continue => FaultKind::Unsupported,
-        Cause::TooManyRoutes | Cause::TooManyMatchers => FaultKind::BadValue,
-    };
-    let place = match routing.places.get(refusal.route.saturating_sub(1)) {
-        None => String::new(alloc),
-        Some(place) => place.clone()?,
-    };
-    faults.push(InputFault::Refused { place, fault_kind })
 }

@@ -1,4 +1,5 @@
-//! Why a desk isn't made, opened or closed.
+//! Why a desk isn't made, opened or closed. `Blank::new`, `Desk::open` and `Desk::close` return
+//! these.
 ghost use Rattle.std.specs.Prelude.{◌≡◌};
 ghost use Rattle.am_desk.specs.Faults.{open_fault_of, open_fault_number, close_cause_number};
 ghost use Rattle.am_desk.specs.declared.fault.BlankFault.TheVariants as blank_fault;
@@ -8,7 +9,7 @@ use am_board::fault::BoardFault;
 use std::alloc::AllocError;
 use thiserror::Error;
 
-/// Why no blank is made; in the order `BadCount`, `NoMemory`.
+/// Why no blank is made; checked in the order `BadCount`, `NoMemory`.
 #[derive(Clone, Copy, Debug, PartialEq, Eq, Error)]
 pub enum BlankFault {
     #[error("out of memory")]
@@ -25,7 +26,7 @@ impl From<AllocError> for BlankFault {
     }
 }
 
-/// Why no desk is opened; in the order `BadConfig`, `NoMemory`. Either spends the blank.
+/// Why no desk is opened; checked in the order `BadConfig`, `NoMemory`. Either spends the blank.
 #[derive(Clone, Copy, Debug, PartialEq, Eq, Error)]
 pub enum OpenFault {
     #[error("out of memory")]
@@ -46,7 +47,7 @@ impl From<BoardFault> for OpenFault {
 }
 
 impl OpenFault {
-    /// The number of this fault.
+    /// Returns the number of this fault: 1 or 2.
     pub fn number(&self) -> u8
         ensures { result ≡ open_fault_number self.now }
     {
@@ -57,7 +58,7 @@ impl OpenFault {
     }
 }
 
-/// Why a desk isn't closed; in this order.
+/// Why a desk isn't closed; checked in this order.
 #[derive(Clone, Copy, Debug, PartialEq, Eq, Error)]
 pub enum CloseCause {
     #[error("the passes aren't those of the desk, each once")]
@@ -68,7 +69,7 @@ pub enum CloseCause {
 }
 
 impl CloseCause {
-    /// The number of this cause.
+    /// Returns the number of this cause: 1 or 2.
     pub fn number(&self) -> u8
         ensures { result ≡ close_cause_number self.now }
     {

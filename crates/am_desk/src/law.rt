@@ -1,4 +1,4 @@
-//! The faults' numbers and how many passes there may be, each as it is meant.
+//! The numbers of the faults and the limit of passes, as laws that verifiers read.
 ghost use Rattle.std.specs.Prelude.{◌≡◌};
 ghost use Rattle.am_desk.specs.declared.blank.TheConstants.{MAX_PASSES};
 ghost use Rattle.am_desk.specs.Laws.{BlankFaultsAre, OpenFaultsAre, CloseCausesAre};
@@ -10,15 +10,16 @@ const BLANK_FAULTS: [(BlankFault, u8); 2] = [
     (BlankFault::BadCount, BlankFault::BadCount as u8),
 ];
 
-/// Which number each fault has: that of a blank is its discriminant, that of an opening and that of
-/// the cause of a close what `number` answers.
+/// States the number of each fault.
+///
+/// That of a blank is its discriminant. That of an opening and of a close is what `number` returns.
 pub fn fault_numbers_are()
     ensures blanks { BlankFaultsAre }
     ensures openings { OpenFaultsAre }
     ensures closes { CloseCausesAre }
 {}
 
-/// How many passes a desk may have.
+/// States that a desk has at most 16 passes.
 pub fn limits_are()
     ensures { MAX_PASSES ≡ 16 }
 {}

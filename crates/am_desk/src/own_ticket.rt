@@ -1,4 +1,5 @@
-//! Tickets of which it is known that this desk gave them.
+//! `OwnTicket`: a ticket with the desk's name in its type. A caller makes it of the ticket of
+//! `begin`, and hands it to `finish_own`.
 ghost use Rattle.std.specs.Prelude.{◌≡◌, None, Some, IfOk, OnErr, MatchResult};
 ghost use Rattle.am_model.specs.Records.{entry};
 ghost use Rattle.am_model.specs.Ticket.{report_fault, recorded};
@@ -18,15 +19,16 @@ use std::marker::{Model, PhantomData};
 use std::sync::Wait;
 use thiserror::Error;
 
-/// A ticket that names this desk. It can be kept beside others, in a vector or in another thread, and
-/// its desk never answers that it is of another. As a ticket it must be spent: `Desk::finish_own`
-/// alone finishes it. Contracts see the ticket.
+/// A ticket of this desk. Contracts see the ticket.
+///
+/// It can be kept in a vector or sent to another thread. It must be finished, by `Desk::finish_own`
+/// alone, which has no `Foreign`.
 pub struct OwnTicket<N: Name> {
     ticket: Ticket,
     of: PhantomData<N>,
 }
 
-/// No open flush has the ticket's number. The ticket is spent.
+/// The fault that no open flush has the ticket's number. The ticket is spent.
 #[derive(Clone, Copy, Debug, PartialEq, Eq, Error)]
 #[error("no open flush has the ticket's number")]
 pub struct NotOpen;
@@ -43,8 +45,9 @@ impl<N: Name> Model for OwnTicket<N> {
 }
 
 impl<N: Name> OwnTicket<N> {
-    /// The ticket of a flush that this desk's `begin` gave, of which that call tells that it names the
-    /// desk.
+    /// Returns the own ticket of a ticket of this desk.
+    ///
+    /// Clause `fresh` of `Desk::begin` shows that a ticket is the desk's.
     pub fn new(ticket: Ticket) -> OwnTicket<N>
         requires { ticket.desk ≡ N.terms.id }
         ensures { result ≡ ticket }
@@ -55,7 +58,7 @@ impl<N: Name> OwnTicket<N> {
         }
     }
 
-    /// The ticket, to be read or noted.
+    /// Returns the ticket, to be read or noted.
     pub fn ticket(&self) -> &Ticket
         ensures ticket { result.now ≡ self.now }
         ensures ours { result.now.desk ≡ N.terms.id }
@@ -63,7 +66,7 @@ impl<N: Name> OwnTicket<N> {
         &self.ticket
     }
 
-    /// Records a report on one of the notices, as `Ticket::record` does.
+    /// Stores the outcome of a report on one of the notices, as `Ticket::record` does.
     pub fn record(&mut self, report: Report) -> Result<(), ReportFault>
         ensures { MatchResult result
             (λ _. (report_fault self.old report ≡ None) × (self.new ≡ recorded self.old report))
@@ -72,7 +75,7 @@ impl<N: Name> OwnTicket<N> {
         self.ticket.record(report)
     }
 
-    /// The ticket, to be spent otherwise.
+    /// Returns the ticket, for `Desk::finish`.
     pub fn into_ticket(self) -> Ticket
         ensures ticket { result ≡ self }
         ensures ours { result.desk ≡ N.terms.id }
@@ -83,9 +86,12 @@ impl<N: Name> OwnTicket<N> {
 }
 
 impl<N: Name> Desk<N> {
-    /// Finishes the flush of an own ticket, as `finish` does. Takes no memory.
+    /// Finishes the flush of an own ticket, as `finish` does. Never allocates.
     ///
-    /// Refused by `NotOpen` alone: the pass has then seen a history with no open flush of its number.
+    /// # Errors
+    ///
+    /// `NotOpen` alone. The pass has then seen a history without an open flush of the ticket's
+    /// number.
     pub fn finish_own<R: Wait>(
         &self,
         rt: &R,

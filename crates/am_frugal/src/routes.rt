@@ -8,7 +8,9 @@ use std::alloc::{AllocError, Global};
 pub fn make_calls(probe: &Probe, alloc: Global) -> Result<(), AllocError> {
     make_routes(probe, route(alloc, "root")?, children(alloc)?);
     make_routes(probe, route(alloc, "other")?, Vec::new(alloc));
-    check_config(probe, &config(alloc)?);
+    let config = config(alloc)?;
+    count_routes(probe, &config.routes);
+    check_config(probe, &config);
     Ok(())
 }
 
@@ -16,6 +18,17 @@ fn make_routes(probe: &Probe, root: Route, children: Vec<Child>) {
     probe.ask("Routes::new");
     let made = Routes::new(root, children);
     probe.tell(&made.is_ok());
+}
+
+fn count_routes(probe: &Probe, routes: &Routes) {
+    probe.ask("Routes::last");
+    let last = routes.last();
+    probe.tell(&last);
+    if last > 0 {
+        probe.ask("Routes::below");
+        let below = routes.below(last);
+        probe.tell(&below);
+    }
 }
 
 fn check_config(probe: &Probe, config: &Config) {

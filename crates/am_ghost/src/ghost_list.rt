@@ -1,4 +1,7 @@
-//! A list that exists in proofs alone.
+//! A list that exists in proofs alone. `AttemptTrace` and `IoTrace` are made of it.
+//!
+//! It has no data at run time, so no body of its calls can be wrong. That it can go to another
+//! thread is an `unsafe impl` here, with its proof, so whoever keeps one needs no lemma for it.
 ghost use Rattle.std.specs.Prelude.{◌≡◌, List, [], ◌∷◌, ◌++◌};
 ghost use base.Fml.{ftrue};
 

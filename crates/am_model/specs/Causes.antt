@@ -1,4 +1,4 @@
--- Causes: why a call is refused at a state after so many records, where memory is ample; the first that holds.
+-- Causes: the first cause, except memory, for which a call fails at a state after so many records.
 use Rattle.std.specs.Prelude.{ℕ, ◌+◌, Bool, true, false, not, ◌&&◌, ◌==◌, nat_lt, nat_le, List, [], ◌∷◌, length, Option, Some, None}
 use Rattle.std.specs.Prelude.{slice_get, if◌then◌else◌}
 use Rattle.std.specs.List.{list_any}

@@ -1,4 +1,4 @@
--- What a configuration may be.
+-- Config: which configurations are valid, and the first fault of one that isn't.
 use Rattle.std.specs.Prelude.{ℕ, ◌≤◌, Bool, not, ◌&&◌, ◌||◌, ◌==◌, nat_lt, nat_le, List, [], ◌++◌, length, map, codes, decimal, Option}
 use Rattle.std.specs.Prelude.{Some, None, slice_get, unwrap_or, if◌then◌else◌}
 use Rattle.std.specs.List.{list_all, list_any}

@@ -1,4 +1,4 @@
--- What a configuration says of a group.
+-- Configured: a group's route, receiver and integrations in a configuration.
 use Rattle.std.specs.Prelude.{ℕ, ◌+◌, ◌*◌, ◌≤◌, min, All, List, [], ◌∷◌, length, if◌then◌else◌}
 use Rattle.std.specs.List.{enumerate_from}
 use Rattle.std.specs.Str.{bytes_eq}

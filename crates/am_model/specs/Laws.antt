@@ -1,4 +1,4 @@
--- The laws of histories, record by record.
+-- Laws: what is true after every history, and how a history's state goes record by record.
 use Rattle.std.specs.Prelude.{◌≡◌, ℕ, ◌+◌, ◌<◌, ◌≤◌, ◌↔◌, min, max, Bool, true, false, IsTrue, All, List, [], ◌∷◌, ◌++◌, fold, not}
 use Rattle.std.specs.Prelude.{Option, Some, None, ◌==◌, find, if◌then◌else◌}
 use Rattle.std.specs.List.{list_any, IsDistinct}

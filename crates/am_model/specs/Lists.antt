@@ -1,4 +1,4 @@
--- Words on the lists of a state.
+-- Lists: operations on the lists of a state, which put, remove, change and order elements.
 use Rattle.std.specs.Prelude.{Bool, not, List, [], ◌∷◌, map, filter, Option, Some, None, if◌then◌else◌}
 use Rattle.std.specs.Ordering.{is_gt}
 use Rattle.std.specs.declared.cmp.Ordering.{Ordering}

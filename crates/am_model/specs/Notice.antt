@@ -1,4 +1,4 @@
--- A notice as contracts see it.
+-- Notice: a notice as contracts see it.
 use Rattle.std.specs.Prelude.{ℕ, ◌==◌, ◌&&◌, Bool, not, List, length}
 use Rattle.std.specs.List.{list_any}
 use Rattle.am_alerts.specs.AlertData.{AlertData}

@@ -1,4 +1,4 @@
--- What the notices of a flush came to, as its finish tells.
+-- Outcomes: the outcomes of a flush's notices, by its finish in the later records.
 use Rattle.std.specs.Prelude.{ℕ, ◌==◌, List, [], ◌∷◌, Option, Some, None, unwrap_or, if◌then◌else◌}
 use Rattle.am_retry.specs.declared.outcome.Outcome.{Outcome}
 use Rattle.am_model.specs.declared.record.Call.{Call}

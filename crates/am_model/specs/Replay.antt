@@ -1,4 +1,4 @@
--- A history as the sequential dispatcher reads it: the reply to each call, the state after each record, and which histories are legal.
+-- Replay: the reply that is due to a call, the state after each record, and which histories are legal.
 use Rattle.std.specs.Prelude.{◌≡◌, ℕ, List, [], ◌∷◌, fold, Option, Some}
 use Rattle.std.specs.Option.{option_map}
 use Rattle.am_mute.specs.Silence.{silence_of}

@@ -1,4 +1,4 @@
--- State: what a dispatcher of one thread holds, as plain lists in the order in which things first came.
+-- State: what a dispatcher of one thread has, as plain lists in the order of arrival. It has no board's id.
 use Rattle.std.specs.Prelude.{ℕ, Bool, ◌&&◌, ◌==◌, min, max, List, [], find, Option, unwrap_or}
 use Rattle.std.specs.List.{list_any}
 use Rattle.std.specs.Option.{option_map}

@@ -1,4 +1,4 @@
--- A ticket as contracts see it, and what it records.
+-- Ticket: a ticket as contracts see it, and the outcomes that it records.
 use Rattle.std.specs.Prelude.{ℕ, ◌==◌, ◌+◌, ◌&&◌, Bool, Option, Some, None, is_some, List, [], ◌∷◌, ◌++◌, if◌then◌else◌}
 use Rattle.am_retry.specs.declared.outcome.Outcome.{Outcome}
 use Rattle.am_model.specs.declared.notice.Report.{Report}

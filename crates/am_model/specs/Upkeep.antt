@@ -1,4 +1,4 @@
--- Silence and maintain: what changes by hand, and what goes by time.
+-- Upkeep: the calls silence and maintain.
 use Rattle.std.specs.Prelude.{ℕ, Bool, ◌==◌, nat_le, count_by}
 use Rattle.std.specs.List.{list_any}
 use Rattle.am_mute.specs.Silence.{SilenceData}

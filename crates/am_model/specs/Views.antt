@@ -1,4 +1,4 @@
--- Views: what a board shows of its state.
+-- Views: the rows, groups and counts that a board returns of its state.
 use Rattle.std.specs.Prelude.{ℕ, List, length, map, sum_by}
 use Rattle.std.specs.Ordering.{ordering_then, nat_cmp}
 use Rattle.std.specs.declared.cmp.Ordering.{Ordering}

@@ -1,9 +1,11 @@
-//! What a dispatcher is configured with.
+//! The configuration of a dispatcher: receivers, rules, limits. Embedders and readers of JSON make
+//! one, and `Board::new` checks it.
 ghost use Rattle.std.specs.Prelude.{◌≡◌, ◌≤◌, ◌↔◌, length, IfOk, IsTrue, OnOk, find, string_bytes};
 ghost use Rattle.std.specs.List.{list_all, list_any};
 ghost use Rattle.std.specs.Option.{option_copied};
 ghost use Rattle.std.specs.Str.{bytes_eq};
 ghost use Rattle.am_alerts.specs.Fault.{ok_unless};
+ghost use Rattle.am_alerts.specs.RoutingTree.{last_of};
 ghost use Rattle.am_model.specs.Config.{AreAllowed, IsWithin, is_within, are_allowed, has_receiver, has_receivers, has_receiver_twice};
 ghost use Rattle.am_model.specs.Config.{has_many_integrations, has_good_kinds, greatest_limits, receivers_fault, bounds_fault};
 ghost use Rattle.am_model.specs.Config.{config_fault, kind_at, integration_text};
@@ -11,7 +13,7 @@ ghost use Rattle.am_model.specs.Configured.{route_of, integrations_named};
 
 use crate::group::GroupName;
 use am_alerts::labels::is_label_name;
-use am_alerts::limits::{MAX_CHILDREN, MAX_DURATION};
+use am_alerts::limits::{MAX_DURATION, MAX_ROUTES};
 use am_alerts::route::{Child, Route, Routes};
 use am_alerts::sequence::Sequence;
 use am_alerts::text::Text;
@@ -19,47 +21,47 @@ use am_mute::inhibit::InhibitRule;
 use std::alloc::{AllocError, Global};
 use thiserror::Error;
 
-/// How many receivers a configuration may have.
+/// The greatest number of receivers of a configuration.
 pub const MAX_RECEIVERS: usize = 64;
 
-/// How many integrations a receiver may have.
+/// The greatest number of integrations of a receiver.
 pub const MAX_INTEGRATIONS: usize = 8;
 
-/// How many inhibition rules a configuration may have.
+/// The greatest number of inhibition rules of a configuration.
 pub const MAX_RULES: usize = 256;
 
-/// How many alerts may be known.
+/// The greatest number of known alerts.
 pub const MAX_NAMES: usize = 65_536;
 
-/// How many groups there may be.
+/// The greatest number of groups.
 pub const MAX_GROUPS: usize = 4_096;
 
-/// How many silences there may be.
+/// The greatest number of silences.
 pub const MAX_SILENCES: usize = 1_024;
 
-/// How many flushes may be open.
+/// The greatest number of open flushes.
 pub const MAX_FLUSHES: usize = 64;
 
-/// How many records a history may have.
+/// The greatest number of records of a history.
 pub const MAX_HISTORY: usize = 1_048_576;
 
 /// One way by which a receiver is notified.
 #[derive(Debug, Drop)]
 pub struct Integration {
-    /// What it is, as `hook`; it has the form of a label name.
+    /// Its kind, as `hook`. It has the form of a label name.
     pub kind: Text,
-    /// Whether resolved alerts are notified too.
+    /// Whether it is notified of resolved alerts too.
     pub send_resolved: bool,
 }
 
-/// Who is notified: its integrations are each asked by themselves.
+/// A receiver: a name, and the integrations that are notified, each by itself.
 #[derive(Debug, Drop)]
 pub struct Receiver {
     pub name: Text,
     pub integrations: Sequence<Integration>,
 }
 
-/// How much a dispatcher holds. Each number is at least 1 and at most its default.
+/// The limits of a dispatcher. Each is at least 1 and at most its default.
 #[derive(Clone, Copy, Debug, PartialEq, Eq)]
 pub struct Limits {
     /// Known alerts.
@@ -92,12 +94,12 @@ pub struct Config {
     pub routes: Routes,
     pub receivers: Sequence<Receiver>,
     pub rules: Sequence<InhibitRule>,
-    /// How long a log entry is kept at most, in milliseconds.
+    /// How long a log row stays at most, in milliseconds.
     pub retention: u64,
     pub limits: Limits,
 }
 
-/// Why a configuration is refused; the first cause that holds, in this order.
+/// Why a configuration is rejected: the first cause that applies, in this order.
 #[derive(Clone, Copy, Debug, PartialEq, Eq, Error)]
 pub enum ConfigFault {
     #[error("a route names a receiver that isn't there")]
@@ -119,7 +121,7 @@ pub enum ConfigFault {
 }
 
 impl Receiver {
-    /// The text of an integration: its kind, `/` and its position.
+    /// Returns the text of an integration: its kind, `/` and its position.
     pub fn integration_text(&self, alloc: Global, position: u32) -> Result<String, AllocError>
         ensures { IfOk result (λ text. string_bytes text ≡ integration_text self.now position) }
     {
@@ -139,7 +141,7 @@ impl Receiver {
 }
 
 impl Config {
-    /// The receiver of this name, if there is one.
+    /// Returns the receiver of this name, if there is one.
     pub fn receiver(&self, name: &str) -> Option<&Receiver>
         ensures { option_copied result ≡ find (λ r. bytes_eq r.name name.now) self.now.receivers }
     {
@@ -149,20 +151,22 @@ impl Config {
             .find(|receiver| receiver.name.as_str() == name)
     }
 
-    /// The route of a group; the root, if no route is at the group's position. A group of a board has
-    /// one.
+    /// Returns the route of a group, or the root where no route has the group's position.
+    ///
+    /// A group of a board has one.
     pub fn route_of(&self, group: &GroupName) -> &Route
         ensures { result.now ≡ route_of self.now group.now }
     {
-        if group.route as usize <= self.routes.children().len() {
+        if group.route <= self.routes.last() {
             self.routes.route(group.route)
         } else {
             self.routes.root()
         }
     }
 
-    /// The integrations of a group's receiver; none, if there is no such receiver. A group of a board
-    /// has one.
+    /// Returns the integrations of a group's receiver, or none where there is no such receiver.
+    ///
+    /// A group of a board has one.
     pub fn integrations_of(&self, group: &GroupName) -> &[Integration]
         ensures { result.now ≡ integrations_named (route_of self.now group.now).receiver self.now.receivers }
     {
@@ -172,12 +176,14 @@ impl Config {
         }
     }
 
-    /// Whether a dispatcher may be configured so. Takes no memory.
+    /// Returns whether a dispatcher can have this configuration. Never allocates.
     ///
-    /// Refused by the first cause that holds, in the order of `ConfigFault`.
+    /// # Errors
+    ///
+    /// The first cause that applies, in the order of `ConfigFault`.
     pub fn check(&self) -> Result<(), ConfigFault>
         ensures fault { result ≡ ok_unless (config_fault self.now) tt }
-        ensures children { length self.now.routes.children ≤ MAX_CHILDREN }
+        ensures few { last_of self.now.routes ≤ MAX_ROUTES }
         ensures limits { OnOk result (AreAllowed self.now.limits) }
     {
         self.check_receivers()?;
@@ -187,7 +193,7 @@ impl Config {
     /// Refuses the routes' receivers and the receivers themselves.
     fn check_receivers(&self) -> Result<(), ConfigFault>
         ensures fault { result ≡ ok_unless (receivers_fault self.now) tt }
-        ensures children { length self.now.routes.children ≤ MAX_CHILDREN }
+        ensures few { last_of self.now.routes ≤ MAX_ROUTES }
     {
         let receivers = self.receivers.as_slice();
         if !self.has_receivers() {
@@ -228,7 +234,7 @@ impl Config {
     /// Whether each route's receiver is there.
     fn has_receivers(&self) -> bool
         ensures value { result ≡ has_receivers self.now }
-        ensures children { length self.now.routes.children ≤ MAX_CHILDREN }
+        ensures few { last_of self.now.routes ≤ MAX_ROUTES }
     {
         let receivers = self.receivers.as_slice();
         let children = self.routes.children();

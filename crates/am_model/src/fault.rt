@@ -1,4 +1,4 @@
-//! Why calls of a dispatcher are refused.
+//! Why calls of a dispatcher fail. Boards and desks return these.
 ghost use Rattle.std.specs.Prelude.{◌≡◌};
 ghost use Rattle.am_model.specs.declared.fault.Fault.TheVariants as fault;
 ghost use Rattle.am_model.specs.declared.fault.BoardFault.TheVariants as board_fault;
@@ -8,10 +8,11 @@ use crate::config::ConfigFault;
 use std::alloc::AllocError;
 use thiserror::Error;
 
-/// Why an insert, a silence, a begin or a maintenance is refused. Where several causes hold, the
-/// order is `HistoryFull`, `TooManyNames`, `TooManyGroups`, `TooManySilences`, `TooManyOpen`,
-/// `NoMemory`; but memory that is refused while an insert's groups or a begin's asked integrations
-/// are worked out comes before `TooManyGroups` and `TooManyOpen`.
+/// Why an insert, a silence, a begin or a maintenance fails.
+///
+/// If several causes apply, the order is `HistoryFull`, `TooManyNames`, `TooManyGroups`,
+/// `TooManySilences`, `TooManyOpen`, `NoMemory`. Exception: `NoMemory` can precede `TooManyGroups`
+/// and `TooManyOpen`, while an insert's groups or a begin's integrations are looked for.
 #[derive(Clone, Copy, Debug, PartialEq, Eq, Error)]
 pub enum Fault {
     #[error("out of memory")]
@@ -53,8 +54,9 @@ impl From<AllocError> for BoardFault {
     }
 }
 
-/// Why a note is refused; in the order `Foreign`, `NotOpen`, `NotReady`, `Already`, `HistoryFull`,
-/// `NoMemory`. Neither board nor ticket changes.
+/// Why a note fails. Neither board nor ticket changes.
+///
+/// The order is `Foreign`, `NotOpen`, `NotReady`, `Already`, `HistoryFull`, `NoMemory`.
 #[derive(Clone, Copy, Debug, PartialEq, Eq, Error)]
 pub enum NoteFault {
     #[error("out of memory")]
@@ -71,7 +73,8 @@ pub enum NoteFault {
     Already = 10,
 }
 
-/// Why a report isn't recorded; in the order `Stranger`, `Twice`. The ticket stays as it was.
+/// Why a report isn't recorded; checked in the order `Stranger`, `Twice`. The ticket doesn't
+/// change.
 #[derive(Clone, Copy, Debug, PartialEq, Eq, Error)]
 pub enum ReportFault {
     #[error("the report is of no notice of this ticket that has something to send")]
@@ -81,7 +84,7 @@ pub enum ReportFault {
 }
 
 impl BoardFault {
-    /// The number of this fault.
+    /// Returns the number of this fault: 1 or 2.
     pub fn number(&self) -> u8
         ensures { result ≡ board_fault_number self.now }
     {

@@ -1,12 +1,13 @@
-//! What groups are called.
+//! `GroupName`: what identifies a group. Notices, records and views have one.
 ghost use Rattle.std.specs.Prelude.{◌≡◌, IfOk};
 
 use am_alerts::labels::Labels;
 use am_alerts::sequence::Copied;
 use std::alloc::{AllocError, Global};
 
-/// What identifies a group: the position of its route, and its group labels. Names are ordered by
-/// position, then by labels.
+/// The name of a group: the position of its route, and its group labels.
+///
+/// Names are ordered by position, then by labels.
 #[derive(Debug, Drop, PartialEq, Eq, PartialOrd, Ord, Hash)]
 pub struct GroupName {
     pub route: u32,
@@ -14,7 +15,7 @@ pub struct GroupName {
 }
 
 impl GroupName {
-    /// A copy of this name.
+    /// Returns a copy of this name.
     pub fn copy(&self, alloc: Global) -> Result<GroupName, AllocError>
         ensures { IfOk result (λ name. name ≡ self.now) }
     {

@@ -1,5 +1,7 @@
-//! Laws of histories, and the limits and the faults' numbers, each as it is meant.
-ghost use Rattle.am_model.specs.Laws.{ReplayAppends, LegalAppends, ClockIsMoment, ReplaysAreConsistent, ReplaysKnowMembers, LegalKeepsBegins};
+//! The laws of histories, the limits and the faults' numbers, as calls that verifiers read. Each
+//! has an empty body: its `ensures` is the statement.
+ghost use Rattle.am_model.specs.Laws.{ReplayAppends, LegalAppends, ClockIsMoment};
+ghost use Rattle.am_model.specs.Laws.{ReplaysAreConsistent, ReplaysKnowMembers, LegalKeepsBegins};
 ghost use Rattle.am_model.specs.look_back.Interval.{BeginsKeepTheInterval};
 ghost use Rattle.am_model.specs.look_back.Laws.{EveryLegalHistory, AlertsAreFound, ShownAlertsAreFound, RowsAreFound, ShownRowsAreFound};
 ghost use Rattle.am_model.specs.look_back.Laws.{OnlyDeliveredIsLogged, RowsComeByDelivery, RowsWereDelivered, RefiringAlertsStay};
@@ -56,112 +58,129 @@ const REPORT_FAULTS: [(ReportFault, u8); 2] = [
     (ReportFault::Twice, ReportFault::Twice as u8),
 ];
 
-/// What the definitions of the sequential dispatcher say of a history with one record more: its
-/// state is the one after that record, it is legal where the history before is and the record's
-/// reply is the one that is due there, and its clock is the greatest moment that was handed in.
+/// States how a history with one record more relates to the history before.
+///
+/// Its state is the one after that record. It is legal where the history before is and the record's
+/// reply is the one that is due there. Its clock is the greatest time of its calls.
 pub fn histories_go_record_by_record()
     ensures replay { ReplayAppends }
     ensures legal { LegalAppends }
     ensures clock { ClockIsMoment }
 {}
 
-/// What holds after every list of records, legal or not: no two known alerts, silences, groups,
-/// members of a group, rows or open flushes are alike; and a group with an open flush has alerts, so
-/// no maintenance removes it. Each alert of a group is the known one with its labels, as it was last
-/// inserted, has one stamp in all its groups, and each of these is one that its routes give it. After
-/// a legal history a group that was begun since it was made is there, flushed, and due one group
-/// interval after its last begin.
+/// States what is true after every list of records, legal or not, and after every legal history.
+///
+/// Clause `consistent`: no two known alerts, silences, groups, members of a group, rows or open
+/// flushes are alike. A group with an open flush has alerts, so no maintenance removes it. Clause
+/// `members`: each alert of a group is the known one with its labels, as it was last inserted. It
+/// has one stamp in all its groups, and its routes give it each of these. Clause `begins`: after a
+/// legal history a group that was begun since it was made is there, flushed, and due one
+/// `group_interval` after its last begin.
 pub fn legal_histories_are_consistent()
     ensures consistent { ReplaysAreConsistent }
     ensures members { ReplaysKnowMembers }
     ensures begins { LegalKeepsBegins }
 {}
 
-/// Which alerts are in which group after a legal history, read off the history from its end; and
-/// each group that is shown has just those, in the order of their label sets.
+/// States which alerts are in which group after a legal history, read off the history from its end.
+///
+/// Clause `shown`: each group that a board returns has exactly these, in the order of their label
+/// sets.
 pub fn looking_back_finds_alerts()
     ensures found { EveryLegalHistory AlertsAreFound }
     ensures shown { EveryLegalHistory ShownAlertsAreFound }
 {}
 
-/// Which rows the log has after a legal history, read off the history from its end; and each row
-/// that is shown is the one that is found for its group and integration.
+/// States which rows the log has after a legal history, read off the history from its end.
+///
+/// Clause `shown`: each row that a board returns is the one of its group and integration.
 pub fn looking_back_finds_rows()
     ensures found { EveryLegalHistory RowsAreFound }
     ensures shown { EveryLegalHistory ShownRowsAreFound }
 {}
 
-/// Each finish and each note of a legal history that logs an integration's success reports that this
-/// flush's notice was delivered, or it had nothing to send; a row that stands in the log after a
-/// record stood there before it, or is of its moment, and the record reports so; and each row of the
-/// log stands for such a record, the last that logged under its key.
+/// States that the log gains a row only for a notice that was delivered or had nothing to send.
+///
+/// Clause `each_record`: each finish and each note that logs a success reports so of this flush.
+/// Clause `new_rows`: a row after a record was there before it, or is of its time, and the record
+/// reports so. Clause `rows`: each row is of such a record, the last that logged under its key.
 pub fn logged_only_after_delivery()
     ensures each_record { EveryLegalHistory OnlyDeliveredIsLogged }
     ensures new_rows { EveryLegalHistory RowsComeByDelivery }
     ensures rows { EveryLegalHistory RowsWereDelivered }
 {}
 
-/// An alert that fires again while a flush of its group is open is in the group after the finish.
+/// States that an alert that fires again while a flush of its group is open is there after the
+/// finish.
 pub fn refiring_alerts_stay()
     ensures { EveryLegalHistory RefiringAlertsStay }
 {}
 
-/// Each flush has one begin and at most one finish, and each integration is noted for it at most
-/// once, only in between; while it is open its group isn't taken.
+/// States that each flush has one begin and at most one finish, and that its group isn't taken
+/// meanwhile.
+///
+/// Each integration is noted for it at most once, only in between.
 pub fn flushes_end_once()
     ensures { EveryLegalHistory FlushesEndOnce }
 {}
 
-/// A begin that takes a group asks exactly the integrations that need an update, by the entries,
-/// alerts and mutes that looking back finds.
+/// States that a begin notifies exactly the integrations that need an update.
+///
+/// The entries, alerts and mutes are those that looking back finds.
 pub fn begins_notify_exactly_whom_needed()
     ensures { EveryLegalHistory BeginsNotifyExactlyWhomNeeded }
 {}
 
-/// What a begin tells is there: a flush asks somebody, and each of its notices lists the alerts that
-/// looking back finds in the group, not muted, those that fire without an end, and the resolved ones
-/// where its integration is sent them; the deadline is the begin's moment plus the group interval or
-/// ten seconds, whichever is more; and a quiet begin counts the alerts that looking back finds
-/// resolved, muted ones too.
+/// States what the notices of a begin list, and what a quiet begin counts.
+///
+/// A flush notifies at least one integration. Each of its notices lists the alerts that looking
+/// back finds in the group and that aren't muted. Those that fire have no end. Resolved ones are
+/// listed where the integration is notified of them. The deadline is the begin's time plus
+/// `group_interval` or ten seconds, whichever is more. A quiet begin counts the resolved alerts,
+/// muted ones too.
 pub fn notices_list_present_alerts()
     ensures { EveryLegalHistory NoticesListPresentAlerts }
 {}
 
-/// Of any two begins of a group, with no maintenance between them that found it without alerts, the
-/// later is at least the route's `group_interval` later.
+/// States that two begins of a group are at least the route's `group_interval` apart.
+///
+/// Exception: a maintenance between them found the group without alerts.
 pub fn begins_keep_the_interval()
     ensures { EveryLegalHistory BeginsKeepTheInterval }
 {}
 
-/// A begin that takes a group asks an integration of its receiver exactly if the case of needs-update
-/// that applies, by the history before it, is a reason to. A reason is given exactly where what it
-/// says is so; and a notice that isn't repeated yet is from the moment on that its reason names.
+/// States that a begin notifies an integration exactly if its reason says so.
+///
+/// The reason is the case of `needsUpdate` that applies by the history before the begin. Clause
+/// `so`: a reason is given exactly where what it says is true. Clause `waits`: a notice that isn't
+/// repeated yet is repeated from the time on that its reason names.
 pub fn reasons_are_exact()
     ensures asked { EveryLegalHistory BeginsHaveReasons }
     ensures so { ReasonsAreSo }
     ensures waits { NotYetEnds }
 {}
 
-/// The reasons that the state alone gives for what a begin is to do are those that looking back
-/// finds. The group that it takes and what mutes its alerts are read off the state in both.
+/// States that the reasons that the state gives for a begin are those that looking back finds.
+///
+/// The group that it takes and what mutes its alerts are read off the state in both.
 pub fn previews_look_back()
     ensures { PreviewsAreFound }
 {}
 
-/// What looking back says of every legal history, all of it.
+/// States everything that looking back says of every legal history.
 pub fn legal_histories_look_back()
     ensures { EveryLegalHistory LooksBack }
 {}
 
-/// What each limit of a configuration is, the default of `Limits`, and, in milliseconds, the least
-/// time of a flush and the greatest deadline.
+/// States each limit of a configuration, the default of `Limits`, and the bounds of a flush's
+/// deadline.
 pub fn limits_are()
     ensures limits { LimitsAre }
     ensures default { DefaultIs }
     ensures times { TimesAre }
 {}
 
-/// Which number each fault has.
+/// States the number of each fault.
 pub fn fault_numbers_are()
     ensures calls { CallFaultsAre }
     ensures notes { NoteFaultsAre }

@@ -1,5 +1,28 @@
-//! The definitions of the sequential dispatcher, with the plain data that contracts compare and the
-//! laws of legal histories.
+//! The definitions of the dispatcher, the plain data that contracts compare, and the laws of legal
+//! histories. `am_board` keeps to them, and contracts above cite them. It stores nothing.
+//!
+//! - `config`, `fault`, `group`, `notice`, `outcome`, `preview`, `reason`, `record`, `views`: the
+//!   data, each type with its own calls.
+//! - `law`: the laws, as public calls without a body.
+//! - specs `Config`, `Configured`, `Faults`, `Notice`, `Records`, `Ticket`, `Views`: what is
+//!   defined of one type, with the data that contracts see.
+//! - specs `State`, `Insert`, `Begin`, `Note`, `Finish`, `Upkeep` (silence and maintenance): the
+//!   state, over plain lists in the order of arrival, with the reply of each call and the state
+//!   after it.
+//! - specs `Replay`: the reply that is due at a state, the replay of a history, and when one is
+//!   legal. `Causes`: the first cause of a failed call. `Laws`: what is true after every legal
+//!   history.
+//! - specs `look_back`: the same looked for from the end of a history, without a state: `Past`,
+//!   `Presence`, `Entry`, `Interval`, `Reasons`, `Laws`. `Preview` takes the group and what mutes
+//!   its alerts from the state, and the reasons from there.
+//! - specs `Lists`: upsert, without, changed where, in order, least.
+//! - proofs `legal` and `looking_back` prove the laws; `examples` runs the definitions on worked
+//!   rows; `lists` has the lemmas on lists for all crates above.
+//!
+//! The definitions are total: a call that isn't legal only moves the clock, and ties take the
+//! first. The state doesn't have the board's id; only the reply and legality take it. An outcome of
+//! an integration is that of the first pair that names it. Rows are in the order of arrival; a row
+//! that is put again after a collection comes last.
 #![tactic(auto)]
 
 pub mod config;

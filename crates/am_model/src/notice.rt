@@ -1,4 +1,5 @@
-//! Notices, and the reports on them.
+//! `Notice` and `Report`: what a courier sends, and how that ended. Tickets have the notices, and
+//! record the reports.
 ghost use Rattle.std.specs.Prelude.{◌≡◌, ◌≤◌, IfOk};
 ghost use Rattle.am_model.specs.Notice.{is_nothing};
 
@@ -10,21 +11,21 @@ use am_retry::Outcome;
 use std::alloc::{AllocError, Global};
 use std::marker::Model;
 
-/// No deadline is after this moment, in milliseconds: a flush begins at the greatest moment at the
-/// latest, and has the greatest interval at most.
+/// The greatest deadline, in milliseconds: the greatest time and the greatest interval together.
 pub const MAX_DEADLINE: u64 = MAX_MOMENT + MAX_DURATION;
 
-/// A flush has at least so long until its deadline, in milliseconds.
+/// The least time from a flush's begin to its deadline, in milliseconds.
 pub const MIN_FLUSH_TIMEOUT: u64 = 10_000;
 
-/// What one integration is to be told of a group's flush. Alerts are in the order of their labels.
+/// A notification of one integration, for one flush of a group. Alerts are in the order of their
+/// labels.
 #[derive(Debug, Drop)]
 pub struct Notice {
     /// The id of the desk.
     pub desk: u64,
     /// The number of the flush.
     pub ticket: u64,
-    /// Before this moment, in milliseconds, an attempt may be made. It is at most `MAX_DEADLINE`.
+    /// An attempt can start before this time, in milliseconds. It is at most `MAX_DEADLINE`.
     pub deadline: u64,
     pub group: GroupName,
     /// The integration's position in its receiver.
@@ -54,21 +55,21 @@ impl Model for Notice {
     ghost invariant = { λ n. n.deadline ≤ MAX_DEADLINE };
 }
 
-/// How the sending of a notice ended.
+/// The end of the sending of a notice.
 #[derive(Clone, Copy, Debug)]
 pub struct Report {
     pub desk: u64,
     pub ticket: u64,
     pub integration: u32,
     pub outcome: Outcome,
-    /// How many attempts were made.
+    /// The number of attempts.
     pub attempts: u64,
     /// When the last attempt ended, or when the sending started; in milliseconds.
     pub ended: u64,
 }
 
 impl Notice {
-    /// Whether there is nothing to send.
+    /// Returns whether there is nothing to send.
     pub fn nothing(&self) -> bool
         ensures nothing { result ≡ is_nothing self.now }
         ensures within { self.now.deadline ≤ MAX_DEADLINE }
@@ -76,7 +77,7 @@ impl Notice {
         self.firing.is_empty() && self.resolved.is_empty()
     }
 
-    /// A copy of this notice.
+    /// Returns a copy of this notice.
     pub fn copy(&self, alloc: Global) -> Result<Notice, AllocError>
         ensures { IfOk result (λ notice. notice ≡ self.now) }
     {

@@ -1,4 +1,5 @@
-//! What the notices of a flush came to.
+//! The outcomes of a flush's notices, by its finish in the later records. `am_board`, `am_report`
+//! and `am_timeline` call it.
 ghost use Rattle.std.specs.Prelude.{◌≡◌};
 ghost use Rattle.std.specs.Option.{option_copied};
 ghost use Rattle.am_model.specs.Outcomes.{finished_with, outcomes_in};
@@ -7,7 +8,7 @@ ghost use Rattle.am_model.specs.Ticket.{outcome_of};
 use crate::record::{Call, Record};
 use am_retry::Outcome;
 
-/// The outcome of an integration: that of the first pair that names it.
+/// Returns the outcome of an integration: that of the first pair that names it.
 pub fn outcome_of(outcomes: &[(u32, Outcome)], integration: u32) -> Option<Outcome>
     ensures { result ≡ outcome_of outcomes.now integration }
 {

@@ -1,11 +1,14 @@
-//! What a begin is to do, and why, told before it is made.
+//! What a begin would do, and why. `Board::preview` returns it.
+//!
+//! Muted alerts are listed whether they fire or are resolved. What fires and what is resolved is in
+//! the notices of the begin.
 use crate::group::GroupName;
 use crate::reason::Reason;
 use am_alerts::labels::Labels;
 use am_alerts::sequence::Sequence;
 use am_mute::mute::MuteCause;
 
-/// An alert of a group that is muted, and why.
+/// A muted alert of a group, with its cause.
 #[derive(Debug, Drop)]
 pub struct MutedAlert {
     /// The alert's label set.
@@ -14,15 +17,15 @@ pub struct MutedAlert {
     pub cause: MuteCause,
 }
 
-/// What a begin is to do with the group that it takes.
+/// What a begin would do with the group that it would take.
 #[derive(Debug, Drop)]
 pub struct Preview {
-    /// The moment of the begin, in milliseconds.
+    /// The time of the begin, in milliseconds.
     pub moment: u64,
-    /// The group that it takes.
+    /// The group that it would take.
     pub group: GroupName,
-    /// The group's alerts that are muted, in the order in which their label sets came into it.
+    /// The group's muted alerts, in the order in which their label sets came into it.
     pub muted: Sequence<MutedAlert>,
-    /// Why each integration of the group's receiver is asked or not, by position.
+    /// Why each integration of the group's receiver is notified or not, by position.
     pub reasons: Sequence<Reason>,
 }

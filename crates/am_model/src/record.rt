@@ -1,4 +1,4 @@
-//! The records of a history: which pass made which call, and what it was told.
+//! `Record`: an accepted call with its pass and its reply. Histories are lists of records.
 use crate::group::GroupName;
 use crate::notice::Notice;
 use am_alerts::alert::Alert;
@@ -6,25 +6,25 @@ use am_alerts::matcher::MatcherParts;
 use am_alerts::sequence::Sequence;
 use am_retry::Outcome;
 
-/// The answer to an insert.
+/// The reply to an insert.
 #[derive(Clone, Copy, Debug, PartialEq, Eq)]
 pub struct Inserted {
     /// The number of this insert among all inserts.
     pub stamp: u64,
     /// To how many groups the alert went.
     pub groups: usize,
-    /// How many of them were made for it.
+    /// How many of these groups were made for it.
     pub made: usize,
 }
 
-/// The answer to a silence.
+/// The reply to a silence.
 #[derive(Clone, Copy, Debug, PartialEq, Eq)]
 pub struct Silenced {
     /// Whether it replaced one with its id.
     pub replaced: bool,
 }
 
-/// The answer to a finish.
+/// The reply to a finish.
 #[derive(Clone, Copy, Debug, PartialEq, Eq)]
 pub struct Finished {
     /// How many rows were put into the log.
@@ -33,7 +33,7 @@ pub struct Finished {
     pub removed: usize,
 }
 
-/// The answer to a maintenance.
+/// The reply to a maintenance.
 #[derive(Clone, Copy, Debug, PartialEq, Eq)]
 pub struct Maintained {
     /// How many groups went.
@@ -42,11 +42,11 @@ pub struct Maintained {
     pub entries: usize,
 }
 
-/// The answer to a note.
+/// The reply to a note.
 #[derive(Clone, Copy, Debug, PartialEq, Eq)]
 pub struct Noted;
 
-/// What was asked for. Moments are in milliseconds, as they were handed in.
+/// A call with its arguments. Times are in milliseconds, as they were passed.
 #[derive(Debug, Drop)]
 pub enum Call {
     Insert {
@@ -81,7 +81,7 @@ pub enum Call {
     },
 }
 
-/// What was answered.
+/// The reply to a call.
 #[derive(Debug, Drop)]
 pub enum Reply {
     Inserted(Inserted),

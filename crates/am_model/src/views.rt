@@ -1,10 +1,10 @@
-//! What is shown of what a dispatcher holds.
+//! What a board returns of its state: log rows, groups and counts.
 use crate::group::GroupName;
 use am_alerts::alert::Alert;
 use am_alerts::labels::Labels;
 use am_alerts::sequence::Sequence;
 
-/// A log row. Moments are in milliseconds, and label sets in their order.
+/// A log row. Times are in milliseconds, and label sets are in their order.
 #[derive(Debug, Drop)]
 pub struct RowView {
     pub group: GroupName,
@@ -26,7 +26,7 @@ pub struct GroupView {
     pub alerts: Sequence<Alert>,
 }
 
-/// How much there is on a board.
+/// The counts of a board.
 #[derive(Clone, Copy, Debug, PartialEq, Eq)]
 pub struct Summary {
     /// Accepted calls.
@@ -40,7 +40,7 @@ pub struct Summary {
     pub entries: usize,
 }
 
-/// How much there is on a board, without its alerts and rows.
+/// The counts of a board, without alerts and log rows.
 #[derive(Clone, Copy, Debug, PartialEq, Eq)]
 pub struct Glance {
     /// Accepted calls.

@@ -1,5 +1,6 @@
 -- Where silences stand, by the labels that they ask for.
-use Rattle.std.specs.Prelude.{◌≡◌, ◌<◌, ◌≤◌, ℕ, Bool, true, false, Vec, ◌&&◌, List, [], length, find, Option, Some, None, IsTrue, fold, nat_eq, nat_lt}
+use Rattle.std.specs.Prelude.{◌≡◌, ◌<◌, ◌≤◌, ℕ, Bool, true, false, Vec, ◌&&◌, List}
+use Rattle.std.specs.Prelude.{[], length, find, Option, Some, None, IsTrue, fold, nat_eq, nat_lt}
 use Rattle.std.specs.Global.{Global}
 use Rattle.std.specs.Hash.{str}
 use Rattle.std.specs.Hash.FoldHasher.{initial, write, finish}

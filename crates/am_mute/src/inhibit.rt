@@ -1,4 +1,4 @@
-//! Inhibition rules.
+//! `InhibitRule`: source and target matchers, and the names of `equal`. A configuration has a list.
 ghost use Rattle.std.specs.Prelude.{◌≡◌, ◌≤◌, length};
 ghost use Rattle.am_alerts.specs.Fault.{ok_unless};
 ghost use Rattle.am_mute.specs.Inhibit.{rule_fault, rule_of};

@@ -1,4 +1,4 @@
-//! The faults' numbers, each as it is meant.
+//! The faults' numbers, as laws that verifiers read.
 ghost use Rattle.am_mute.specs.Laws.{SilenceFaultsAre, RuleFaultsAre};
 
 use crate::inhibit::RuleFault;

@@ -1,4 +1,11 @@
-//! What mutes a label set.
+//! What mutes a label set: silences first, then inhibition rules. `am_board` calls it for each
+//! alert of a group.
+//!
+//! Cost of `muted` and `mute_cause`: the silences, and the rules times the known alerts. With
+//! `Sources` the second part is the rules times the logarithm of the known alerts, and the sources
+//! that agree up to the first that isn't resolved. With `Silences` (`muted_under`) the first part
+//! is one look-up a label and the silences that it finds. What searches for a rule's patterns is
+//! made once for each label set.
 ghost use Rattle.std.specs.Prelude.{◌≡◌, IfOk, IsOk, IsTrue, is_some, option_copied};
 ghost use Rattle.am_mute.specs.Inhibit.{is_inhibited};
 ghost use Rattle.am_mute.specs.Silence.{is_silenced};

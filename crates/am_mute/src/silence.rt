@@ -1,4 +1,4 @@
-//! Silences.
+//! `Silence`: matchers and a span. Callers make them, a board stores them.
 ghost use Rattle.std.specs.Prelude.{◌≡◌, ◌≢◌, ◌≤◌, [], length, IfOk, IsOk, IsTrue};
 ghost use Rattle.am_alerts.specs.Fault.{ok_unless};
 ghost use Rattle.am_mute.specs.Silence.{silence_fault, silence_of, silence_mutes};

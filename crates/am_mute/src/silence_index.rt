@@ -1,4 +1,15 @@
-//! Where silences stand, by the labels that they ask for.
+//! The places of silences by the labels that they need. `silences` keeps one.
+//!
+//! The first matcher of a silence that is `=` with a value needs a label: a label set without it
+//! isn't muted. The place is under the hash of that label, and an alert looks up each of its
+//! labels. A silence that needs none (patterns, `!=` and empty values alone) is under a number of
+//! its own, and is tested for each alert. Each silence that is found is tested in full. A place can
+//! stay under what its silence needed before; this costs one test, and each replacement adds one at
+//! most.
+//!
+//! Invariant: each place is one of the list, and the silences up to the first whose place lacked
+//! memory are under what they need. Each alert walks the silences behind it, and the next one that
+//! is set takes them in again.
 ghost use Rattle.std.specs.Prelude.{◌≡◌, ◌⊎◌, ◌<◌, ℕ, [], false, true, All, List, find, length, option_copied, set};
 ghost use Rattle.std.specs.Prelude.{IfOk, IsOk, IsTrue, OnOk};
 ghost use Rattle.am_mute.specs.Silence.{SilenceData, is_silenced};

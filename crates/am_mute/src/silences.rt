@@ -1,4 +1,8 @@
-//! Silences that are set.
+//! `Silences`: the list of a board's silences, with its index. Contracts see the list and its
+//! capacity.
+//!
+//! Cost of `add` and `replace`: one look-up. Why an alert is muted has to name the first silence of
+//! the list, and walks it (`mute_cause_with`).
 ghost use Rattle.std.specs.Prelude.{◌≡◌, ◌<◌, ◌≤◌, ◌++◌, ◌==◌, [], ◌∷◌, length, set, IfOk, IfSome, IsOk, IsTrue, OnOk};
 ghost use Rattle.std.specs.List.{position};
 ghost use Rattle.am_mute.specs.Silence.{is_silenced};

@@ -1,4 +1,17 @@
-//! Which known alerts may be sources, found by their values under the names of `equal`.
+//! Which known alerts can be sources of inhibition: a sorted set of keys. A board keeps one
+//! `Sources`.
+//!
+//! A key has a rule, a hash of the alert's values under the rule's names of `equal`, and the
+//! alert's place. A target looks up the keys of its own hash and tests each alert of these as a
+//! walk over all would. Label sets that agree in `equal` have one hash, which is all that is needed
+//! of it. Whoever writes the labels can make them collide: then a look-up walks those that collide,
+//! and no more than all.
+//!
+//! Matchers and labels don't change with time, so an alert is learned once: u matches for u rules,
+//! and one insertion for each rule whose source matches. What searches for a source's pattern is
+//! made for each new label set, as for a route's. Where memory for a key is refused, this alert and
+//! those after it are left to a later call, and each target walks them. Invariant: each of the
+//! first alerts that a rule's source matches has its key.
 ghost use Rattle.std.specs.Prelude.{◌≡◌, ◌+◌, ◌<◌, List, true, length, is_some, option_copied, IfOk, IsOk, IsTrue, OnOk};
 ghost use Rattle.am_alerts.specs.AlertData.{AlertData};
 ghost use Rattle.am_alerts.specs.Matcher.{compare_texts, match_all};

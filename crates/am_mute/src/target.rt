@@ -1,4 +1,4 @@
-//! Label sets that a rule may mute.
+//! Label sets that a rule can mute. `mute` and `sources` test them.
 ghost use Rattle.std.specs.Prelude.{◌≡◌, IfOk, IsOk, IsTrue, find, option_copied};
 ghost use Rattle.am_alerts.specs.Matcher.{compare_texts};
 ghost use Rattle.am_mute.specs.Inhibit.{agrees_on, agrees_on_name, is_inhibited_by};

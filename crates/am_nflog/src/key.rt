@@ -1,4 +1,4 @@
-//! The keys of the log.
+//! `LogKey`: a group and an integration, by which the log finds a row.
 
 /// What a row of the log is about: one integration of one group's receiver.
 ///

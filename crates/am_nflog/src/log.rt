@@ -1,4 +1,8 @@
-//! The log itself.
+//! `NfLog`: the table of rows by group and integration. `am_board` keeps one.
+//!
+//! A known key stays known, also when its row was collected, so a row that is put again keeps its
+//! place. Invariant: the keys differ. `get`, `put` and `reserve` cost one look-up by hash.
+//! `NfLog::new` can't fail today; it returns a `Result` as all that is made on an allocator does.
 ghost use Rattle.std.specs.Prelude.{◌≡◌, ◌<◌, ◌↔◌, [], length, filter, nat_lt, IsTrue, OnOk, OnErr, IsOk, IsOkAnd, slice_get, Some};
 ghost use Rattle.std.specs.Option.{option_copied};
 ghost use Rattle.am_nflog.specs.Log.{is_known, row_of, rows_of, with_key, with_row, collected, expired_count, is_expired, HasDistinctKeys};

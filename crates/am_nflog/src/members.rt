@@ -1,4 +1,7 @@
-//! The members of a row: a set, kept as a strictly ascending list.
+//! The alerts of a row: a set, stored as a strictly ascending list that several owners can share.
+//!
+//! No `Vec` comes back out of it. The flush, its notified integrations and their rows share one
+//! list.
 ghost use Rattle.std.specs.Prelude.{◌≡◌, IfOk, IsTrue};
 ghost use Rattle.am_nflog.specs.Members.{is_ascending};
 

@@ -1,4 +1,4 @@
-//! The rows of the log.
+//! `LogRow`: the last success of an integration for a group.
 
 use crate::members::Members;
 

@@ -1,4 +1,5 @@
-//! Whether an integration needs an update about a group.
+//! Whether an integration needs an update about a group (`notify.DedupStage`). `am_board` asks it
+//! at each begin. Cost: the two lists and those of the row, once each.
 ghost use Rattle.std.specs.Prelude.{◌≡◌, IsTrue};
 ghost use Rattle.std.specs.Option.{option_copied};
 ghost use Rattle.am_nflog.specs.Members.{is_ascending, is_subset};

@@ -40,7 +40,8 @@ pub record RanBefore (p q : Seen) (ls ms : List Seen) : Type 0 where
   pub begins : IsPrefix joined.log q.log
 
 -- the main thread had its turn in a phase, and the passes of the lanes made their calls between its begins and its notes
-pub record RunsPhase (Answers : Tried → Type 0) (t : Terms) (phase : Phase) (p q : Seen) (ls ms : List Seen) (reports reports_since : List Report) : Type 0 where
+pub record RunsPhase (Answers : Tried → Type 0) (t : Terms) (phase : Phase) (p q : Seen) (ls ms : List Seen)
+    (reports reports_since : List Report) : Type 0 where
   pub took : RunsMainSteps Answers t phase p q reports reports_since
   pub begun : Seen
   pub joined : Seen
@@ -55,7 +56,8 @@ pub record HasNoOtherCalls (ls : List Seen) (rs : List Record) : Type 0 where
 
 -- between two phases the main thread's pass had its turns and has seen all calls of the lanes; if it has seen no others, what it has
 -- seen is made of a part for each phase so far. That there are no others is known when it meets the lanes again, or when the desk is closed
-pub record AfterPhases (Answers : Tried → Type 0) (t : Terms) (phases : List Phase) (p : Seen) (ls : List Seen) (reports : List Report) : Type 0 where
+pub record AfterPhases (Answers : Tried → Type 0) (t : Terms) (phases : List Phase) (p : Seen) (ls : List Seen)
+    (reports : List Report) : Type 0 where
   pub main : AfterMainSteps Answers t phases p reports
   pub sees : All (λ l. IsPrefix (own l.number l.log) (own l.number p.log)) ls
   pub parts : HasNoOtherCalls ls p.log → SplitsByPhase phases main.1.turns p.log

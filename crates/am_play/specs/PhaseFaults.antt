@@ -1,4 +1,4 @@
--- Trouble in a phase.
+-- PhaseFaults: the faults of a phase.
 use Rattle.std.specs.Prelude.{◌≡◌, false, None}
 use Rattle.am_play.specs.declared.phase_faults.PhaseFaults.{PhaseFaults}
 

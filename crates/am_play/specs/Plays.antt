@@ -18,7 +18,8 @@ pub record IsPlayOf (id : ℕ) (scenario : Scenario) (text : List ℕ) : Type 0 
   pub history : List Record
   pub report : IsReportOn scenario.config id history text
   pub lanes : (i : ℕ) → calls_by (i + 1) history ≡ lane_calls i scenario.phases.items
-  pub main : AreAllMainStepsOf (IsAsPlanned scenario.scripts.items) (terms scenario.config id) 0 history scenario.phases.items report.reports
+  pub main : AreAllMainStepsOf (IsAsPlanned scenario.scripts.items) (terms scenario.config id) 0 history scenario.phases.items
+      report.reports
   pub parts : SplitsByPhase scenario.phases.items main.turns history
 
 -- the text is the report on the scenario that an input tells, which was played on the board of this id

@@ -1,5 +1,6 @@
 -- What the steps of a phase do to the main thread's pass.
-use Rattle.std.specs.Prelude.{◌≡◌, ◌<◌, ◌≤◌, ◌||◌, ℕ, Bool, false, true, All, List, [], ◌∷◌, ◌++◌, length, map, slice_get, Option, Some, None}
+use Rattle.std.specs.Prelude.{◌≡◌, ◌<◌, ◌≤◌, ◌||◌, ℕ, Bool, false, true, All}
+use Rattle.std.specs.Prelude.{List, [], ◌∷◌, ◌++◌, length, map, slice_get, Option, Some, None}
 use Rattle.std.specs.List.{AllZip, filter, flat_map}
 use mathlib.Core.List.{IsPrefix}
 use Rattle.am_model.specs.Finish.{is_delivered}
@@ -103,7 +104,8 @@ abbrev pub FinishesOne : ℕ → TicketData → Seen → Seen → Type 0
 FinishesOne now t p q = (r : Record) × MadeRecords (r ∷ []) p q × (r.call ≡ call.Finish now t.number t.outcomes)
 
 -- the notices of these tickets were sent from this moment on, the reports are recorded, and the pass noted the successes
-pub record Sends (Answers : Tried → Type 0) (t : Terms) (at : ℕ) (reports : List Report) (ts us : List TicketData) (p q : Seen) : Type 0 where
+pub record Sends (Answers : Tried → Type 0) (t : Terms) (at : ℕ) (reports : List Report) (ts us : List TicketData)
+    (p q : Seen) : Type 0 where
   pub sent : AllZip (IsSentFrom Answers at) (to_send (map opened_of ts)) reports
   pub recorded : us ≡ map (recorded_all reports) ts
   pub noted : Notes t (notes_of_all at reports us) p q
@@ -115,7 +117,8 @@ pub record Finishes (at : ℕ) (reports : List Report) (ts : List TicketData) (p
   pub calls : map (λ r. r.call) finishes ≡ map (finish_with at reports) ts
 
 -- the main thread had its turn in a phase, whose reports came to the others
-pub record RunsMainSteps (Answers : Tried → Type 0) (t : Terms) (phase : Phase) (p q : Seen) (reports reports_since : List Report) : Type 0 where
+pub record RunsMainSteps (Answers : Tried → Type 0) (t : Terms) (phase : Phase) (p q : Seen)
+    (reports reports_since : List Report) : Type 0 where
   pub turn : MainSteps
   pub is : AreMainStepsOf Answers t p.number q.log (own p.number p.log) phase turn
   pub made : MadeRecords (records_in turn) p q

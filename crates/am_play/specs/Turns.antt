@@ -1,5 +1,6 @@
 -- What the main thread of a scenario does, phase by phase.
-use Rattle.std.specs.Prelude.{◌≡◌, ◌≢◌, ◌==◌, ◌&&◌, ◌||◌, ◌⊎◌, ℕ, Bool, true, not, max, All, List, [], ◌∷◌, ◌++◌, length, map, Option, Some, None, if◌then◌else◌}
+use Rattle.std.specs.Prelude.{◌≡◌, ◌≢◌, ◌==◌, ◌&&◌, ◌||◌, ◌⊎◌, ℕ, Bool, true, not, max}
+use Rattle.std.specs.Prelude.{All, List, [], ◌∷◌, ◌++◌, length, map, Option, Some, None, if◌then◌else◌}
 use Rattle.std.specs.List.{AllZip, filter, flat_map, fold}
 use mathlib.Core.List.{IsPrefix}
 use Rattle.am_model.specs.Causes.{is_full}
@@ -149,11 +150,13 @@ records_in turn = turn.begins ++ turn.notes ++ turn.finishes
 -- due or as many flushes are open as may be; each notice that has something to send has one report, of a sending from that moment on
 -- whose tries are answered so; each success is noted, at the end of its sending, but where there was no room; and each flush is
 -- finished once, in their order, at the end of the last
-pub record AreMainStepsOf (Answers : Tried → Type 0) (t : Terms) (pass : ℕ) (history before : List Record) (phase : Phase) (turn : MainSteps) : Type 0 where
+pub record AreMainStepsOf (Answers : Tried → Type 0) (t : Terms) (pass : ℕ) (history before : List Record) (phase : Phase)
+    (turn : MainSteps) : Type 0 where
   pub begun : All (IsBeginOf phase) turn.begins
   pub ended : phase.flush ≡ true → BeginsExhausted t pass history before phase.at turn.begins
   pub sent : AllZip (IsSentFrom Answers phase.at) (to_send (opened_by turn.begins)) turn.reports
-  pub noted : AreNotesWithRoom t pass history (before ++ turn.begins) (all_notes_due phase.at turn.reports (opened_by turn.begins)) turn.notes
+  pub noted : AreNotesWithRoom t pass history (before ++ turn.begins)
+      (all_notes_due phase.at turn.reports (opened_by turn.begins)) turn.notes
   pub finished : map (λ r. r.call) turn.finishes ≡ map (finish_of phase.at turn.reports) (opened_by turn.begins)
 
 -- these are turns of these phases, one after the other, of a pass that had made the records before
@@ -165,7 +168,8 @@ AreTurnsFrom Answers t pass history before (p ∷ ps) (u ∷ us) =
     AreMainStepsOf Answers t pass history before p u × AreTurnsFrom Answers t pass history (before ++ records_in u) ps us
 
 -- a pass had a turn in each phase and made no other records in a history, with tries that are answered so, and these are all reports
-pub record AreAllMainStepsOf (Answers : Tried → Type 0) (t : Terms) (pass : ℕ) (history : List Record) (phases : List Phase) (reports : List Report) : Type 0 where
+pub record AreAllMainStepsOf (Answers : Tried → Type 0) (t : Terms) (pass : ℕ) (history : List Record) (phases : List Phase)
+    (reports : List Report) : Type 0 where
   pub turns : List MainSteps
   pub each : AreTurnsFrom Answers t pass history [] phases turns
   pub made : own pass history ≡ flat_map records_in turns

@@ -1,4 +1,11 @@
-//! Couriers that answer by the scripts of a scenario.
+//! Couriers that answer by the scripts of a scenario. `run` makes them.
+//!
+//! The scripts are named by a type (`Scripts`), which a caller picks with `Brand`. How attempts are
+//! answered is a predicate of the courier's type (`Answering`), with a law that each attempt is so.
+//! Then the couriers that `run_jobs` hands back answer as those that it got, though its contract
+//! says nothing else of them. A courier of which nothing is known has a predicate that is always
+//! true. Attempt k is answered by the k-th item of the first script for its flush and integration,
+//! or by the last. Cost of an attempt: the scripts.
 ghost use Rattle.std.specs.Prelude.{◌≡◌, All, IfOk, find, option_copied, vec_len};
 ghost use Rattle.am_scenario.specs.Scripts.{IsAsPlanned, planned_for, is_script_for};
 

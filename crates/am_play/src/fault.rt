@@ -1,4 +1,4 @@
-//! Why a run ends without its report.
+//! Why a run ends without its report. `run_scenario` returns it, `am_run` ends with its status.
 use am_cli::fault::{FaultKind, InputFault, ParseFault};
 use am_cli::transfer::{ReadFault, Unwritable};
 use thiserror::Error;

@@ -1,4 +1,10 @@
-//! The lanes of a phase, each in a thread of its own.
+//! The lanes of a phase, each in a thread of its own, while the couriers send. `phase` calls
+//! `run_beside`.
+//!
+//! A lane's state is made once, with the pass that the lane keeps for the whole run. Its thread
+//! writes there and nowhere else. A thread is started for each lane of a phase, also for one
+//! without calls. At the end of the run the passes go back into the vector that the opening gave,
+//! for the close.
 ghost use Rattle.std.specs.Prelude.{◌≡◌, ◌<◌, ◌≤◌, ◌∷◌, [], All, IfOk, OnOk, length, map, take, vec_len};
 ghost use Rattle.std.specs.List.{AllZip};
 ghost use Rattle.am_pool.specs.Work.{IsReady};

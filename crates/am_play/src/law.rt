@@ -1,4 +1,4 @@
-//! What scripts determine; and the limits of a scenario, as they are meant.
+//! Laws that verifiers read: the scripts of a scenario determine the reports, and the limits.
 ghost use Rattle.std.specs.Prelude.{◌≡◌};
 ghost use Rattle.am_play.specs.Laws.{ScriptsDetermineReports};
 ghost use Rattle.am_play.specs.declared.run.TheConstants.{BOARD_ID};

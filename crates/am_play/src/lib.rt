@@ -1,6 +1,7 @@
-//! Scenarios played: how one is run on a desk with its threads, from its bytes to its report.
+//! Running a scenario on a desk with its threads, from its bytes to its report. `am_run` calls
+//! `run_scenario`; whoever has a `Scenario` can call `play_scenario`.
 //!
-//! All moments are in milliseconds.
+//! All times are in milliseconds.
 #![tactic(auto)]
 
 pub mod courier;

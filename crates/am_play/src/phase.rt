@@ -1,5 +1,16 @@
-//! The phases of a run.
-ghost use Rattle.std.specs.Prelude.{◌≡◌, ◌<◌, ◌≤◌, ◌+◌, ◌++◌, ◌∷◌, [], ℕ, false, true, All, IfErr, IfOk, IsTrue, OnOk, Ok, length, map, vec_len};
+//! The phases of a run. `run` calls `Run::run_phase` for each.
+//!
+//! The main thread begins the flushes and meets the passes of the lanes. Then the lanes and the
+//! couriers run in threads (`lane`). When all are joined, the main thread reads the lane states by
+//! number and meets their passes. It records and notes the reports in the order of the jobs, and
+//! finishes the flushes. Nothing that it does depends on which thread was first.
+//!
+//! A phase whose begin fails sends nothing, notes nothing and runs no lane. Where memory lacks for
+//! the list of jobs, no lane runs and nothing is sent; where it lacks in `run_jobs`, nothing is
+//! sent. The passes of all lanes are met, also those without a call in the phase: a meet costs six
+//! loads.
+ghost use Rattle.std.specs.Prelude.{◌≡◌, ◌<◌, ◌≤◌, ◌+◌, ◌++◌, ◌∷◌, [], ℕ, false};
+ghost use Rattle.std.specs.Prelude.{true, All, IfErr, IfOk, IsTrue, OnOk, Ok, length, map, vec_len};
 ghost use Rattle.std.specs.List.{AllZip, range_with_len};
 ghost use Rattle.am_alerts.specs.declared.limits.TheConstants.{MAX_MOMENT};
 ghost use Rattle.am_cli.specs.Read.{IsRefusedBy};

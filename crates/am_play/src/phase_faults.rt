@@ -1,4 +1,7 @@
-//! What goes wrong in a phase.
+//! The faults of a phase. `phase` gathers them and reports the first at its end.
+//!
+//! The first failed call by lane and position counts, whichever came first in time. Out of memory
+//! comes before all.
 ghost use Rattle.std.specs.Prelude.{◌≡◌, ◌↔◌, IfErr, IsOk, IsTrue};
 ghost use Rattle.am_cli.specs.Read.{IsRefusedBy};
 ghost use Rattle.am_play.specs.PhaseFaults.{HasNoFault};

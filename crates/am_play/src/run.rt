@@ -1,4 +1,24 @@
-//! The run of a scenario, from its bytes to its report.
+//! The run of a scenario: reads the whole input, builds the scenario, plays it, writes the report.
+//!
+//! `play_scenario` opens a desk with a pass for the main thread and one for each lane that a phase
+//! can have. It runs the phases, closes the desk, and makes the report of the closed history and
+//! the reports on the notices. How the contracts come about:
+//!
+//! - Each lane's pass has made exactly the lane's calls (`Plays`, `LaneStates`). A lane state knows
+//!   that its pass made them all. If one failed, the run ends (`PhaseFaults`). From phase to phase
+//!   a run knows it of all lanes (`HaveMade`), and the close knows it of the history.
+//! - The main thread's pass has made its steps in each phase (`Turns`, `Steps`).
+//! - The two are ordered by what the main thread's pass has seen (`Parts`, `Interleaving`). It
+//!   meets the lanes' passes before they start, so their calls come after its begins. It meets them
+//!   again when they are joined, so it has seen all of them before its notes. Starting and joining
+//!   a thread orders these calls too, but no contract says so of a lock.
+//! - That it has seen no others of theirs is known when it meets them again, or from the close.
+//!   Until then a run says it under this premise (`AfterPhases`).
+//! - Where two lists have the same records of each pass, and one begins the other, they are one
+//!   list. So the history is cut at what the main thread's pass had seen after its begins, when the
+//!   lanes were joined, and when a phase ended.
+//! - The list that the pass had seen by then shows where the begins stop for the open flushes, and
+//!   where a note finds no capacity. The closed history begins with each such list.
 ghost use Rattle.std.specs.Prelude.{◌≡◌, ◌≢◌, ◌≤◌, ◌<◌, ◌+◌, ◌++◌, ◌⊎◌, ◌↔◌, All, List, ℕ, length, vec_len};
 ghost use Rattle.std.specs.Prelude.{IfErr, IfOk, None, OnOk, string_bytes};
 ghost use Rattle.am_cli.specs.Read.{IsRefusedBy};

@@ -1,4 +1,13 @@
-//! The sending of notices.
+//! The sending of notices. `lane` calls `send_jobs`, `phase` the rest.
+//!
+//! `send_jobs` concludes from what `run_jobs` ensures that each report is of a sending whose
+//! attempts went as the scripts plan (`Sendings`). They are among the attempts of one courier, all
+//! of which are answered so. Two such reports on a notice are one (`scripts_determine_reports`).
+//! Exception: a Starved report, since memory can lack at any attempt. It ends the run.
+//!
+//! A scenario whose times go far back can need very many attempts: the deadline counts from the
+//! clock, and the attempts start at the phase's own time. There is at most one for each half second
+//! between the two, and they take no memory.
 ghost use Rattle.std.specs.Prelude.{◌≡◌, ◌≤◌, ◌++◌, ◌||◌, All, IfOk, IsTrue, OnOk, map};
 ghost use Rattle.am_alerts.specs.declared.limits.TheConstants.{MAX_MOMENT};
 ghost use Rattle.std.specs.List.{AllZip};

@@ -1,4 +1,4 @@
--- The rule of the queue of job numbers: what was taken and what is left is what was put, each number once.
+-- Dealt: the rule of the queue of job numbers. The taken and the remaining numbers are those that were put, each once.
 use Rattle.std.specs.Prelude.{◌≡◌, ◌==◌, ◌<◌, nat_lt, ℕ, zero, suc, ◌+◌, List, [], ◌∷◌, ◌++◌, length, if◌then◌else◌}
 use mathlib.Core.Option.{some}
 use lib.ListN.{get_elem?}

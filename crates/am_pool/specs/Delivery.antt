@@ -1,4 +1,4 @@
--- The delivery of a notice: the attempts of "retry outcome", made by a courier.
+-- Delivery: the delivery of a notice. A courier makes the attempts that the retry outcome defines.
 use Rattle.std.specs.Prelude.{◌≡◌, ℕ, ◌+◌, Bool, true, false, if◌then◌else◌, List, ◌++◌, length}
 use Rattle.am_retry.specs.declared.outcome.Outcome.{Outcome}
 use Rattle.am_retry.specs.declared.outcome.Outcome.TheVariants.{Delivered, Refused, Expired, Starved}

@@ -1,4 +1,4 @@
--- Workers that are done, and how their reports are put in order.
+-- Gathered: workers that are done, and how their reports get into the order of the jobs.
 use Rattle.std.specs.List.{AllByRecursion}
 use Rattle.std.specs.Prelude.{◌≡◌, ◌<◌, ◌+◌, ℕ, List, [], ◌∷◌, ◌++◌, ⊤, All, Some, length, slice_get, slice_set}
 use Rattle.am_model.specs.declared.notice.Report.{Report}

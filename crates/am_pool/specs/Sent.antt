@@ -1,4 +1,4 @@
--- What a pool sends, and when it sends nothing.
+-- Sent: what a pool sends, and the causes for which it sends nothing.
 use Rattle.std.specs.Prelude.{◌≡◌, ◌+◌, ◌==◌, ℕ, ◌||◌, nat_lt, List, [], ◌∷◌, ⊤, length, Option, None, Some, slice_get, sum_by}
 use Rattle.std.specs.Prelude.{count_by, if◌then◌else◌}
 use Rattle.am_model.specs.declared.notice.Report.{Report}

@@ -1,4 +1,4 @@
--- The tries of a courier.
+-- Tries: the attempts of a courier, as contracts see them.
 use Rattle.std.specs.Prelude.{ℕ, List, map}
 use Rattle.am_model.specs.Notice.{NoticeData}
 use Rattle.am_retry.specs.Attempts.{Try}

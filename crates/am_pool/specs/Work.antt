@@ -1,4 +1,4 @@
--- What a worker and its courier did.
+-- Work: what a worker and its courier did.
 use Rattle.std.specs.Prelude.{◌≡◌, ◌<◌, ◌≤◌, ℕ, false, List, [], ◌∷◌, ◌++◌, length, map, Some, slice_get, vec_len, vec_capacity}
 use Rattle.atomic_table.specs.Seated.{TableId}
 use Rattle.am_alerts.specs.declared.limits.TheConstants.{MAX_MOMENT}

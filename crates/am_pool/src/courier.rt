@@ -1,4 +1,4 @@
-//! Who makes the attempts.
+//! `Courier`: who makes the attempts. Embedders implement it, `deliver` calls it.
 ghost use Rattle.std.specs.Prelude.{◌≡◌, ℕ, ◌+◌, List, [], ◌∷◌, ◌++◌, IfOk, OnOk, OnErr};
 ghost use Rattle.am_pool.specs.Tries.{tried};
 ghost use Rattle.am_pool.specs.declared.courier.Tried.{Tried};
@@ -7,7 +7,7 @@ use am_board::notice::Notice;
 use am_retry::Answer;
 use std::alloc::AllocError;
 
-/// How an attempt went.
+/// The result of one attempt.
 #[derive(Clone, Copy, Debug, PartialEq, Eq)]
 pub struct Sent {
     pub answer: Answer,
@@ -15,10 +15,10 @@ pub struct Sent {
     pub ended: u64,
 }
 
-/// An attempt that was made.
+/// One attempt that was made, as contracts see it.
 #[derive(Clone, Copy, Debug, PartialEq, Eq)]
 pub struct Tried {
-    /// The id of the notice's desk.
+    /// The id of the notice's board or desk.
     pub desk: u64,
     /// The number of the notice's flush.
     pub ticket: u64,
@@ -26,7 +26,7 @@ pub struct Tried {
     pub integration: u32,
     /// Its number among the attempts of its notice, from 1.
     pub attempt: u64,
-    /// Its moment.
+    /// Its time, in milliseconds.
     pub at: u64,
     pub answer: Answer,
     /// The end that the courier told.
@@ -35,15 +35,18 @@ pub struct Tried {
 
 /// Makes attempts to send notices.
 ///
-/// Contracts see the list of its tries and the number of its refusals. A courier of a program keeps
-/// both in a [`crate::AttemptTrace`], which takes no memory.
+/// Contracts see the list of its attempts and the number of its refusals. A courier of a program
+/// keeps both in a [`crate::AttemptTrace`], which takes no memory.
 pub trait Courier {
     ghost tries: { Self → List Tried };
 
     ghost refusals: { Self → ℕ };
 
-    /// Makes the attempt of this number to send a notice, at this moment. A refusal, for want of
-    /// memory, sends nothing.
+    /// Makes attempt number `attempt` (from 1) to send a notice, at the time `at` (milliseconds).
+    ///
+    /// # Errors
+    ///
+    /// `AllocError`: out of memory. Nothing is sent then.
     fn send(&mut self, notice: &Notice, attempt: u64, at: u64) -> Result<Sent, AllocError>
         ensures sent { IfOk result (λ sent. tries self.new ≡ tries self.old ++ tried notice.now attempt at sent ∷ []) }
         ensures willing { OnOk result (refusals self.new ≡ refusals self.old) }
@@ -52,7 +55,7 @@ pub trait Courier {
 }
 
 impl Tried {
-    /// The attempt of this number to send a notice, at this moment, which went so.
+    /// Returns the attempt of this number to send a notice, at this time, with this result.
     pub fn new(notice: &Notice, attempt: u64, at: u64, sent: &Sent) -> Tried
         ensures { result ≡ tried notice.now attempt at sent.now }
     {

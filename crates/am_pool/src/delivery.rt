@@ -1,4 +1,4 @@
-//! The delivery of one notice.
+//! The delivery of one notice. Embedders, `am_rehearsal` and the pool's workers call `deliver`.
 ghost use Rattle.std.specs.Prelude.{◌≡◌, ◌≤◌, false};
 ghost use Rattle.am_alerts.specs.declared.limits.TheConstants.{MAX_MOMENT};
 ghost use Rattle.am_model.specs.Notice.{is_nothing};
@@ -8,10 +8,13 @@ use crate::Courier;
 use am_board::notice::{Notice, Report};
 use am_retry::{Outcome, Retry, Step};
 
-/// Sends a notice that has something to send by a courier, from `start` on, which is at most 10^15.
+/// Sends a notice by a courier and returns the report.
 ///
-/// The attempts are those of the retry machine up to the notice's deadline. Where the courier
-/// refuses one, which it does for want of memory, the outcome is Starved.
+/// The notice has something to send. The attempts are those of the retry machine, from `start`
+/// (milliseconds, at most 10^15) up to the notice's deadline (`notify.RetryStage`). Where the
+/// courier refuses one, for memory, the outcome is Starved.
+///
+/// Never allocates itself. Cost: the attempts, at most one for each half second up to the deadline.
 pub fn deliver<C: Courier>(courier: &mut C, notice: &Notice, start: u64) -> Report
     requires something { is_nothing notice.now ≡ false }
     requires start { start ≤ MAX_MOMENT }

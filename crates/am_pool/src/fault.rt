@@ -1,11 +1,11 @@
-//! Why jobs aren't sent.
+//! Why jobs aren't sent. `run_jobs` returns it.
 ghost use Rattle.std.specs.Prelude.{◌≡◌};
 ghost use Rattle.am_pool.specs.declared.fault.PoolFault.TheVariants as pool_fault;
 
 use std::alloc::AllocError;
 use thiserror::Error;
 
-/// Why no job was sent; in the order `BadWorkers`, `TooManyJobs`, `NoMemory`.
+/// Why no job was sent; checked in the order `BadWorkers`, `TooManyJobs`, `NoMemory`.
 #[derive(Clone, Copy, Debug, PartialEq, Eq, Error)]
 pub enum PoolFault {
     #[error("out of memory")]

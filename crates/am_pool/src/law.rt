@@ -1,4 +1,4 @@
-//! The law of the queue, and the limits and the fault's numbers, each as it is meant.
+//! The law of the queue, the limits and the faults' numbers, which verifiers read.
 ghost use Rattle.am_pool.specs.Dealt.{DealsEachOnce};
 ghost use Rattle.am_pool.specs.Laws.{LimitsAre, PoolFaultsAre};
 
@@ -10,18 +10,19 @@ const POOL_FAULTS: [(PoolFault, u8); 3] = [
     (PoolFault::BadWorkers, PoolFault::BadWorkers as u8),
 ];
 
-/// What the rule of the queue says at every step of `run_jobs`, whatever the schedule: each number
-/// that was put stands once in what the workers took and what is left, and no other number does.
+/// States that each number that was put is once among the taken and the remaining, and no other is.
+///
+/// So says the rule of the queue at every step of `run_jobs`, whatever the schedule.
 pub fn queue_deals_each_number_once()
     ensures { DealsEachOnce }
 {}
 
-/// How many workers and jobs there may be.
+/// States how many workers and jobs a pool can have.
 pub fn limits_are()
     ensures { LimitsAre }
 {}
 
-/// Which number each fault has.
+/// States the number of each fault.
 pub fn fault_numbers_are()
     ensures { PoolFaultsAre }
 {}

@@ -1,8 +1,8 @@
-//! The sending of notices: what a courier is, how one notice is delivered by it, and how workers in
-//! threads share many.
+//! The sending of notices: `Courier`, `deliver` for one notice, `run_jobs` for many in threads.
+//! Embedders, `am_rehearsal` and `am_play` call it.
 //!
-//! A courier makes the attempts; when there is another one, and how they end, is the retry machine's
-//! to say. All moments are in milliseconds.
+//! A courier makes the attempts. `am_retry` says when there is another one and how they end. All
+//! times are in milliseconds.
 #![tactic(auto)]
 
 mod courier;

@@ -1,4 +1,17 @@
-//! The pool: its workers share the jobs, each with a courier and in a thread of its own.
+//! The pool: `run_jobs` lets workers share the jobs, each with a courier and in a thread of its
+//! own. Embedders and `am_play` call it.
+//!
+//! All memory comes first: the list of reports, the queue, and a worker for each courier. A worker
+//! has capacity for the report of every job, since it can run them all. `fill` puts the numbers of
+//! the jobs into the queue before the first pass is split off, so a worker that finds no number is
+//! done. `staff` splits off a pass for each worker, and `work_all` runs them. When all threads are
+//! joined, `gather` brings the passes together and puts the reports into their places.
+//!
+//! The pass that has all parts works once more, with the first courier. It finds no number, and
+//! only a take of its own can prove that each was taken once. So no branch is needed for a job
+//! without a report. The places hold Starved reports from the start, and that none of these is left
+//! follows as well. `DidWork` says what each courier did, by its worker's list. `Shared` says that
+//! each job was run once and has its report in its place.
 ghost use Rattle.std.specs.Prelude.{◌≡◌, ◌<◌, ◌≤◌, ◌+◌, ◌-◌, ℕ, [], None, All, IfOk, OnOk, IfErr, OnErr, length, vec_capacity};
 ghost use denote.Param.Send.{IsSync, IsSend};
 ghost use Rattle.crossbeam_queue.specs.Passes.{view, IsPassOf};
@@ -20,16 +33,22 @@ use std::alloc::{AllocError, Global};
 use std::sync::Wait;
 use std::thread::{Threads, join_mut};
 
-/// Sends the notice of each job once, by one of the couriers, each of which works in a thread of its
-/// own, and returns the reports in the order of the jobs.
+/// Sends the notice of each job once, and returns the reports in the order of the jobs.
 ///
-/// Which courier takes which job depends on the schedule. A job is run as `deliver` runs it, whole
-/// by one courier, and so it asks for what `deliver` asks for: the notice has something to send, and
-/// the start is at most 10^15. Where a thread can't be made, its worker runs on the thread that
-/// would have started it.
+/// Each courier works in a thread of its own. Which one takes which job depends on the schedule;
+/// each job is run by one courier, as `deliver` runs it. Each notice has something to send, and
+/// each start is at most 10^15. A worker whose thread can't be made runs on the thread that would
+/// have started it.
 ///
-/// Nothing was sent where this is refused: first `BadWorkers` (no courier, or more than 8), then
-/// `TooManyJobs` (more than 1,024), then `NoMemory`. Without jobs the list of reports is empty.
+/// # Errors
+///
+/// In this order, and then nothing was sent:
+/// - `BadWorkers`: no courier, or more than 8.
+/// - `TooManyJobs`: more than 1,024.
+/// - `NoMemory`. All memory is allocated before the first attempt, at most 1 MB.
+///
+/// Cost: the deliveries, shared by the couriers; a push and a pop for each job, and a pop more for
+/// each courier.
 pub fn run_jobs<R: Threads + Wait + Sync, C: Courier + Send>(
     rt: &R,
     alloc: Global,
@@ -123,7 +142,7 @@ fn work_first<R: Wait, C: Courier>(
     work(rt, queue, jobs, worker, courier);
 }
 
-/// What stands in the places of the reports until they come.
+/// Returns the reports that fill the places until the real ones come.
 fn unsent(alloc: Global, jobs: &[Job<'_>]) -> Result<Vec<Report>, AllocError>
     ensures { IfOk result (λ reports. length reports.items ≡ length jobs.now) }
 {
@@ -142,7 +161,7 @@ fn unsent(alloc: Global, jobs: &[Job<'_>]) -> Result<Vec<Report>, AllocError>
     Ok(reports)
 }
 
-/// Room for so many reports with their numbers.
+/// Returns a list with capacity for so many reports and their numbers.
 fn room(alloc: Global, count: usize) -> Result<Vec<(usize, Report)>, AllocError>
     ensures empty { IfOk result (λ done. done.items ≡ []) }
     ensures room { IfOk result (λ done. count ≤ vec_capacity done) }

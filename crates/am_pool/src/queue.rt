@@ -1,5 +1,9 @@
-//! The queue of job numbers, under a rule: what the workers took and what is left is what was put,
-//! each number once.
+//! The queue of job numbers, under a rule. `pool` fills it, `worker` takes from it.
+//!
+//! Each put, take, split and join keeps the rule (`Dealt`), whatever the other threads do. By the
+//! rule the numbers below one are gone, each into the list of one pass. The others are in the
+//! queue, in order. A pass has parts of the right to know all. Whoever has every part and finds the
+//! queue empty knows that each number was taken once.
 ghost use Rattle.std.specs.Prelude.{◌≡◌, ◌+◌, ◌-◌, ◌<◌, [], ◌∷◌, ◌++◌, length, IfSome, IfNone, IfOk};
 ghost use Rattle.crossbeam_queue.specs.Passes.{view, IsPassOf, ruled_capacity};
 ghost use Rattle.am_pool.specs.declared.limits.TheConstants.{ALL_PARTS};
@@ -11,15 +15,17 @@ use std::alloc::{AllocError, Global};
 use std::collections::LinkedList;
 use std::sync::Wait;
 
-/// What a pass of the queue knows: its parts of the right to know all, how many numbers were put,
-/// and which of them it took, in order. It exists in proofs alone.
+/// What a pass of the queue knows, in proofs alone.
+///
+/// Its parts of the right to know all, how many numbers were put, and which of them it took, in
+/// order.
 pub struct Hand {
     pub parts: u64,
     pub put: u64,
     pub taken: LinkedList<usize>,
 }
 
-/// The rule of the queue.
+/// The rule of the queue, `Dealt`.
 pub struct Dealing;
 
 impl Protocol<usize, Hand> for Dealing {
@@ -32,7 +38,7 @@ impl Protocol<usize, Hand> for Dealing {
     ghost first = { hand ALL_PARTS 0 [] };
 }
 
-/// A worker's pass is split off the filler's, and comes back.
+/// The split of a worker's pass off the filler's, and its join.
 pub struct Cut;
 
 impl Split<Hand> for Cut {
@@ -53,7 +59,7 @@ impl Join<Hand> for Cut {
     ghost spent = { hand 0 0 [] };
 }
 
-/// The next number is put.
+/// The step that puts the next number.
 pub struct Puts;
 
 impl Outcome<usize, Hand> for Puts {
@@ -69,7 +75,7 @@ impl Lesson<usize, Hand> for Puts {
     ghost fact = { λ v items. length items ≤ v.put };
 }
 
-/// The front number is taken.
+/// The step that takes the front number.
 pub struct Takes;
 
 impl Outcome<usize, Hand> for Takes {
@@ -84,13 +90,13 @@ impl Lesson<usize, Hand> for Takes {
     ghost fact = { Told };
 }
 
-/// The numbers of the jobs that no worker took yet.
+/// The numbers of the jobs that no worker has taken.
 pub type JobQueue = RuledArrayQueue<usize, Hand, Dealing>;
 
-/// Lets its holder put numbers into the queue, or take them.
+/// The right to put numbers into the queue and to take them.
 pub type JobPass = Pass<usize, Hand>;
 
-/// A queue with the numbers below `count`, of which there is one at least, and the filler's pass.
+/// Returns a queue with the numbers below `count`, which isn't 0, and the filler's pass.
 pub fn fill<R: Wait>(rt: &R, alloc: Global, count: usize) -> Result<(JobQueue, JobPass), AllocError>
     requires { 0 < count }
     ensures { IfOk result (λ q. IsPassOf q.0 q.1 × (view q.1 ≡ hand ALL_PARTS count [])) }
@@ -102,7 +108,7 @@ pub fn fill<R: Wait>(rt: &R, alloc: Global, count: usize) -> Result<(JobQueue, J
     Ok((queue, pass))
 }
 
-/// Puts the next number; there is room for it.
+/// Puts the next number. The queue has capacity for it.
 fn put<R: Wait>(rt: &R, queue: &JobQueue, pass: &mut JobPass, number: usize)
     requires pass { IsPassOf queue.now pass.old }
     requires whole { ((view pass.old).parts ≡ ALL_PARTS) × ((view pass.old).put ≡ number) }
@@ -116,7 +122,7 @@ fn put<R: Wait>(rt: &R, queue: &JobQueue, pass: &mut JobPass, number: usize)
     }
 }
 
-/// A worker's pass.
+/// Returns a worker's pass, split off the filler's.
 pub fn split(queue: &JobQueue, pass: &mut JobPass) -> JobPass
     requires { IsPassOf queue.now pass.old × (1 < (view pass.old).parts) }
     ensures passes { IsPassOf queue.now pass.new × IsPassOf queue.now result }
@@ -126,7 +132,7 @@ pub fn split(queue: &JobQueue, pass: &mut JobPass) -> JobPass
     queue.another::<Cut>(pass)
 }
 
-/// A worker's pass comes back.
+/// Joins a worker's pass into the filler's.
 pub fn absorb(queue: &JobQueue, pass: &mut JobPass, other: JobPass)
     requires passes { IsPassOf queue.now pass.old × IsPassOf queue.now other }
     requires parts { (0 < (view pass.old).parts) × (0 < (view other).parts) }
@@ -137,7 +143,9 @@ pub fn absorb(queue: &JobQueue, pass: &mut JobPass, other: JobPass)
     queue.absorb::<Cut>(pass, other);
 }
 
-/// Takes the next number. Where there is none, whoever has every part knows that it took each once.
+/// Takes the next number, if there is one.
+///
+/// Clause `none`: where there is none, a pass with every part knows that each was taken once.
 pub fn take<R: Wait>(rt: &R, queue: &JobQueue, pass: &mut JobPass) -> Option<usize>
     requires { IsPassOf queue.now pass.old × (0 < (view pass.old).parts) }
     ensures pass { IsPassOf queue.now pass.new }

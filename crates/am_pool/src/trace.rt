@@ -1,4 +1,4 @@
-//! What a courier did, in proofs alone.
+//! `AttemptTrace`: what a courier did, in proofs alone. Couriers keep one.
 ghost use Rattle.std.specs.Prelude.{◌≡◌, ◌+◌, [], ◌∷◌, ◌++◌};
 
 use crate::Tried;
@@ -6,8 +6,7 @@ use am_ghost::GhostList;
 use std::alloc::AllocError;
 use std::marker::Model;
 
-/// The tries of a courier, and how many attempts it refused. They exist in proofs alone: a trace
-/// takes no memory.
+/// The attempts of a courier, and how many it refused. It takes no memory.
 #[derive(Drop)]
 pub struct AttemptTrace {
     tries: GhostList<Tried>,
@@ -24,7 +23,7 @@ impl Model for AttemptTrace {
 }
 
 impl AttemptTrace {
-    /// The trace of a courier that did nothing yet.
+    /// Returns the trace of a courier that did nothing yet.
     pub fn new() -> AttemptTrace
         ensures tries { result.tries ≡ [] }
         ensures refusals { result.refusals ≡ 0 }
@@ -35,7 +34,7 @@ impl AttemptTrace {
         }
     }
 
-    /// Adds a try.
+    /// Adds an attempt. Does nothing at run time.
     pub fn add_try(&mut self, tried: &Tried)
         ensures tries { self.new.tries ≡ self.old.tries ++ tried.now ∷ [] }
         ensures refusals { self.new.refusals ≡ self.old.refusals }
@@ -43,7 +42,7 @@ impl AttemptTrace {
         self.tries.add(tried);
     }
 
-    /// Counts one more refusal.
+    /// Counts one more refusal. Does nothing at run time.
     pub fn add_refusal(&mut self)
         ensures tries { self.new.tries ≡ self.old.tries }
         ensures refusals { self.new.refusals ≡ self.old.refusals + 1 }

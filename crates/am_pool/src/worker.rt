@@ -1,4 +1,5 @@
-//! A worker: it takes job numbers until there are none, and its courier runs their jobs.
+//! A worker: it takes job numbers until there are none, and its courier runs their jobs. `pool`
+//! calls it.
 ghost use Rattle.std.specs.Prelude.{◌≡◌, ◌<◌, ◌≤◌, ◌++◌, ◌∷◌, [], All, length, vec_len, vec_capacity};
 ghost use Rattle.crossbeam_queue.specs.Passes.{view, IsPassOf};
 ghost use Rattle.am_pool.specs.Work.{IsReady, DidWork, HasRoom, OneMoreRan};
@@ -8,18 +9,19 @@ use crate::{Courier, deliver};
 use am_board::notice::{Notice, Report};
 use std::sync::Wait;
 
-/// A notice that is to be sent, from a moment on (milliseconds).
+/// A notice to be sent from a time on (milliseconds).
 #[derive(Clone, Copy, Debug)]
 pub struct Job<'a> {
     pub notice: &'a Notice,
     pub start: u64,
 }
 
-/// A worker: its pass of the queue, and what it did.
+/// A worker: its pass of the queue, and the reports on the jobs that it ran.
 #[derive(Drop)]
 pub struct Worker {
     pub(crate) pass: JobPass,
-    /// The numbers of the jobs that were run, with their reports. There is room for one of each job.
+    /// The numbers of the jobs that it ran, with their reports. It has capacity for one of each
+    /// job.
     pub(crate) done: Vec<(usize, Report)>,
 }
 

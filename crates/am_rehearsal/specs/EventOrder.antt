@@ -1,4 +1,4 @@
--- Happened: what the events of a rehearsal tell of its begins.
+-- EventOrder: what the events of a rehearsal say of its begins.
 use Rattle.std.specs.Prelude.{ℕ, List, Option, Some, None}
 use Rattle.std.specs.List.{filter_map}
 use Rattle.am_rehearsal.specs.declared.event.Event.{Event}

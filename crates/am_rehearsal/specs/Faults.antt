@@ -1,4 +1,4 @@
--- Faults: why a rehearsal isn't played, of which there is no board.
+-- Faults: why a rehearsal doesn't run to its end.
 use Rattle.am_model.specs.declared.fault.BoardFault.{BoardFault}
 use Rattle.am_model.specs.declared.fault.BoardFault.TheVariants as board
 use Rattle.am_rehearsal.specs.declared.play.PlayFault.{PlayFault}

@@ -1,4 +1,4 @@
--- Planned: what a history has of what is planned, and of the clock.
+-- Planned: what a history has of the planned actions, and of the clock.
 use Rattle.std.specs.Prelude.{ℕ, nat_le, List, [], ◌∷◌, ◌++◌, Option, Some, None, if◌then◌else◌}
 use Rattle.std.specs.List.{filter_map}
 use Rattle.am_model.specs.declared.config.Config.{Config}

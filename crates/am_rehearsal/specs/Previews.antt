@@ -1,4 +1,4 @@
--- Told: what each begin of a history was to do, told from the records before it.
+-- Previews: what each begin of a history was to do, by the records before it.
 use Rattle.std.specs.Prelude.{ℕ, Bool, true, false, List, [], ◌∷◌, ◌++◌, length, Option, Some, None}
 use Rattle.am_model.specs.declared.config.Config.{Config}
 use Rattle.am_model.specs.declared.preview.Preview.{Preview}

@@ -1,4 +1,4 @@
-//! A courier that answers as the outages say.
+//! A courier that answers as the outages say. `sending` sends by it.
 use crate::rehearsal::Outage;
 use am_board::config::Config;
 use am_board::notice::Notice;
@@ -6,8 +6,9 @@ use am_pool::{AttemptTrace, Courier, Sent, Tried};
 use am_retry::Answer;
 use std::alloc::AllocError;
 
-/// Answers each attempt as the first outage says that holds for it, or, where there is none, that it
-/// was done at once. It never refuses one.
+/// A courier that answers each attempt by the first outage that covers it, and else done at once.
+///
+/// It never refuses an attempt.
 #[derive(Drop)]
 pub(crate) struct OutageCourier<'o> {
     config: &'o Config,
@@ -46,7 +47,7 @@ impl<'o> OutageCourier<'o> {
 }
 
 impl Outage {
-    /// Whether it holds for an attempt at `at` to send to this integration of this receiver.
+    /// Returns whether it covers an attempt at `at` for this integration of this receiver.
     fn holds(&self, receiver: &str, integration: u32, at: u64) -> bool {
         let is_asked = match self.integration {
             None => true,

@@ -1,22 +1,21 @@
-//! What a played rehearsal tells.
+//! What a rehearsal that ran returns, with its board. `am_timeline` shows it.
 use am_board::notice::Report;
 use am_board::preview::Preview;
 
-/// A begin that took a group, with what it was to do.
+/// A begin that took a group, with its preview.
 #[derive(Debug, Drop)]
 pub struct PreviewedBegin {
-    /// The place of the begin's record in the history.
+    /// The position of the begin's record in the history.
     pub place: usize,
-    /// What it was to do, and why, told before it was made.
+    /// What it was to do, and why. It was computed before the begin.
     pub preview: Preview,
 }
 
-/// Something that happened, in the order in which it did.
+/// One event of a rehearsal.
 #[derive(Clone, Copy, Debug)]
 pub enum Event {
-    /// A begin took a group: the one at this place among the told begins.
+    /// The begin at this position among the previewed begins took a group.
     Begun { begin: usize },
-    /// The sending of a notice came to its end. Its flush was opened by the begin at this place among
-    /// the told begins.
+    /// The sending of a notice ended. The begin at this position opened its flush.
     Sent { begin: usize, report: Report },
 }

@@ -1,7 +1,7 @@
-//! Rehearsals: alerts, silences and outages are played against a dispatcher on a clock, and what it
-//! did is told with the reasons.
+//! Rehearsals: alerts, silences and outages run against a board on a simulated clock, and what each
+//! begin was to do is kept. `am_rehearse` calls `play`.
 //!
-//! All moments are in milliseconds from the start of the rehearsal.
+//! All times are in milliseconds from the start of the rehearsal.
 #![tactic(auto)]
 
 mod courier;

@@ -1,7 +1,15 @@
-//! The clock of a rehearsal.
+//! The clock of a rehearsal. `am_rehearse` calls `play`.
 //!
-//! At one moment the ends of sendings come first, then alerts and silences, then maintenance, then
-//! the begins. All of it are calls of a board: nothing is decided here but when they are made.
+//! `run_plans` goes over the planned actions in the order of their times. Before each, `run_before`
+//! does what comes first of: the next end of a sending, the next maintenance, the time at which the
+//! next group is due (`Board::next_due`). At one time the ends of sendings come first, then alerts
+//! and silences, then maintenance, then begins, so a begin sees everything of its time. All of
+//! these are calls of a board: this module decides only when they are made.
+//!
+//! Answers of outages depend on the time alone. So the notices of a flush are sent by `deliver` as
+//! soon as it is begun, and their reports wait until the clock comes to their ends. When as many
+//! flushes are open as the limit allows, groups stay due, and no begin is tried until a flush is
+//! finished.
 ghost use Rattle.std.specs.Prelude.{◌≡◌, ◌<◌, ◌≤◌, ◌∷◌, [], IfOk, IfSome, IsSome, None, length, vec_len, vec_capacity};
 ghost use Rattle.std.specs.List.{range_with_len};
 ghost use Rattle.am_alerts.specs.declared.limits.TheConstants.{MAX_MOMENT};
@@ -21,8 +29,7 @@ use am_board::fault::{BoardFault, Fault, NoteFault};
 use am_retry::Outcome;
 use std::alloc::{AllocError, Global};
 
-/// A rehearsal that was played to its end: its board, what each begin that took a group was to do,
-/// and what happened, in its order.
+/// A rehearsal that ran to its end: its board, the previews of its begins, and its events in order.
 #[derive(Drop)]
 pub struct Played {
     pub board: Board,
@@ -30,26 +37,35 @@ pub struct Played {
     pub events: Vec<Event>,
 }
 
-/// Why a rehearsal isn't played to its end.
+/// Why a rehearsal doesn't run to its end.
 #[derive(Clone, Copy, Debug, PartialEq, Eq)]
 pub enum PlayFault {
     /// Memory was refused.
     NoMemory,
     /// No dispatcher may have the configuration.
     BadConfig,
-    /// A limit leaves no room for the plan at this place.
+    /// A limit of the configuration leaves no capacity for the planned action at this position.
     PlanFull(usize),
-    /// The history has no room for what is begun or maintained until then.
+    /// The history has no capacity for the begins or maintenances until then.
     Full,
 }
 
-/// Plays a rehearsal. What is being sent at its end is sent to its own end.
+/// Runs a rehearsal to its end. Notices that are in flight then are sent to their own end.
 ///
-/// The inserts and silences of the history are those that are planned, in their order and at their
-/// moments, up to the first plan that is after the end. The reasons that are told of each begin are
-/// those that looking back over the history before it finds. The events tell of each begin that took a
-/// group, of each once and in their order. The board is one of the id `BOARD_ID`, of which
-/// `Board::history` tells that its history is legal.
+/// Clause `planned`: the inserts and silences of the history are the planned ones, in order and at
+/// their times, up to the first that is after the end. Clause `previews`: the reasons of each begin
+/// are those that the history before it gives. Clause `begun`: the events have each begin that took
+/// a group, once and in order. The board has the id `BOARD_ID`.
+///
+/// # Errors
+///
+/// The first of these on the way:
+/// - `BadConfig`: no board takes the configuration.
+/// - `PlanFull`: a limit leaves no capacity for a planned action.
+/// - `Full`: the history has no capacity for a begin or a maintenance.
+/// - `NoMemory`.
+///
+/// Cost: its board calls, with a preview for each begin, and at each event the notices in flight.
 pub fn play(alloc: Global, rehearsal: Rehearsal) -> Result<Played, PlayFault>
     ensures configured { IfOk result (λ played. played.board.config ≡ rehearsal.config) }
     ensures ours { IfOk result (λ played. played.board.id ≡ BOARD_ID) }
@@ -95,10 +111,10 @@ struct Course<'o> {
     maintain: u64,
     /// In the order of their begins.
     sendings: Vec<Sending>,
-    /// The moment that is played.
+    /// The current time.
     clock: u64,
     next_maintenance: u64,
-    /// Whether as many flushes are open as may be.
+    /// Whether the limit of open flushes is reached.
     is_blocked: bool,
     trouble: Option<PlayFault>,
 }
@@ -143,8 +159,7 @@ impl<'o> Course<'o> {
         }
     }
 
-    /// Plays what comes before what is planned at `at`: all that is before that moment, and the ends of
-    /// sendings at it.
+    /// Does what comes before `at`, and the ends of sendings at that time.
     fn run_before(&mut self, at: u64)
         requires { at ≤ MAX_MOMENT }
         ensures input_trace { input_trace self.new.board.board ≡ input_trace self.old.board.board }
@@ -177,7 +192,7 @@ impl<'o> Course<'o> {
         }
     }
 
-    /// What comes next, and when. At one moment ends come first, and begins last.
+    /// Returns what comes next, and when. At one time ends come first, and begins last.
     fn next(&self) -> Next {
         let mut next = Next {
             at: self.next_maintenance,
@@ -251,7 +266,7 @@ impl<'o> Course<'o> {
         });
     }
 
-    /// Begins flushes until no group is due, or as many are open as may be.
+    /// Begins flushes until no group is due, or the limit of open flushes is reached.
     fn begin_all(&mut self, at: u64)
         requires { at ≤ MAX_MOMENT }
         ensures { input_trace self.new.board.board ≡ input_trace self.old.board.board }
@@ -265,7 +280,7 @@ impl<'o> Course<'o> {
         }
     }
 
-    /// Begins a flush. Answers whether there may be more to begin.
+    /// Begins a flush. Returns whether a further begin can take a group.
     fn begin(&mut self, at: u64) -> bool
         requires { at ≤ MAX_MOMENT }
         ensures { input_trace self.new.board.board ≡ input_trace self.old.board.board }
@@ -311,8 +326,8 @@ impl<'o> Course<'o> {
         self.sendings.push_reserved(Sending { own, begin, ends });
     }
 
-    /// Tells the board of the ends of sendings that have come at `at`, and finishes the flushes of
-    /// which all have.
+    /// Hands the board the ends of sendings that have come at `at`, and finishes the flushes that
+    /// are over.
     fn tell_ends(&mut self, at: u64)
         ensures { input_trace self.new.board.board ≡ input_trace self.old.board.board }
     {
@@ -415,7 +430,7 @@ fn first_over(sendings: &[Sending]) -> Option<usize>
         .position(|sending| sending.next_end().is_none())
 }
 
-/// The first end of a notice that the board wasn't told of.
+/// Returns the first end of a notice that the board doesn't have, if there is one.
 fn first_end(sendings: &[Sending]) -> Option<u64> {
     let mut first: Option<u64> = None;
     for sending in sendings {
@@ -426,7 +441,7 @@ fn first_end(sendings: &[Sending]) -> Option<u64> {
     first
 }
 
-/// Tells the board of the ends of these sendings that have come at `at`.
+/// Hands the board the ends of these sendings that have come at `at`.
 fn tell_all(
     alloc: Global,
     board: &mut PreviewingBoard,
@@ -441,7 +456,7 @@ fn tell_all(
     Ok(())
 }
 
-/// Tells the board of the ends of a sending that have come at `at`.
+/// Hands the board the ends of a sending that have come at `at`.
 fn tell_ends_of(
     alloc: Global,
     board: &mut PreviewingBoard,

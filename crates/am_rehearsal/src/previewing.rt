@@ -1,4 +1,8 @@
-//! A board of which is kept what each of its begins was to do, and why, and what happened.
+//! A board that keeps what each of its begins was to do, and what happened. `play` calls it.
+//!
+//! `PreviewingBoard` asks for the preview before it begins. By its invariant the previews are those
+//! that the definitions give for its history (`Previews`). Each of these begins is once among the
+//! events, in order (`EventOrder`).
 ghost use Rattle.std.specs.Prelude.{◌≡◌, ◌≤◌, ◌+◌, ◌++◌, ◌∷◌, [], IfOk, vec_len, vec_capacity};
 ghost use Rattle.std.specs.List.{range_with_len};
 ghost use Rattle.am_board.specs.History.{reply_of, IsFresh};
@@ -46,7 +50,7 @@ pub(crate) struct OwnTicket {
 pub(crate) enum Taken {
     /// No group is due.
     Nothing,
-    /// A group was taken, and nobody is asked.
+    /// A group was taken, and no integration is notified.
     Quiet,
     /// A flush was opened.
     Flush(OwnTicket),
@@ -113,7 +117,8 @@ impl PreviewingBoard {
     }
 
     pub(crate) fn silence(&mut self, alloc: Global, now: u64, silence: Silence) -> Result<(), Fault>
-        ensures { IfOk result (λ _. input_trace self.new.board ≡ with_inputs (input_trace self.old.board) (call_of_silence now silence ∷ [])) }
+        ensures { IfOk result (λ _.
+            input_trace self.new.board ≡ with_inputs (input_trace self.old.board) (call_of_silence now silence ∷ [])) }
     {
         let _silenced = self.board.silence(alloc, PASS, now, silence)?;
         Ok(())

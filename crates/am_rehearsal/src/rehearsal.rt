@@ -1,4 +1,4 @@
-//! What is rehearsed.
+//! What a rehearsal is made of. `am_rehearse` makes one and hands it to `play`.
 ghost use Rattle.std.specs.Prelude.{◌≤◌};
 ghost use Rattle.am_rehearsal.specs.declared.limits.TheConstants.{MAX_UNTIL};
 
@@ -12,32 +12,32 @@ use am_retry::Answer;
 #[derive(Drop)]
 pub struct Rehearsal {
     pub config: Config,
-    /// The last moment at which something happens, but for the ends of what is being sent then; at
-    /// most `MAX_UNTIL`.
+    /// The last time at which something happens, except the ends of notices in flight; at most
+    /// `MAX_UNTIL`.
     pub until: u64,
-    /// How often maintenance is made; not zero.
+    /// The time between two maintenances, in milliseconds; not zero.
     pub maintain: u64,
-    /// In the order of their moments.
+    /// The planned actions, in the order of their times.
     pub plans: Vec<TimedAction>,
-    /// Of two that hold for one attempt the first counts.
+    /// The outages. If two cover an attempt, the first one answers.
     pub outages: Vec<Outage>,
     ghost ends: { until ≤ MAX_UNTIL },
     ghost goes_on: { 1 ≤ maintain },
 }
 
-/// Something that happens at a moment.
+/// An action and its time.
 #[derive(Debug, Drop)]
 pub struct TimedAction {
     pub at: u64,
     pub act: Action,
 }
 
-/// What happens.
+/// An alert or a silence that a rehearsal puts into its board.
 #[derive(Debug, Drop)]
 pub enum Action {
-    /// An alert comes, or comes again, as when it is resolved.
+    /// An alert is inserted, for the first time or again, as when it is resolved.
     Insert(Alert),
-    /// A silence is made.
+    /// A silence is set.
     Silence(Silence),
 }
 
@@ -46,13 +46,13 @@ pub enum Action {
 pub struct Outage {
     /// The name of the integration's receiver.
     pub receiver: Text,
-    /// Its position in the receiver; none stands for each of them.
+    /// Its position in the receiver; none means every integration.
     pub integration: Option<u32>,
-    /// From this moment on.
+    /// The first time that it covers.
     pub from: u64,
-    /// Before this moment; none is no end.
+    /// The first time that it no longer covers; none means that it has no end.
     pub to: Option<u64>,
     pub answer: Answer,
-    /// How long an attempt lasts, in milliseconds.
+    /// How long an attempt takes, in milliseconds.
     pub takes: u64,
 }

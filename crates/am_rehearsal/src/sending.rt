@@ -1,4 +1,5 @@
-//! The sending of a flush's notices.
+//! The notices in flight. `play` adds a `Sending` for each flush, and reports the ends to the
+//! board.
 ghost use Rattle.std.specs.Prelude.{◌≤◌};
 ghost use Rattle.am_alerts.specs.declared.limits.TheConstants.{MAX_MOMENT};
 
@@ -8,29 +9,28 @@ use am_board::ticket::Ticket;
 use am_pool::{Courier, deliver};
 use std::alloc::{AllocError, Global};
 
-/// A flush whose notices are being sent.
+/// A flush whose notices are in flight.
 pub(crate) struct Sending {
     pub(crate) own: OwnTicket,
-    /// The place of its begin among the told begins.
+    /// The position of its begin among the previewed begins.
     pub(crate) begin: usize,
-    /// What its notices come to, by place.
+    /// The ends of its notices, by place.
     pub(crate) ends: Vec<End>,
 }
 
 /// The end of the sending of a notice.
 #[derive(Clone, Copy, Debug)]
 pub(crate) struct End {
-    /// The moment, in milliseconds.
+    /// Its time, in milliseconds.
     pub(crate) at: u64,
     /// None where there is nothing to send.
     pub(crate) report: Option<Report>,
-    /// Whether the board was told.
+    /// Whether the board has it.
     pub(crate) is_told: bool,
 }
 
 impl Sending {
-    /// When the next of its notices comes to its end that the board wasn't told of; none where it was
-    /// told of all.
+    /// Returns the next end that the board doesn't have yet, if there is one.
     pub(crate) fn next_end(&self) -> Option<u64> {
         let mut next: Option<u64> = None;
         for end in self.ends.as_slice() {
@@ -42,7 +42,7 @@ impl Sending {
     }
 }
 
-/// The earlier of a moment and another, if there is another.
+/// Returns the earlier of a time and another, if there is another.
 pub(crate) fn earlier(at: u64, other: Option<u64>) -> u64 {
     match other {
         None => at,
@@ -50,7 +50,7 @@ pub(crate) fn earlier(at: u64, other: Option<u64>) -> u64 {
     }
 }
 
-/// How the notices of a ticket go that are sent from `start` on (milliseconds).
+/// Sends the notices of a ticket from `start` (milliseconds) on, and returns their ends.
 pub(crate) fn ends_of<C: Courier>(
     alloc: Global,
     courier: &mut C,

@@ -2,7 +2,7 @@
 use Rattle.std.proofs.Common.{◌≡◌, ◌++◌, ◌∙◌, ℕ, Bool, List, Option, Some, IsSomeAnd, ap, length, subst, sym}
 use Rattle.std.specs.List.{list_all, range_with_len}
 use Rattle.serde_json.specs.Data.{Data}
-use Rattle.serde_json.specs.Read.{read}
+use Rattle.am_yaml.specs.Document.{IsReadAs}
 use Rattle.am_board.specs.History.{BoardData}
 use Rattle.am_model.specs.Replay.{IsLegal}
 use Rattle.am_rehearsal.specs.EventOrder.{begin_indices}
@@ -17,6 +17,7 @@ use Rattle.am_timeline.specs.Playback.{PlaybackData}
 use Rattle.am_timeline.specs.TimeFormatData.{TimeFormatData}
 use Rattle.am_rehearse.specs.Request.{IsRequestIn, times_from}
 use Rattle.am_rehearse.specs.declared.input.Output.{Output}
+use Rattle.am_rehearse.specs.declared.input.Overrides.{Overrides}
 use Rattle.am_rehearse.specs.Printed.{WritesOutput, IsPrinted, IsOutputOfRun, IsOutputFor, playback_of}
 
 -- the playback of a board, with these begins
@@ -40,27 +41,27 @@ output_of_run-board output met text board begins events playback times expectati
       is = subst (λ (s : PlaybackData). IsPrinted output s times expectations text) same is;
     }
 
-pub answered : (met is_met : Bool) (given_before given taken_before taken input text : List ℕ)
-    → given ≡ given_before ++ input → IsOutputFor input is_met text → is_met ≡ met → taken ≡ taken_before ++ text
-    → WritesOutput met given_before given taken_before taken
-answered met is_met given_before given taken_before taken input text given_is is_told same taken_is =
+pub answered : (overrides : Overrides) (met is_met : Bool) (given_before given taken_before taken input text : List ℕ)
+    → given ≡ given_before ++ input → IsOutputFor overrides input is_met text → is_met ≡ met → taken ≡ taken_before ++ text
+    → WritesOutput overrides met given_before given taken_before taken
+answered overrides met is_met given_before given taken_before taken input text given_is is_told same taken_is =
     record {
       input = input;
       text = text;
       given_is = given_is;
-      told = subst (λ (b : Bool). IsOutputFor input b text) same is_told;
+      told = subst (λ (b : Bool). IsOutputFor overrides input b text) same is_told;
       taken_is = taken_is;
     }
 
--- what is told of a JSON text, by what its value asks for
-pub told_by : (input : List ℕ) (value : Data) (output : Output) (start : Option StartData) (expectations : List Expectation) (met : Bool) (text : List ℕ)
-    → read input ≡ Some value → IsRequestIn value output start expectations → IsOutputOfRun output (times_from start) expectations met text
-    → IsOutputFor input met text
-told_by input value output start expectations met text reads asked tale =
+-- what is told of a text, by what the value asks for that it is read as
+pub told_by : (overrides : Overrides) (input : List ℕ) (value : Data) (output : Output) (start : Option StartData) (expectations : List Expectation) (met : Bool) (text : List ℕ)
+    → IsReadAs input value → IsRequestIn overrides value output start expectations → IsOutputOfRun output (times_from start) expectations met text
+    → IsOutputFor overrides input met text
+told_by overrides input value output start expectations met text reads asked tale =
     record {
       output = output;
       start = start;
       expectations = expectations;
-      asked = subst (λ (o : Option Data). IsSomeAnd o (λ v. IsRequestIn v output start expectations)) (sym reads) asked;
+      asked = (value, reads, asked);
       tale = tale;
     }

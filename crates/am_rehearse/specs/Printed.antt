@@ -1,4 +1,4 @@
--- Printed: what is told of a rehearsal that was played.
+-- Printed: what is printed of a rehearsal that ran.
 use Rattle.std.specs.Prelude.{◌≡◌, ◌==◌, ℕ, Bool, List, [], ◌++◌, codes, length, Option, if◌then◌else◌}
 use Rattle.std.specs.List.{list_all, range_with_len}
 use Rattle.am_model.specs.declared.config.Config.{Config}
@@ -17,19 +17,24 @@ use Rattle.am_timeline.specs.Playback.{PlaybackData}
 use Rattle.am_timeline.specs.Table.{table_text}
 use Rattle.am_timeline.specs.Timeline.{timeline_text}
 use Rattle.am_timeline.specs.TimeFormatData.{TimeFormatData}
+use Rattle.am_timeline.specs.Undelivered.{undelivered_text}
 use Rattle.am_rehearse.specs.Request.{IsRequestBy, times_from}
 use Rattle.am_rehearse.specs.declared.input.Output.{Output}
+use Rattle.am_rehearse.specs.declared.input.Overrides.{Overrides}
 use Rattle.am_rehearse.specs.declared.input.Output.TheVariants.{Timeline, Notices, Json}
 
 -- what became of expectations, behind an empty line, if there are any
 abbrev pub expectations_section : PlaybackData → TimeFormatData → List Expectation → List ℕ
-expectations_section playback times expectations = if length expectations == 0 then [] else codes "\n" ++ expectations_text playback times 0 expectations
+expectations_section playback times expectations =
+    if length expectations == 0 then [] else codes "\n" ++ expectations_text playback times 0 expectations
 
--- the text is this output of a playback: the timeline, the table and what became of the expectations, or the notices alone. Of the JSON
--- nothing is said
+-- the text is this output of a playback: the timeline, the table, the alerts that no delivered notice has and what became of the
+-- expectations, or the notices alone. Of the JSON nothing is said
 abbrev pub IsPrinted : Output → PlaybackData → TimeFormatData → List Expectation → List ℕ → Type 0
 IsPrinted Timeline playback times expectations text =
-    text ≡ timeline_text playback times ++ table_text playback times ++ expectations_section playback times expectations
+    text
+    ≡ timeline_text playback times ++ table_text playback times ++ undelivered_text playback times
+    ++ expectations_section playback times expectations
 IsPrinted Notices playback times expectations text = text ≡ notices_text playback times
 IsPrinted Json playback times expectations text = Unit {0}
 
@@ -40,7 +45,8 @@ playback_of config history events =
 
 -- the text is this output of a rehearsal that was played, of which the history is legal, and of which each begin that took a group is told
 -- of once, in their order; `met` is whether it came as each of these expectations says
-pub record IsOutputOfRun (output : Output) (times : TimeFormatData) (expectations : List Expectation) (met : Bool) (text : List ℕ) : Type 0 where
+pub record IsOutputOfRun (output : Output) (times : TimeFormatData) (expectations : List Expectation) (met : Bool)
+    (text : List ℕ) : Type 0 where
   pub config : Config
   pub history : List Record
   pub events : List Event
@@ -50,18 +56,18 @@ pub record IsOutputOfRun (output : Output) (times : TimeFormatData) (expectation
   pub is : IsPrinted output (playback_of config history events) times expectations text
 
 -- the text is the output that these bytes ask for, of a rehearsal that was played, by the moments and the expectations that they ask for
-pub record IsOutputFor (input : List ℕ) (met : Bool) (text : List ℕ) : Type 0 where
+pub record IsOutputFor (overrides : Overrides) (input : List ℕ) (met : Bool) (text : List ℕ) : Type 0 where
   pub output : Output
   pub start : Option StartData
   pub expectations : List Expectation
-  pub asked : IsRequestBy input output start expectations
+  pub asked : IsRequestBy overrides input output start expectations
   pub tale : IsOutputOfRun output (times_from start) expectations met text
 
 -- of bytes that were given before and now, and of bytes that were taken before and now: what was taken since is the output that those that
 -- were given since ask for
-pub record WritesOutput (met : Bool) (given_before given taken_before taken : List ℕ) : Type 0 where
+pub record WritesOutput (overrides : Overrides) (met : Bool) (given_before given taken_before taken : List ℕ) : Type 0 where
   pub input : List ℕ
   pub text : List ℕ
   pub given_is : given ≡ given_before ++ input
-  pub told : IsOutputFor input met text
+  pub told : IsOutputFor overrides input met text
   pub taken_is : taken ≡ taken_before ++ text

@@ -1,16 +1,17 @@
--- Asked: what a rehearsal asks for.
+-- Request: what a rehearsal asks for.
 use Rattle.std.specs.Prelude.{◌≡◌, ℕ, List, codes, Option, Some, None, IsSomeAnd, if◌then◌else◌}
 use Rattle.std.specs.Option.{option_and_then}
 use Rattle.std.specs.Str.{bytes_eq}
 use Rattle.serde_json.specs.Data.{Data, Members}
 use Rattle.serde_json.specs.Find.{as_object, as_str, get_member}
-use Rattle.serde_json.specs.Read.{read}
 use Rattle.am_cli.specs.Read.{duration_in}
+use Rattle.am_yaml.specs.Document.{IsReadAs}
 use Rattle.am_timeline.specs.declared.expectation.Expectation.{Expectation}
 use Rattle.am_timeline.specs.UtcDates.{IsReadFrom, StartData, dated}
 use Rattle.am_timeline.specs.TimeFormatData.{TimeFormatData, counted}
 use Rattle.am_rehearse.specs.Expected.{AreExpectedIn}
 use Rattle.am_rehearse.specs.declared.input.Output.{Output}
+use Rattle.am_rehearse.specs.declared.input.Overrides.{Overrides}
 use Rattle.am_rehearse.specs.declared.input.Output.TheVariants.{Timeline, Notices, Json}
 
 -- the output of a name
@@ -23,6 +24,11 @@ output_named name =
 abbrev pub output_in : Option Data → Option Output
 output_in None = Some Timeline
 output_in (Some member) = option_and_then output_named (as_str member)
+
+-- the output that is printed: what the command line says, or else a member
+abbrev pub output_for : Option Output → Option Data → Option Output
+output_for (Some output) _ = Some output
+output_for None member = output_in member
 
 -- the start that a member tells, the moment that its text is read as; none, where it isn't there
 abbrev pub DecodesToStart : Option Data → Option StartData → Type 0
@@ -38,18 +44,26 @@ times_from (Some start) = dated start
 abbrev pub until_in : Members → Option ℕ
 until_in members = option_and_then duration_in (get_member (codes "until") members)
 
--- a rehearsal of these members asks for this output, tells this start and has these expectations
-pub record Requests (members : Members) (output : Output) (start : Option StartData) (expectations : List Expectation) : Type 0 where
-  pub tells : output_in (get_member (codes "output") members) ≡ Some output
+-- when it ends: as the command line says, or else a member
+abbrev pub end_for : Option ℕ → Members → Option ℕ
+end_for (Some until) _ = Some until
+end_for None members = until_in members
+
+-- a rehearsal of these members, with what the command line says in place of some, asks for this output, gives this start and has
+-- these expectations
+pub record Requests (overrides : Overrides) (members : Members) (output : Output) (start : Option StartData)
+    (expectations : List Expectation) : Type 0 where
+  pub tells : output_for overrides.output (get_member (codes "output") members) ≡ Some output
   pub starts : DecodesToStart (get_member (codes "start") members) start
-  pub expects : IsSomeAnd (until_in members) (λ until. AreExpectedIn until (get_member (codes "expect") members) expectations)
+  pub expects : IsSomeAnd (end_for overrides.until members)
+      (λ until. AreExpectedIn until (get_member (codes "expect") members) expectations)
 
 -- a JSON value is an object whose members ask for this
-abbrev pub IsRequestIn : Data → Output → Option StartData → List Expectation → Type 0
-IsRequestIn value output start expectations =
-    IsSomeAnd (as_object value) (λ members. Requests members output start expectations)
+abbrev pub IsRequestIn : Overrides → Data → Output → Option StartData → List Expectation → Type 0
+IsRequestIn overrides value output start expectations =
+    IsSomeAnd (as_object value) (λ members. Requests overrides members output start expectations)
 
--- these bytes are a JSON text of such a value
-abbrev pub IsRequestBy : List ℕ → Output → Option StartData → List Expectation → Type 0
-IsRequestBy input output start expectations =
-    IsSomeAnd (read input) (λ value. IsRequestIn value output start expectations)
+-- these bytes are read as such a value, which is that of a JSON text where they are one
+abbrev pub IsRequestBy : Overrides → List ℕ → Output → Option StartData → List Expectation → Type 0
+IsRequestBy overrides input output start expectations =
+    (value : Data) × IsReadAs input value × IsRequestIn overrides value output start expectations

@@ -1,7 +1,9 @@
-//! Why a rehearsal ends without its timeline, or with an expectation that isn't met.
-use am_cli::fault::{FaultKind, InputFault, ParseFault};
+//! Why a rehearsal ends without its output, or with an expectation that isn't met. `main` ends with
+//! its status.
+use am_cli::fault::{FaultKind, InputFault};
 use am_cli::transfer::{ReadFault, Unwritable};
 use am_config::faults::{Faults, Refusal};
+use am_yaml::document::DocumentFault;
 use thiserror::Error;
 
 /// Why the program ends with a status that isn't 0.
@@ -10,11 +12,10 @@ pub enum RehearseFault {
     /// A read failed, or the input has more than 16,777,216 bytes.
     #[error("am-rehearse: input not readable")]
     Unreadable,
-    /// The input is no JSON text in UTF-8, at this line and column.
-    #[error("am-rehearse: rehearsal refused: not JSON at line {line}, column {column}")]
-    NotJson {
-        line: usize,
-        column: usize,
+    /// The input is neither JSON nor YAML.
+    #[error("am-rehearse: rehearsal refused: {fault}")]
+    NotRead {
+        fault: DocumentFault,
     },
     /// The rehearsal is refused; the place is a JSON pointer.
     #[error("am-rehearse: rehearsal refused at {place}: {fault_kind}")]
@@ -48,7 +49,7 @@ impl RehearseFault {
     {
         match self {
             RehearseFault::Unreadable => 1,
-            RehearseFault::NotJson { .. }
+            RehearseFault::NotRead { .. }
             | RehearseFault::Refused { .. }
             | RehearseFault::AllRefused { .. } => 2,
             RehearseFault::NoMemory => 3,
@@ -58,16 +59,16 @@ impl RehearseFault {
     }
 }
 
-impl From<ParseFault> for RehearseFault {
+impl From<DocumentFault> for RehearseFault {
     ghost use Rattle.std.specs.Prelude.{◌≡◌};
-    ghost use Rattle.am_rehearse.specs.Faults.{fault_of_parse};
+    ghost use Rattle.am_rehearse.specs.Faults.{fault_of_document};
 
-    ghost from_gives = { λ of_parse fault. fault ≡ fault_of_parse of_parse };
+    ghost from_gives = { λ of_document fault. fault ≡ fault_of_document of_document };
 
-    fn from(fault: ParseFault) -> RehearseFault {
+    fn from(fault: DocumentFault) -> RehearseFault {
         match fault {
-            ParseFault::NotJson { line, column } => RehearseFault::NotJson { line, column },
-            ParseFault::NoMemory => RehearseFault::NoMemory,
+            DocumentFault::NoMemory => RehearseFault::NoMemory,
+            fault => RehearseFault::NotRead { fault },
         }
     }
 }

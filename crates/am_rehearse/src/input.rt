@@ -1,13 +1,20 @@
-//! What a rehearsal is made of, and how it is read.
+//! What a rehearsal asks for, and how it is read, in the strict dialect of `am_cli`. `run` calls
+//! it.
+//!
+//! The inserts of each span and the silences are planned in the order of their times, each with the
+//! pointer of its value. An alert's span is two inserts: one without an end at its start, one with
+//! its end at that time, as Prometheus sends them. The configuration is `am_cli`'s, or
+//! Alertmanager's own (`configured`), whose faults are all reported; of the rest the first fault
+//! is. Contracts say by definitions over the JSON value's fields what was read for `output`,
+//! `start` and `expect` (`Request`, `Expected`).
 ghost use Rattle.std.specs.Prelude.{◌≡◌, ◌≤◌, IfOk, Some, codes};
 ghost use Rattle.std.specs.Result.{result_ok};
 ghost use Rattle.serde_json.specs.Find.{get_member};
 ghost use Rattle.serde_json.specs.View.{members_view, view};
 ghost use Rattle.am_rehearsal.specs.declared.limits.TheConstants.{MAX_UNTIL};
-ghost use Rattle.am_rehearse.specs.Request.{Requests, IsRequestIn, output_in, until_in};
+ghost use Rattle.am_rehearse.specs.Request.{Requests, IsRequestIn, end_for, output_for};
 
 use crate::input::alert::AlertItem;
-use crate::input::configured::read_configured;
 use crate::input::expectation::read_expectations;
 use crate::input::outage::OutageItem;
 use crate::input::silence::SilenceItem;
@@ -29,6 +36,7 @@ use std::alloc::Global;
 mod alert;
 mod configured;
 mod expectation;
+mod faults;
 mod moment;
 mod origin;
 mod outage;
@@ -37,6 +45,8 @@ mod silence;
 mod span;
 mod target;
 
+pub use configured::{Configured, read_configured, read_own, read_theirs};
+pub use faults::{ReceiversOf, story_faults};
 pub use origin::Origin;
 
 /// How often maintenance is made, where the rehearsal doesn't say: every 15 minutes, in milliseconds.
@@ -81,35 +91,51 @@ pub enum Output {
     Json,
 }
 
+/// What the command line says in place of a story's own output and end.
+#[derive(Clone, Copy, Debug, PartialEq, Eq)]
+pub struct Overrides {
+    pub output: Option<Output>,
+    pub until: Option<u64>,
+}
+
+/// What stands in place of parts of a story.
+#[derive(Drop)]
+pub struct Changes {
+    pub config: Option<Configured>,
+    pub overrides: Overrides,
+}
+
 /// Reads a whole rehearsal. The first fault in the order of reading is answered; of Alertmanager's
 /// configuration all faults.
-pub fn read_input(alloc: Global, value: &Value) -> Result<Input, Refusal>
-    ensures { IfOk result (λ input. IsRequestIn (view value.now) input.output input.start input.expectations.items) }
+pub fn read_input(alloc: Global, value: &Value, changes: Changes) -> Result<Input, Refusal>
+    ensures { IfOk result (λ input. IsRequestIn changes.overrides (view value.now) input.output input.start input.expectations.items) }
 {
     let reader = Reader::strict(alloc, value);
     let top = reader.object()?;
     top.only(&MEMBERS)?;
-    let (config, dropped) = read_configured(&top)?;
-    read_planned(&top, config, dropped).map_err(Refusal::One)
+    let Changes { config, overrides } = changes;
+    let configured = read_configured(&top, config)?;
+    read_planned(&top, configured, overrides).map_err(Refusal::One)
 }
 
 /// Reads what is planned against a configuration.
 fn read_planned(
     top: &Object<'_, '_>,
-    config: Config,
-    dropped: IgnoredSettings,
+    configured: Configured,
+    overrides: Overrides,
 ) -> Result<Input, InputFault>
     ensures { IfOk result (λ input.
-        Requests (members_view top.now.members) input.output input.start input.expectations.items) }
+        Requests overrides (members_view top.now.members) input.output input.start input.expectations.items) }
 {
+    let Configured { config, ignored } = configured;
     let start = moment::start(top)?;
-    let until = read_until(top)?;
+    let until = read_until(top, overrides.until)?;
     let alerts = top.list_or_none::<AlertItem>("alerts")?;
     let silences = top.list_or_none::<SilenceItem>("silences")?;
     let maintain = interval_or(top, "maintain", MAINTAIN)?;
     let outages = read_outages(top, &config)?;
     let expectations = read_expectations(top, &config, until)?;
-    let output = read_output(top)?;
+    let output = read_output(top, overrides.output)?;
     let (plans, origins) = planned::in_order(top.alloc(), alerts, silences)?;
     let rehearsal = Rehearsal {
         config,
@@ -124,21 +150,35 @@ fn read_planned(
         start,
         expectations,
         output,
-        dropped,
+        dropped: ignored,
     })
 }
 
-/// The last moment; `Value` above `MAX_UNTIL`.
-fn read_until(top: &Object<'_, '_>) -> Result<u64, InputFault>
-    ensures until { IfOk result (λ until. until_in (members_view top.now.members) ≡ Some until) }
+/// The last moment, as the command line says it, or else the member; `Value` above `MAX_UNTIL`.
+fn read_until(top: &Object<'_, '_>, asked: Option<u64>) -> Result<u64, InputFault>
+    ensures until { IfOk result (λ until. end_for asked (members_view top.now.members) ≡ Some until) }
     ensures most { IfOk result (λ until. until ≤ MAX_UNTIL) }
 {
-    let member = top.required("until")?;
-    let until = duration(&member)?;
+    let until = end_of(top, asked)?;
     if until > MAX_UNTIL {
-        return Err(member.refuse(FaultKind::BadValue));
+        let place = JsonPointer::Root;
+        return Err(
+            place
+                .member("until")
+                .refuse(top.alloc(), FaultKind::BadValue),
+        );
     }
     Ok(until)
+}
+
+/// The last moment, whichever it is.
+fn end_of(top: &Object<'_, '_>, asked: Option<u64>) -> Result<u64, InputFault>
+    ensures { IfOk result (λ until. end_for asked (members_view top.now.members) ≡ Some until) }
+{
+    match asked {
+        Some(until) => Ok(until),
+        None => duration(&top.required("until")?),
+    }
 }
 
 fn read_outages(top: &Object<'_, '_>, config: &Config) -> Result<Vec<Outage>, InputFault> {
@@ -161,10 +201,13 @@ fn read_outages(top: &Object<'_, '_>, config: &Config) -> Result<Vec<Outage>, In
     Ok(outages)
 }
 
-/// What is printed; the timeline, where it isn't said.
-fn read_output(top: &Object<'_, '_>) -> Result<Output, InputFault>
-    ensures { result_ok result ≡ output_in (get_member (codes "output") (members_view top.now.members)) }
+/// What is printed, as the command line says it, or else the member; the timeline, where it isn't said.
+fn read_output(top: &Object<'_, '_>, asked: Option<Output>) -> Result<Output, InputFault>
+    ensures { result_ok result ≡ output_for asked (get_member (codes "output") (members_view top.now.members)) }
 {
+    if let Some(output) = asked {
+        return Ok(output);
+    }
     let Some(member) = top.optional("output") else {
         return Ok(Output::Timeline);
     };

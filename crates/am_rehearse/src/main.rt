@@ -1,51 +1,139 @@
-//! `am-rehearse` plays alerts, silences and outages against a configuration on a clock, and tells
-//! which notice is sent when, to whom and why, and why another one isn't.
+//! `am-rehearse` runs alerts, silences and outages against a configuration on a simulated clock. It
+//! prints which notice is sent when, to whom and why, and why others aren't.
 //!
-//! It reads one rehearsal, as JSON, from standard input and writes what it tells to standard output.
-//! On a fault it prints one line to standard error, and ends with the fault's status. Where
-//! Alertmanager's configuration is refused it prints a line for each fault, and where something of it is
-//! dropped a line that says what.
+//! `am_command` reads its command line. Without any word it plays the story on standard input. It
+//! prints each fault to standard error, with file, line and column, and ends with the fault's status.
 #![tactic(auto)]
 
+mod bounds;
+mod commands;
+mod console;
 mod fault;
+mod files;
 mod input;
 mod run;
 
 use am_cli::device::{StandardInput, StandardOutput};
-use am_config::dropped::IgnoredSettings;
-use fault::RehearseFault;
-use run::run_rehearsal;
+use am_command::completions::completions;
+use am_command::manual::manual;
+use am_command::request::{Color, FaultFormat, PlayRequest, Request, Style, read_request};
+use clap::error::ErrorKind;
+use commands::check::check;
+use commands::json::json;
+use commands::play::play;
+use commands::routes::{RoutesRequest, routes};
+use console::{Console, NO_MEMORY, REJECTED};
+use files::PaintedOutput;
+use std::alloc::AllocError;
+use std::env;
+use std::io::{self, IsTerminal};
 use std::process::ExitCode;
 
 fn main(rt: HostRuntime) -> ExitCode {
-    let mut input = StandardInput::new(rt.stdin());
-    let mut output = StandardOutput::new(rt.stdout());
-    let mut dropped = IgnoredSettings::nothing();
-    let ended = run_rehearsal(rt.alloc(), &mut input, &mut output, &mut dropped);
-    if dropped.is_something() {
-        let _ = eprintln!(rt; "am-rehearse: dropped: {dropped}");
-    }
-    match ended {
-        Ok(()) => ExitCode::SUCCESS,
-        Err(fault) => {
-            tell(&rt, &fault);
-            ExitCode::from(fault.status())
+    ExitCode::from(serve(&rt))
+}
+
+/// Does what the command line asks for, and returns the status.
+fn serve(rt: &HostRuntime) -> u8 {
+    let words = match words_of(rt) {
+        Ok(words) => words,
+        Err(fault) if fault.kind() == io::ErrorKind::OutOfMemory => {
+            let _ = eprintln!(rt; "am-rehearse: no memory");
+            return NO_MEMORY;
+        }
+        Err(_) => {
+            let _ = eprintln!(rt; "am-rehearse: a word of the command line isn't UTF-8");
+            return REJECTED;
+        }
+    };
+    match read_request(rt.alloc(), words.as_slice()) {
+        Ok(request) => answer(rt, request),
+        Err(refused) => {
+            let _ = refused.print(rt);
+            match refused.kind() {
+                ErrorKind::DisplayHelp | ErrorKind::DisplayVersion => 0,
+                ErrorKind::OutOfMemory => NO_MEMORY,
+                _ => REJECTED,
+            }
         }
     }
 }
 
-/// Prints the line of a fault, or the lines of all that refuse Alertmanager's configuration.
-fn tell(rt: &impl Eprint, fault: &RehearseFault) {
-    match fault {
-        RehearseFault::AllRefused { faults } => {
-            for fault in faults.as_slice() {
-                let place = &fault.place;
-                let fault_kind = fault.fault_kind;
-                let _ = eprintln!(rt; "am-rehearse: rehearsal refused at {place}: {fault_kind}");
-            }
+/// Returns the words of the command line, the program's name first.
+fn words_of(rt: &HostRuntime) -> io::Result<Vec<String>> {
+    Ok(env::args(rt)?.collect(rt.alloc())?)
+}
+
+/// Does what is asked for, and returns the status.
+fn answer(rt: &HostRuntime, request: Request<'_>) -> u8 {
+    match request {
+        Request::Play(request) => {
+            let is_timeline = matches!(request.output, None | Some("timeline" | "notices"));
+            let mut console = console_for(rt, request.style, is_timeline);
+            play(rt, &mut console, request)
         }
-        fault => {
-            let _ = eprintln!(rt; "{fault}");
+        Request::Check { files, style } => {
+            check(rt, &mut console_for(rt, style, false), files.as_slice())
         }
+        Request::Routes {
+            file,
+            labels,
+            verify,
+            style,
+        } => {
+            let request = RoutesRequest {
+                file,
+                labels: labels.as_slice(),
+                verify,
+            };
+            routes(rt, &mut console_for(rt, style, false), request)
+        }
+        Request::Json { files, style } => {
+            json(rt, &mut console_for(rt, style, false), files.as_slice())
+        }
+        Request::Manual => print(rt, manual(rt.alloc())),
+        Request::Completions => print(rt, completions(rt.alloc())),
+    }
+}
+
+/// Prints a text that was made, and returns the status.
+fn print(rt: &HostRuntime, text: Result<String, AllocError>) -> u8 {
+    let style = Style {
+        color: Color::Never,
+        format: FaultFormat::Text,
+    };
+    let mut console = console_for(rt, style, false);
+    match text {
+        Ok(text) => console.print(rt, text.as_str()),
+        Err(_) => console.complain_of_memory(rt),
+    }
+}
+
+/// Returns the console of a command that prints in this style. Its output has colors if it `may_be_colored`.
+fn console_for(rt: &HostRuntime, style: Style, may_be_colored: bool) -> Console {
+    let stdout = rt.stdout();
+    let is_colored_output = may_be_colored && is_colored(rt, style.color, stdout.is_terminal());
+    Console {
+        input: StandardInput::new(rt.stdin()),
+        output: PaintedOutput::new(rt.alloc(), StandardOutput::new(stdout), is_colored_output),
+        format: style.format,
+        is_colored: is_colored(rt, style.color, rt.stderr().is_terminal()),
+    }
+}
+
+/// Returns whether colors are used: `auto` uses them in a terminal, unless `NO_COLOR` is set.
+fn is_colored(rt: &HostRuntime, color: Color, is_terminal: bool) -> bool {
+    match color {
+        Color::Always => true,
+        Color::Never => false,
+        Color::Auto => is_terminal && !is_set(rt, "NO_COLOR"),
+    }
+}
+
+/// Returns whether a variable of the environment has a value.
+fn is_set(rt: &HostRuntime, name: &str) -> bool {
+    match env::var(rt, name) {
+        Ok(value) => !value.is_empty(),
+        Err(_) => false,
     }
 }

@@ -1,4 +1,4 @@
-//! The run of a rehearsal, from its bytes to what it tells.
+//! The run of a rehearsal: reads the whole input, runs it, writes the output. `main` calls it.
 ghost use Rattle.std.specs.Prelude.{◌≡◌, ◌≢◌, ◌≤◌, ◌<◌, ◌+◌, ◌++◌, ◌⊎◌, ◌↔◌, List, ℕ, Some, false, true, length, string_bytes, vec_len};
 ghost use Rattle.std.specs.Prelude.{IfErr, IfOk, OnOk, option_and_then};
 ghost use Rattle.std.specs.List.{list_all, range_with_len};
@@ -12,13 +12,13 @@ ghost use Rattle.am_rehearse.specs.Printed.{WritesOutput, IsPrinted, IsOutputOfR
 ghost use Rattle.am_timeline.specs.Expectation.{is_met};
 ghost use Rattle.am_timeline.specs.Table.{table_text};
 ghost use Rattle.am_timeline.specs.Timeline.{timeline_text};
+ghost use Rattle.am_timeline.specs.Undelivered.{undelivered_text};
 
 use crate::fault::RehearseFault;
-use crate::input::{Input, Origin, Output, read_input};
+use crate::input::{Changes, Input, Origin, Output, read_input};
 use am_cli::device::{Sink, Source};
 use am_cli::fault::{FaultKind, InputFault};
 use am_cli::place::JsonPointer;
-use am_cli::reader::parse;
 use am_cli::transfer::{MAX_INPUT, read_all, write_all};
 use am_config::dropped::IgnoredSettings;
 use am_rehearsal::play::{PlayFault, Played, play};
@@ -30,7 +30,18 @@ use am_timeline::notices::notices_text;
 use am_timeline::playback::Playback;
 use am_timeline::table::table_text;
 use am_timeline::timeline::timeline_text;
+use am_timeline::undelivered::undelivered_text;
+use am_yaml::document::read_document;
 use std::alloc::{AllocError, Global};
+
+/// What a run tells beside its output.
+#[derive(Drop)]
+pub struct Report {
+    /// The input, once it was read whole.
+    pub text: Vec<u8>,
+    /// What of Alertmanager's configuration is ignored.
+    pub ignored: IgnoredSettings,
+}
 
 /// What is printed of a rehearsal.
 #[derive(Drop)]
@@ -40,23 +51,24 @@ struct Rendered {
     is_met: bool,
 }
 
-/// Reads a rehearsal from the source, plays it and writes what it tells to the sink: on `Ok` and on
-/// `Unmet`, once and whole, the output that the input asks for, of a legal history. It is `Ok` where
-/// every expectation of it is met, and `Unmet` where one isn't. Output, start and expectations are
-/// those that the JSON tells, but for the labels in an expectation's sets; of the configuration, the
-/// alerts, silences and outages and of maintenance it isn't said that they are the JSON's.
+/// Reads a rehearsal from the source, in JSON or YAML, plays it and writes its output to the sink: on `Ok` and on
+/// `Unmet`, once and whole, the output that is asked for, of a legal history. It is `Ok` where every expectation of
+/// it is met, and `Unmet` where one isn't. Output, start and expectations are those of the value that the input is
+/// read as, which is that of a JSON text where it is one, or those of `changes`; but for the labels in an
+/// expectation's sets. Of the configuration, the alerts, silences and outages and of maintenance it isn't said that
+/// they are the input's.
 ///
-/// An input is refused as `NotJson` only where it is none, and at a place only where it is the text of
-/// a JSON value; it was read whole before.
+/// An input is refused as `NotRead` only where it is no JSON text; it was read whole before.
 ///
-/// `dropped` is what of Alertmanager's configuration is dropped, once the rehearsal was read.
-/// It is made whole before its first byte is written: on every fault but `Unwritable` and `Unmet` the
+/// `report` has what was read, once all of it was, and what of Alertmanager's configuration is ignored.
+/// The output is made whole before its first byte is written: on every fault but `Unwritable` and `Unmet` the
 /// sink wasn't asked.
 pub fn run_rehearsal<S: Source, K: Sink>(
     alloc: Global,
     source: &mut S,
+    changes: Changes,
     sink: &mut K,
-    dropped: &mut IgnoredSettings,
+    report: &mut Report,
 ) -> Result<(), RehearseFault>
     ensures asked { S.asked source.new ≤ S.asked source.old + (MAX_INPUT + 1) }
     ensures unreadable { (result ≡ Err RehearseFault.Unreadable)
@@ -70,15 +82,17 @@ pub fn run_rehearsal<S: Source, K: Sink>(
     ensures ended_unmet { IfErr result (λ fault.
         fault ≡ RehearseFault.Unmet → S.ended source.new ≡ S.ended source.old + 1) }
     ensures met { OnOk result
-        (WritesOutput true (S.given source.old) (S.given source.new) (K.taken sink.old) (K.taken sink.new)) }
+        (WritesOutput changes.overrides true (S.given source.old) (S.given source.new) (K.taken sink.old) (K.taken sink.new)) }
     ensures unmet { IfErr result (λ fault. fault ≡ RehearseFault.Unmet →
-        WritesOutput false (S.given source.old) (S.given source.new) (K.taken sink.old) (K.taken sink.new)) }
+        WritesOutput changes.overrides false (S.given source.old) (S.given source.new) (K.taken sink.old) (K.taken sink.new)) }
     ensures refused { IfErr result (λ fault. status_of fault ≡ 2 → (input : List ℕ) × Refuses input fault
         × (S.given source.new ≡ S.given source.old ++ input)
         × (S.ended source.new ≡ S.ended source.old + 1)) }
 {
     let input = read_all(alloc, source)?;
-    let rendered = render(alloc, input.as_slice(), dropped)?;
+    let rendered = render(alloc, input.as_slice(), changes, &mut report.ignored);
+    report.text = input;
+    let rendered = rendered?;
     write_all(sink, rendered.text.as_bytes())?;
     if rendered.is_met {
         Ok(())
@@ -105,14 +119,15 @@ fn refused(alloc: Global, fault: PlayFault, origins: &[Origin]) -> InputFault {
 fn render(
     alloc: Global,
     input: &[u8],
-    dropped: &mut IgnoredSettings,
+    changes: Changes,
+    ignored: &mut IgnoredSettings,
 ) -> Result<Rendered, RehearseFault>
-    ensures told { IfOk result (λ rendered. IsOutputFor input.now rendered.is_met (string_bytes rendered.text)) }
+    ensures told { IfOk result (λ rendered. IsOutputFor changes.overrides input.now rendered.is_met (string_bytes rendered.text)) }
     ensures refused { IfErr result (Refuses input.now) }
 {
-    let value = parse(alloc, input)?;
-    let input = read_input(alloc, &value)?;
-    *dropped = input.dropped;
+    let value = read_document(alloc, input)?;
+    let input = read_input(alloc, &value, changes)?;
+    *ignored = input.dropped;
     Ok(play_and_render(alloc, input)?)
 }
 
@@ -192,7 +207,8 @@ fn printed<C: TimeFormat>(
     }
 }
 
-/// The timeline, the table of the receivers and what became of the expectations.
+/// The timeline, the table of the receivers, the alerts that no delivered notice has, and what became of the
+/// expectations.
 fn timeline<C: TimeFormat>(
     alloc: Global,
     playback: &Playback<'_>,
@@ -200,11 +216,14 @@ fn timeline<C: TimeFormat>(
     expectations: &[Expectation],
 ) -> Result<String, AllocError>
     ensures { IfOk result (λ text. string_bytes text ≡ timeline_text playback.now (C.times clock.now)
-        ++ table_text playback.now (C.times clock.now) ++ expectations_section playback.now (C.times clock.now) expectations.now) }
+        ++ table_text playback.now (C.times clock.now) ++ undelivered_text playback.now (C.times clock.now)
+        ++ expectations_section playback.now (C.times clock.now) expectations.now) }
 {
     let mut text = timeline_text(alloc, playback, clock)?;
     let table = table_text(alloc, playback, clock)?;
     text.push_str(table.as_str())?;
+    let undelivered = undelivered_text(alloc, playback, clock)?;
+    text.push_str(undelivered.as_str())?;
     push_judged(alloc, playback, clock, expectations, &mut text)?;
     Ok(text)
 }

@@ -1,4 +1,9 @@
-//! The text of the report.
+//! The text of the report. `am_play` calls `report_text`.
+//!
+//! `nothing` goes by what a notice has, not by what was reported. A notice with something to send
+//! of which nothing was reported would be `unreported`, and no run that succeeds has one. Cost: for
+//! each flush all reports and the records up to its finish, and for each notice the outcomes and
+//! reports of its flush.
 ghost use Rattle.std.specs.Prelude.{◌≡◌, ◌++◌, ◌≤◌, ◌↔◌, ℕ, codes, decimal, length, IfOk, IsTrue, OnOk, string_bytes};
 ghost use Rattle.std.specs.List.{flat_map, join_by};
 ghost use Rattle.std.specs.Option.{option_copied};

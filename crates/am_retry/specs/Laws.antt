@@ -30,7 +30,8 @@ abbrev pub WaitsExactly : Type 0
 WaitsExactly =
     (start deadline attempts ended at : ℕ) (responses : List Response)
     → (run start deadline responses ≡ record { deadline = deadline; attempts = attempts; ended = ended; step = Attempt at })
-    ↔ (HasOutcome start deadline responses Starved × (attempts ≡ length responses) × (ended ≡ end_after start responses) × (at ≡ attempt_after start responses))
+    ↔ (HasOutcome start deadline responses Starved × (attempts ≡ length responses) × (ended ≡ end_after start responses)
+    × (at ≡ attempt_after start responses))
 
 -- another attempt may follow exactly when no front of the answers has an outcome
 abbrev pub GoesOnExactly : Type 0
@@ -50,7 +51,8 @@ abbrev pub OneMoreTry : Type 0
 OneMoreTry =
     (start : ℕ) (responses : List Response) (t : Response)
     → tries_of start (responses ++ t ∷ [])
-    ≡ tries_of start responses ++ record { attempt = length responses + 1; at = attempt_after start responses; answer = t.answer; ended = t.ended } ∷ []
+    ≡ tries_of start responses
+    ++ record { attempt = length responses + 1; at = attempt_after start responses; answer = t.answer; ended = t.ended } ∷ []
 
 -- an end counts as 10^15 + 10^12 ms at most; the first wait is half a second, and the longest a minute
 abbrev pub LimitsAre : Type 0

@@ -1,7 +1,7 @@
-//! `am-run` plays a scenario of alerts through the dispatcher and reports what was sent.
+//! `am-run` runs a scenario of alerts through the dispatcher and reports what was sent.
 //!
-//! It reads one scenario, as JSON, from standard input and writes its report to standard output.
-//! On a fault it prints one line to standard error, and ends with the fault's status.
+//! It reads one scenario, as JSON, from standard input and writes its report to standard output. On
+//! a fault it prints one line to standard error, and ends with the fault's status.
 #![tactic(auto)]
 
 use am_cli::device::{StandardInput, StandardOutput};

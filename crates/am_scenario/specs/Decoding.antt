@@ -68,8 +68,10 @@ HasNone name members = get_member name members ≡ None
 
 -- an object that tells one call
 abbrev pub IsCall : Dialect → Members → LaneCall → Type 0
-IsCall dialect members (Insert alert) = Has (DecodesToAlert dialect) (codes "insert") members alert × HasNone (codes "silence") members × HasNone (codes "maintain") members
-IsCall dialect members (Silence silence) = Has (DecodesToSilence dialect) (codes "silence") members silence × HasNone (codes "insert") members × HasNone (codes "maintain") members
+IsCall dialect members (Insert alert) = Has (DecodesToAlert dialect) (codes "insert") members alert
+    × HasNone (codes "silence") members × HasNone (codes "maintain") members
+IsCall dialect members (Silence silence) = Has (DecodesToSilence dialect) (codes "silence") members silence
+    × HasNone (codes "insert") members × HasNone (codes "maintain") members
 IsCall dialect members Maintain = HasNone (codes "insert") members × HasNone (codes "silence") members
     × (value : Data) × (get_member (codes "maintain") members ≡ Some value)
 

@@ -1,6 +1,6 @@
-//! Scenarios: what they are, and how they are read from JSON.
+//! Scenarios of `am-run`: what they are, and how they are read from JSON. `am_play` runs them.
 //!
-//! All moments are in milliseconds.
+//! All times are in milliseconds. What a JSON value decodes to is defined in specs/Decoding.antt.
 #![tactic(auto)]
 
 pub mod scenario;

@@ -1,3 +1,5 @@
 pub mod Showing
 pub mod Rows
 pub mod Days
+pub mod Known
+pub mod Tables

@@ -1,4 +1,4 @@
--- Expectation: what was expected of a rehearsal, and whether it came so.
+-- Expectation: what is expected of a rehearsal, and whether it is met.
 use Rattle.std.specs.Prelude.{Bool, true, false, not, ◌&&◌, ◌==◌, nat_le, List, Option}
 use Rattle.std.specs.List.{list_all, list_any}
 use Rattle.std.specs.Option.{option_map_or}

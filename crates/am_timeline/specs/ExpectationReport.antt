@@ -1,4 +1,4 @@
--- ExpectationReport: what became of expectations, as text.
+-- ExpectationReport: the text on each expectation.
 use Rattle.std.specs.Prelude.{ℕ, ◌+◌, List, [], ◌∷◌, ◌++◌, codes, decimal, find, Option, Some, None, if◌then◌else◌}
 use Rattle.std.specs.List.{flat_map, list_any}
 use Rattle.std.specs.Option.{option_map_or}

@@ -5,6 +5,7 @@ pub mod Timeline
 pub mod Notices
 pub mod Table
 pub mod Expectation
+pub mod Undelivered
 pub mod ExpectationReport
 pub mod UtcDates
 pub mod Rows

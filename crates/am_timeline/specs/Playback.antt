@@ -1,4 +1,4 @@
--- Playback: a rehearsal that was played, and what is told of the notices that were sent in it.
+-- Playback: a rehearsal that ran, and the notices that were sent in it.
 use Rattle.std.specs.Prelude.{ℕ, ◌+◌, Bool, true, false, ◌==◌, List, [], drop, find, Option, Some, None, slice_get}
 use Rattle.std.specs.Option.{option_and_then, option_map, option_map_or}
 use Rattle.am_retry.specs.declared.outcome.Outcome.{Outcome}

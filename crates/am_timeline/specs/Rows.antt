@@ -1,4 +1,4 @@
--- Rows: texts that were worked out by hand.
+-- Rows: texts that were computed by hand.
 use Rattle.std.specs.Prelude.{◌≡◌, ◌∷◌, [], codes}
 use Rattle.am_timeline.specs.UtcDates.{StartData, dated_text}
 use Rattle.am_timeline.specs.Shown.{text_shown}

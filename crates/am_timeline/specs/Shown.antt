@@ -1,4 +1,4 @@
--- Shown: texts and label sets with nothing in them that a terminal would take for a command.
+-- Shown: texts and label sets without characters that a terminal would take as a command.
 use Rattle.std.specs.Prelude.{ℕ, ◌+◌, ◌/◌, ◌%◌, Bool, ◌&&◌, ◌||◌, ◌==◌, nat_lt, nat_le, List, [], ◌∷◌, ◌++◌, codes, if◌then◌else◌}
 use Rattle.std.specs.Char.{encode_utf8}
 use Rattle.std.specs.List.{flat_map, join_by}

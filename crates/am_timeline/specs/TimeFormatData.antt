@@ -1,4 +1,4 @@
--- TimeFormatData: how moments are shown.
+-- TimeFormatData: how times are shown.
 use Rattle.std.specs.Prelude.{ℕ, ◌-◌, ◌/◌, ◌%◌, ◌==◌, nat_lt, List, [], ◌++◌, length, codes, decimal, replicate, if◌then◌else◌}
 
 -- the text of each moment, and how wide their column is

@@ -189,7 +189,8 @@ is_sent_nothing notices position = option_map_or is_nothing (notice_for position
 abbrev pub quiet_line : Config → TimeFormatData → Preview → List NoticeData → ℕ → Reason → List ℕ
 quiet_line config times o notices position reason =
     if asks reason
-    then (if is_sent_nothing notices position then not_sent_line config times o position (codes "all resolved, which it isn't sent") else [])
+    then (if is_sent_nothing notices position
+    then not_sent_line config times o position (codes "all resolved, which it isn't sent") else [])
     else not_sent_line config times o position (reason_text times reason)
 
 -- the integrations from a position on, at a begin

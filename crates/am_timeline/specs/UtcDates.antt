@@ -1,4 +1,4 @@
--- UtcDates: moments as dates with times of day, in UTC (RFC 3339).
+-- UtcDates: times as dates with times of day, in UTC (RFC 3339).
 use Rattle.std.specs.Prelude.{ℕ, zero, suc, ◌+◌, ◌/◌, ◌%◌, Bool, not, ◌&&◌, ◌||◌, ◌==◌, nat_lt, List, [], ◌++◌, codes, if◌then◌else◌}
 use Rattle.std.specs.Prelude.{◌≡◌, ◌*◌, pos, Ok}
 use Rattle.jiff.specs.Words.{civil_nanos, parse_timestamp}

@@ -1,8 +1,11 @@
-//! The lines on begins: which alerts are muted, and who is told nothing.
+//! The lines on begins: the muted alerts, and the integrations that aren't notified. `timeline`
+//! calls it.
 ghost use Rattle.std.specs.Prelude.{◌≡◌, ◌++◌, OnOk, string_bytes};
 ghost use Rattle.std.specs.List.{list_all};
-ghost use Rattle.am_timeline.specs.Timeline.{asked_lines, begun_lines, is_left, is_sent_nothing, nothing_left_line, nothing_left_text, muted_line};
-ghost use Rattle.am_timeline.specs.Timeline.{nothing_left, quiet_line, quiet_lines, reason_text, no_integrations_line, not_sent_line, not_sent_text};
+ghost use Rattle.am_timeline.specs.Timeline.{asked_lines, begun_lines, is_left};
+ghost use Rattle.am_timeline.specs.Timeline.{is_sent_nothing, nothing_left_line, nothing_left_text, muted_line};
+ghost use Rattle.am_timeline.specs.Timeline.{nothing_left, quiet_line, quiet_lines};
+ghost use Rattle.am_timeline.specs.Timeline.{reason_text, no_integrations_line, not_sent_line, not_sent_text};
 
 use crate::clock::TimeFormat;
 use crate::groups::{push_group, push_group_receiver, push_target};
@@ -16,7 +19,8 @@ use am_board::reason::Reason;
 use am_rehearsal::event::PreviewedBegin;
 use std::alloc::AllocError;
 
-/// Adds the lines on a begin: which alerts are muted, and who is told nothing.
+/// Adds the lines on a begin: the muted alerts, and each integration that isn't notified, with its
+/// reason.
 pub(crate) fn push_begun<C: TimeFormat>(
     playback: &Playback,
     clock: &C,
@@ -34,7 +38,7 @@ pub(crate) fn push_begun<C: TimeFormat>(
     push_asked(playback.config, clock, &begin.preview, notices, out)
 }
 
-/// Whether nothing is left of a group, as the reasons of its receiver's integrations say.
+/// Returns whether nothing is left of a group, by the reasons of its receiver's integrations.
 pub(crate) fn nothing_left(reasons: &[Reason]) -> bool
     ensures { result ≡ nothing_left reasons.now }
 {
@@ -210,7 +214,7 @@ fn push_untold_front<C: TimeFormat>(
     out.push_str(": ")
 }
 
-/// Whether an integration is asked though there is nothing to send.
+/// Returns whether an integration needs an update, but its notice has nothing to send.
 pub(crate) fn is_sent_nothing(notices: &[Notice], position: usize) -> bool
     ensures { result ≡ is_sent_nothing notices.now position }
 {
@@ -220,7 +224,7 @@ pub(crate) fn is_sent_nothing(notices: &[Notice], position: usize) -> bool
     }
 }
 
-/// Adds the line on a group's receiver that is told nothing, and why.
+/// Adds the line on a group whose receiver isn't notified, and why.
 fn push_unasked<C: TimeFormat>(
     config: &Config,
     clock: &C,

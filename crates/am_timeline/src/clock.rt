@@ -1,27 +1,27 @@
-//! How moments are shown.
+//! `TimeFormat`: how times are shown. Every text of this crate is generic over it. `am_rehearse`
+//! picks `Elapsed` or `UtcDates`.
 ghost use Rattle.std.specs.Prelude.{◌≡◌, ◌++◌, ◌<◌, ◌≤◌, OnOk, codes, decimal, replicate, string_bytes};
 ghost use Rattle.am_timeline.specs.TimeFormatData.{column, counted, counted_text, fraction_text, three_digits, two_digits};
 
 use std::alloc::AllocError;
 
-/// Shows moments, which are in milliseconds from the start of a rehearsal.
+/// Shows times, which are in milliseconds from the start of a rehearsal.
 pub trait TimeFormat {
     ghost use Rattle.std.specs.Prelude.{◌≡◌, ◌++◌, OnOk, string_bytes};
     ghost use Rattle.am_timeline.specs.TimeFormatData.{TimeFormatData};
 
     ghost times: { Self → TimeFormatData };
 
-    /// Adds the text of a moment.
+    /// Adds the text of a time.
     fn push_moment(&self, at: u64, out: &mut String) -> Result<(), AllocError>
         ensures { OnOk result (string_bytes out.new ≡ string_bytes out.old ++ (times self.now).text at) };
 
-    /// How many characters wide the column of the moments is.
+    /// Returns the width of the column of times, in characters.
     fn width(&self) -> usize
         ensures { result ≡ (times self.now).width };
 }
 
-/// Shows moments as they are counted from the start: `00:05:30`, or `00:05:30.001`, with as many hours
-/// as there are.
+/// The format of times since the start: `00:05:30` or `00:05:30.001`, with as many hours as needed.
 #[derive(Clone, Copy, Debug, Drop)]
 pub struct Elapsed;
 
@@ -84,7 +84,7 @@ pub(crate) fn push_number(number: u64, out: &mut String) -> Result<(), AllocErro
     write!(out, "{number}")
 }
 
-/// Adds a moment in its column.
+/// Adds a time in its column.
 pub(crate) fn push_column<C: TimeFormat>(
     clock: &C,
     at: u64,

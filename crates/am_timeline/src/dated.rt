@@ -1,4 +1,4 @@
-//! Moments as dates with times of day, in UTC.
+//! Times as dates with times of day, in UTC. `am_rehearse` reads `start` by it.
 ghost use Rattle.std.specs.Prelude.{◌≡◌, ◌+◌, ◌*◌, ◌^◌, ◌<◌, ◌≤◌, ◌++◌, ◌/◌, IfSome, OnOk, string_bytes};
 ghost use Rattle.am_timeline.specs.UtcDates.{day_after, day_at, day_text, days_in_month, four_digits, is_leap_year, next_day};
 ghost use Rattle.am_timeline.specs.UtcDates.{IsReadFrom, IsStartAt, behind_midnight, dated, instant_text, time_at};
@@ -10,18 +10,17 @@ use jiff::tz::Offset;
 use std::alloc::AllocError;
 use std::marker::Model;
 
-/// How many milliseconds a day has.
+/// The milliseconds of a day.
 const DAY: u64 = 86_400_000;
 
-/// The last year in which a rehearsal may start.
+/// The last year in which a rehearsal can start.
 const LAST_YEAR: u64 = 9_999;
 
-/// Shows moments by their dates, as `2026-11-23T00:00:30Z` or `2026-11-23T00:00:30.345Z` (RFC 3339, in
-/// UTC).
+/// The format of dates in UTC: `2026-11-23T00:00:30Z` or `2026-11-23T00:00:30.345Z` (RFC 3339).
 #[derive(Debug, Drop)]
 pub struct UtcDates {
     day: Day,
-    /// How many milliseconds of that day are over at the start.
+    /// The milliseconds of that day before the start.
     milliseconds: u64,
 }
 
@@ -53,9 +52,10 @@ impl Model for Day {
 }
 
 impl UtcDates {
-    /// Reads when a rehearsal starts, as `2026-11-23T00:00:00Z` or `2026-11-23T01:00:00+01:00` (RFC 3339);
-    /// what is less than a millisecond doesn't count. None where it isn't a moment of the years 0 to 9999
-    /// of UTC.
+    /// Returns the format of a rehearsal that starts at this time, if the text is one.
+    ///
+    /// That is a time as `2026-11-23T00:00:00Z` or `2026-11-23T01:00:00+01:00` (RFC 3339), in the
+    /// years 0 to 9999 of UTC. Parts of a millisecond are dropped.
     pub fn read(text: &str) -> Option<UtcDates>
         ensures { IfSome result (IsReadFrom text.now) }
     {

@@ -1,8 +1,10 @@
-//! What is expected of a rehearsal, and whether it came so.
+//! Expectations, and whether a rehearsal meets them. `am_rehearse` reads them, and ends with status
+//! 5 if one isn't met. Cost: for each expectation, that of the timeline.
 ghost use Rattle.std.specs.Prelude.{◌≡◌, ◌==◌, option_copied, true};
 ghost use Rattle.std.specs.List.{list_all, list_any};
 ghost use Rattle.std.specs.Option.{option_map_or};
-ghost use Rattle.am_timeline.specs.Expectation.{are_as_wanted, is_satisfied, has_set, have_just, is_listed, is_in_scope, ends_in_scope, is_met};
+ghost use Rattle.am_timeline.specs.Expectation.{are_as_wanted, is_satisfied, has_set, have_just};
+ghost use Rattle.am_timeline.specs.Expectation.{is_listed, is_in_scope, ends_in_scope, is_met};
 ghost use Rattle.am_timeline.specs.Expectation.{is_wanted, is_wanted_by};
 ghost use Rattle.am_timeline.specs.Table.{is_for};
 
@@ -16,28 +18,28 @@ use am_alerts::text::Text;
 use am_board::config::Config;
 use am_rehearsal::event::Event;
 
-/// What is expected of the notices of a span. A notice has the moment at which its sending ended; only
-/// those count that were delivered.
+/// An expectation about the delivered notices of a span.
+///
+/// The time of a notice is the end of its sending.
 #[derive(Debug, Drop)]
 pub struct Expectation {
-    /// From this moment on, in milliseconds.
+    /// The first time of the span, in milliseconds.
     pub from: u64,
-    /// Up to this moment, in milliseconds; it belongs to the span.
+    /// The last time of the span, in milliseconds.
     pub to: u64,
-    /// The name of the receiver; none stands for each.
+    /// The name of the receiver; none means every receiver.
     pub receiver: Option<Text>,
-    /// The position of the integration in its receiver; none stands for each.
+    /// The position of the integration in its receiver; none means every integration.
     pub integration: Option<u32>,
     pub wanted: Wanted,
 }
 
-/// What is wanted.
+/// What an expectation wants.
 #[derive(Debug, Drop)]
 pub enum Wanted {
-    /// That there is no notice.
+    /// No notice is in scope.
     NoNotice,
-    /// That there is a notice which tells just these label sets, in whatever order; of what isn't said,
-    /// whatever it tells.
+    /// A notice in scope has exactly these label sets, in any order; none means any label sets.
     Notice {
         firing: Option<Sequence<Labels>>,
         resolved: Option<Sequence<Labels>>,
@@ -45,7 +47,7 @@ pub enum Wanted {
 }
 
 impl Expectation {
-    /// Whether it came so in a rehearsal.
+    /// Returns whether a rehearsal that ran meets this expectation.
     pub fn is_met(&self, playback: &Playback) -> bool
         ensures { result ≡ is_met playback.now self.now }
     {
@@ -57,7 +59,7 @@ impl Expectation {
         }
     }
 
-    /// Whether there is a notice that is meant.
+    /// Returns whether a notice is in scope.
     pub(crate) fn has_in_scope(&self, playback: &Playback) -> bool
         ensures { result ≡ list_any (ends_in_scope playback.now self.now) playback.now.events }
     {
@@ -116,7 +118,7 @@ impl Expectation {
         }
     }
 
-    /// Whether it speaks of a notice.
+    /// Returns whether a delivered notice is in scope, by its time, receiver and integration.
     pub(crate) fn is_in_scope(&self, config: &Config, sent: &Sent) -> bool
         ensures { result ≡ is_in_scope config.now self.now sent.now }
     {

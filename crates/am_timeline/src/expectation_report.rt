@@ -1,9 +1,10 @@
-//! What became of expectations.
+//! The report on expectations. `am_rehearse` prints it.
 ghost use Rattle.std.specs.Prelude.{◌≡◌, ◌++◌, IfOk, OnOk, codes, option_copied, string_bytes};
 ghost use Rattle.std.specs.List.{flat_map};
 ghost use Rattle.am_timeline.specs.Expectation.{is_met};
 ghost use Rattle.am_timeline.specs.ExpectationReport.{about_text, expected_line, getter_text, got_alerts_text, got_at_text, got_by};
-ghost use Rattle.am_timeline.specs.ExpectationReport.{got_if_meant, got_line, got_text, judged_text, expectations_text, kind_of, listed_text};
+ghost use Rattle.am_timeline.specs.ExpectationReport.{got_if_meant, got_line, got_text};
+ghost use Rattle.am_timeline.specs.ExpectationReport.{judged_text, expectations_text, kind_of, listed_text};
 ghost use Rattle.am_timeline.specs.ExpectationReport.{resolved_word, span_text, to_tell_text, wanted_text};
 ghost use Rattle.am_timeline.specs.Shown.{set_shown};
 
@@ -22,8 +23,9 @@ use am_board::notice::Notice;
 use am_rehearsal::event::Event;
 use std::alloc::{AllocError, Global};
 
-/// What became of each of these expectations, by number from 0 on: that it was met, or that it wasn't,
-/// and then what was expected and which notices came that it speaks of.
+/// Returns a line for each expectation, by number from 0: met or not.
+///
+/// One that isn't met is followed by what was expected, and by the notices in scope.
 pub fn expectations_text<C: TimeFormat>(
     alloc: Global,
     playback: &Playback,

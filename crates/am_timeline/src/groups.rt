@@ -1,4 +1,4 @@
-//! Groups, and whom they are for.
+//! Groups, receivers and integrations, as text. The modules of lines call it.
 ghost use Rattle.std.specs.Prelude.{◌≡◌, ◌++◌, OnOk, string_bytes};
 ghost use Rattle.am_model.specs.Config.{kind_at};
 ghost use Rattle.am_timeline.specs.Timeline.{group_shown, integration_shown, target_shown, group_receiver_text};
@@ -9,7 +9,7 @@ use am_board::config::{Config, Integration};
 use am_board::group::GroupName;
 use std::alloc::AllocError;
 
-/// Adds a group, its receiver and an integration of that.
+/// Adds a group, its receiver and one of the receiver's integrations.
 pub(crate) fn push_target(
     config: &Config,
     group: &GroupName,
@@ -65,7 +65,7 @@ pub(crate) fn push_integration(
     push_number(position as u64, out)
 }
 
-/// The kind of the integration at a position; nothing at a position that isn't there.
+/// Returns the kind of the integration at a position, or the empty text where there is none.
 pub(crate) fn kind_at(integrations: &[Integration], position: usize) -> &str
     ensures { result.now ≡ kind_at integrations.now position }
 {

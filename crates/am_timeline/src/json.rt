@@ -1,4 +1,4 @@
-//! The facts of the timeline as JSON.
+//! The timeline as JSON. `am_rehearse` prints it for `"output": "json"`.
 mod object;
 
 use crate::begun::{is_sent_nothing, nothing_left};
@@ -15,14 +15,15 @@ use am_retry::Outcome;
 use object::{Object, muted_list, sets_of};
 use std::alloc::{AllocError, Global};
 
-/// The facts of the timeline, a JSON object on each line and a line for each of its lines, in the same
-/// order.
+/// Returns the timeline with one JSON object for each of its lines, in the same order.
 ///
-/// Each object has `event` (`notice`, `failed`, `quiet` or `muted`), `at` (milliseconds from the start),
-/// `time` (as the clock shows it), `route` and `group` (the group labels), and where they apply
-/// `receiver`, `integration` (as `hook/0`), `outcome`, `attempts`, `since` (milliseconds), `reason`,
-/// `from` (milliseconds), `firing` and `resolved` (lists of label sets) and `muted` (a list of objects
-/// with `labels`, `cause`, and `until` or `by` and `rule`).
+/// Each object has `event` (`notice`, `failed`, `quiet` or `muted`), `at` (milliseconds from the
+/// start), `time` (as the format shows it), `route` and `group` (the group labels). Where they
+/// apply it has:
+/// - `receiver`, `integration` (as `hook/0`), `outcome`, `attempts`, `reason`;
+/// - `since` and `from` (milliseconds);
+/// - `firing` and `resolved` (lists of label sets);
+/// - `muted` (a list of objects with `labels`, `cause`, and `until` or `by` and `rule`).
 pub fn json_text<C: TimeFormat>(
     alloc: Global,
     playback: &Playback,

@@ -1,13 +1,18 @@
-//! What is told of a rehearsal that was played: a timeline for people, its notices alone, a table of
-//! its receivers, and whether what was expected came so.
+//! The texts of a rehearsal that ran: the timeline, its notices, the table of receivers, the report
+//! on expectations, and the same as JSON. `am_rehearse` calls it.
 //!
-//! All moments are in milliseconds from the start of the rehearsal. What is printed has no number that
-//! changes where something else is added, and no control character but line feeds.
+//! Each text is one of the history, of what the begins were to do and of what happened, in its
+//! order. A line on a notice takes its content from the begin's record, and its outcome from the
+//! finish in a later record. Only the attempts and the end come from the events. So a line on a
+//! notice is one of a flush of the history. All times are in milliseconds from the start of the
+//! rehearsal. No text has a number that changes where something else is added, or a control
+//! character other than line feeds.
 #![tactic(auto)]
 
 mod alerts;
 mod begun;
 pub mod clock;
+pub mod comparison;
 pub mod dated;
 pub mod expectation;
 pub mod expectation_report;
@@ -22,3 +27,4 @@ mod sent;
 mod shown;
 pub mod table;
 pub mod timeline;
+pub mod undelivered;

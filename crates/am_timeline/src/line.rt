@@ -1,4 +1,4 @@
-//! The parts of lines.
+//! The parts of lines. The modules of lines call it.
 ghost use Rattle.std.specs.Prelude.{◌≡◌, ◌++◌, OnOk, string_bytes};
 ghost use Rattle.am_timeline.specs.Timeline.{attempts_text, time_text, reason_text, reason_words, repeat_text, retries_text};
 
@@ -6,7 +6,7 @@ use crate::clock::{TimeFormat, push_column, push_number};
 use am_board::reason::Reason;
 use std::alloc::AllocError;
 
-/// Adds the front of a line: a moment and a word.
+/// Adds the front of a line: a time and a word.
 pub(crate) fn push_time<C: TimeFormat>(
     clock: &C,
     at: u64,

@@ -1,4 +1,4 @@
-//! The alerts that are muted, and why.
+//! Muted alerts with their causes, as text. `begun` calls it.
 ghost use Rattle.std.specs.Prelude.{◌≡◌, ◌++◌, OnOk, codes, decimal, string_bytes};
 ghost use Rattle.std.specs.List.{flat_map};
 ghost use Rattle.am_timeline.specs.Timeline.{cause_shown, cause_text, cause_words, muted_alert_text, muted_text};
@@ -11,7 +11,7 @@ use am_board::preview::MutedAlert;
 use am_mute::mute::MuteCause;
 use std::alloc::AllocError;
 
-/// Adds muted alerts, each with why it is.
+/// Adds muted alerts, each with its cause.
 pub(crate) fn push_muted<C: TimeFormat>(
     clock: &C,
     muted: &[MutedAlert],
@@ -55,7 +55,8 @@ fn push_muted_alert<C: TimeFormat>(
     push_cause(clock, &alert.cause, out)
 }
 
-fn push_cause<C: TimeFormat>(
+/// Adds why an alert is muted.
+pub(crate) fn push_cause<C: TimeFormat>(
     clock: &C,
     cause: &MuteCause,
     out: &mut String,

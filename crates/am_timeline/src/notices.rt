@@ -1,4 +1,5 @@
-//! The notices of a rehearsal that were delivered.
+//! The delivered notices of a rehearsal, as text. `am_rehearse` prints it for `"output":
+//! "notices"`.
 ghost use Rattle.std.specs.Prelude.{◌≡◌, ◌++◌, IfOk, OnOk, string_bytes};
 ghost use Rattle.am_timeline.specs.Notices.{line_if_delivered, notice_of_event, notices_text};
 
@@ -10,7 +11,7 @@ use am_board::config::Config;
 use am_rehearsal::event::Event;
 use std::alloc::{AllocError, Global};
 
-/// The lines of the timeline on the delivered notices alone, in their order.
+/// Returns the lines of the timeline on delivered notices, in their order.
 pub fn notices_text<C: TimeFormat>(
     alloc: Global,
     playback: &Playback,

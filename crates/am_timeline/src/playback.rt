@@ -1,4 +1,4 @@
-//! A rehearsal that was played.
+//! `Playback`: a rehearsal that ran, as all texts read it. `am_rehearse` makes one.
 ghost use Rattle.std.specs.Prelude.{◌≡◌, ◌+◌, drop, option_copied};
 ghost use Rattle.am_timeline.specs.Playback.{notice_for, notices_at};
 ghost use Rattle.am_model.specs.look_back.Past.{notices_in};
@@ -9,8 +9,7 @@ use am_board::record::{Record, Reply};
 use am_rehearsal::event::{Event, PreviewedBegin};
 use std::marker::Model;
 
-/// A rehearsal that was played, of which is told: its configuration and its history, what its begins
-/// were to do, and what happened.
+/// A rehearsal that ran: its configuration, history, previews and events.
 #[derive(Drop)]
 pub struct Playback<'s> {
     pub(crate) config: &'s Config,
@@ -20,9 +19,13 @@ pub struct Playback<'s> {
 }
 
 impl<'s> Model for Playback<'s> {
+    ghost use Rattle.std.specs.Coded.{codes};
+    ghost use Rattle.am_alerts.specs.Layout.{forest_code};
     ghost use Rattle.am_timeline.specs.Playback.{PlaybackData};
 
     ghost Value = { PlaybackData };
+
+    ghost coded = { Prim.hlevel (codes, forest_code) };
 
     ghost view = { λ s.
         record {
@@ -34,7 +37,7 @@ impl<'s> Model for Playback<'s> {
 }
 
 impl<'s> Playback<'s> {
-    /// The playback of a rehearsal with this configuration and this history.
+    /// Returns the playback of a rehearsal with this configuration and this history.
     pub fn new(
         config: &'s Config,
         history: &'s [Record],
@@ -57,7 +60,7 @@ impl<'s> Playback<'s> {
     }
 }
 
-/// The notices of the record at a place; none where no flush was opened there.
+/// Returns the notices of the record at a place, or none where no flush was opened there.
 pub(crate) fn notices_at(history: &[Record], place: usize) -> &[Notice]
     ensures { result.now ≡ notices_at history.now place }
 {
@@ -67,8 +70,8 @@ pub(crate) fn notices_at(history: &[Record], place: usize) -> &[Notice]
     }
 }
 
-/// The notices of a flush that was begun.
-fn notices_in(reply: &Reply) -> &[Notice]
+/// Returns the notices of a flush that was begun.
+pub(crate) fn notices_in(reply: &Reply) -> &[Notice]
     ensures { result.now ≡ notices_in reply.now }
 {
     match reply {
@@ -77,7 +80,7 @@ fn notices_in(reply: &Reply) -> &[Notice]
     }
 }
 
-/// The notice for an integration, if there is one.
+/// Returns the notice for an integration, if there is one.
 pub(crate) fn notice_for(integration: usize, notices: &[Notice]) -> Option<&Notice>
     ensures { option_copied result ≡ notice_for integration notices.now }
 {
@@ -86,7 +89,7 @@ pub(crate) fn notice_for(integration: usize, notices: &[Notice]) -> Option<&Noti
         .find(|notice| notice.integration as usize == integration)
 }
 
-/// The records that are later than the one at a place.
+/// Returns the records after the one at a place.
 pub(crate) fn later_than(history: &[Record], place: usize) -> &[Record]
     ensures { result.now ≡ drop (place + 1) history.now }
 {

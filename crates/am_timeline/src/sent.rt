@@ -1,4 +1,4 @@
-//! The notices whose sending came to an end.
+//! Notices whose sending ended. `timeline`, `table`, `expectation` and `json` call it.
 ghost use Rattle.std.specs.Prelude.{◌≡◌};
 ghost use Rattle.am_timeline.specs.Playback.{is_delivered, outcome_after, sent_by, sent_of};
 
@@ -10,7 +10,7 @@ use am_rehearsal::event::{Event, PreviewedBegin};
 use am_retry::Outcome;
 use std::marker::Model;
 
-/// A notice whose sending came to its end.
+/// A notice whose sending ended.
 #[derive(Drop)]
 pub(crate) struct Sent<'s> {
     /// The begin of its flush.
@@ -36,7 +36,7 @@ impl<'s> Model for Sent<'s> {
 }
 
 impl<'s> Sent<'s> {
-    /// Whether it was delivered.
+    /// Returns whether it was delivered.
     pub(crate) fn is_delivered(&self) -> bool
         ensures { result ≡ is_delivered self.now.outcome }
     {
@@ -47,7 +47,7 @@ impl<'s> Sent<'s> {
     }
 }
 
-/// The notice whose sending came to its end by this, if there is one.
+/// Returns the notice whose sending this event ended, if there is one.
 pub(crate) fn sent_of<'s>(playback: &Playback<'s>, event: &Event) -> Option<Sent<'s>>
     ensures { result ≡ sent_of playback.now event.now }
 {

@@ -1,4 +1,5 @@
-//! Texts and label sets with nothing in them that a terminal would take for a command.
+//! Texts and label sets without characters that a terminal would take as a command. The modules of
+//! lines call it.
 ghost use Rattle.std.specs.Prelude.{◌≡◌, ◌++◌, ◌∷◌, [], ◌<◌, OnOk, codes, string_bytes};
 ghost use Rattle.std.specs.List.{flat_map, join_by};
 ghost use Rattle.am_timeline.specs.Shown.{char_shown, hex_digit, hex_text, label_shown, set_shown, text_shown};

@@ -1,4 +1,5 @@
-//! What each receiver got in a rehearsal.
+//! The table of receivers. `am_rehearse` prints it below the timeline. Cost: for each receiver,
+//! that of the timeline.
 ghost use Rattle.std.specs.Prelude.{◌≡◌, ◌≤◌, ◌++◌, IfOk, OnOk, codes, count_by, find, length, option_copied, reverse, string_bytes};
 ghost use Rattle.std.specs.List.{flat_map};
 ghost use Rattle.am_timeline.specs.Table.{count_text, counts_text, delivers, end_of, end_text, ends_text, fails, is_for, receiver_line};
@@ -12,8 +13,10 @@ use am_board::config::{Config, Receiver};
 use am_rehearsal::event::Event;
 use std::alloc::{AllocError, Global};
 
-/// An empty line, and a line for each receiver, in the configuration's order: how many notices it got,
-/// how many failed, and when it got the first and the last.
+/// Returns an empty line, and a line for each receiver in the configuration's order.
+///
+/// A line has the receiver's delivered notices, its failures, and the times of the first and last
+/// delivered notice.
 pub fn table_text<C: TimeFormat>(
     alloc: Global,
     playback: &Playback,
@@ -131,7 +134,7 @@ fn fails(playback: &Playback, name: &str, event: &Event) -> bool
     }
 }
 
-/// Whether a notice was for the receiver of this name.
+/// Returns whether a notice was for the receiver of this name.
 pub(crate) fn is_for(config: &Config, name: &str, sent: &Sent) -> bool
     ensures { result ≡ is_for config.now name.now sent.now }
 {
@@ -175,7 +178,7 @@ fn last_delivered<'s>(playback: &Playback<'s>, name: &str) -> Option<&'s Event>
         .find(|event| delivers(playback, name, *event))
 }
 
-/// Adds the moment of an event, `none` where there is none.
+/// Adds the time of an event, or `none` where there is none.
 fn push_end<C: TimeFormat>(
     clock: &C,
     event: Option<&Event>,

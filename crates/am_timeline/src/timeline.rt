@@ -1,4 +1,7 @@
-//! What happened in a rehearsal, a line for each event.
+//! The timeline: a line for each event of a rehearsal. `am_rehearse` prints it.
+//!
+//! A line on a notice that failed has neither reason nor alerts. The next notice has the reason
+//! again.
 ghost use Rattle.std.specs.Prelude.{◌≡◌, ◌++◌, IfOk, OnOk, string_bytes};
 ghost use Rattle.am_timeline.specs.Timeline.{delivered_line, delivered_text, event_lines, failed_line, notice_line, sent_line};
 ghost use Rattle.am_timeline.specs.Timeline.{timeline_text, content_text};
@@ -17,10 +20,10 @@ use am_rehearsal::event::Event;
 use am_retry::Outcome;
 use std::alloc::{AllocError, Global};
 
-/// The timeline of a rehearsal: the lines on all events, in their order.
+/// Returns the timeline of a rehearsal: the lines on all events, in their order.
 ///
-/// A notice has the reason that was told of its integration before its begin was made, and what it
-/// came to as the finish of its flush says.
+/// A notice has the reason of its integration in the preview of its begin, and the outcome in the
+/// finish of its flush. Cost: the events, and for each notice the records up to its finish.
 pub fn timeline_text<C: TimeFormat>(
     alloc: Global,
     playback: &Playback,
@@ -75,8 +78,7 @@ fn push_sent<C: TimeFormat>(
     }
 }
 
-/// Adds the line on a notice that was delivered, with the reason that was told of its integration;
-/// nothing where none was.
+/// Adds the line on a delivered notice, with the reason of its integration, if it has one.
 pub(crate) fn push_notice<C: TimeFormat>(
     config: &Config,
     clock: &C,
@@ -125,7 +127,7 @@ fn push_delivery<C: TimeFormat>(
     push_retries(clock, sent.report.attempts, sent.begin.preview.moment, out)
 }
 
-/// Adds why a notice was sent, and what it told.
+/// Adds why a notice was sent, and its alerts.
 fn push_told<C: TimeFormat>(
     clock: &C,
     reason: &Reason,

@@ -16,8 +16,7 @@ pub enum DocumentFault {
     /// They are no text in UTF-8 from this place on.
     #[error("not UTF-8")]
     NotText { line: usize, column: usize },
-    /// They are no JSON, for what stands at this place, though they begin as an object or an array does. The column
-    /// of a line's end before it is 0.
+    /// They are no JSON, for what stands at this place, though they begin as an object or an array does.
     #[error("not JSON")]
     NotJson { line: usize, column: usize },
     /// They are neither JSON nor YAML as it is read here.
@@ -59,6 +58,8 @@ fn refuse(text: &str, fault: YamlFault, line: usize, column: usize) -> DocumentF
         return DocumentFault::NoMemory;
     }
     if text.trim_start().starts_with(['{', '[']) {
+        // (the reader of JSON gives the end of a line the column 0 of the next one)
+        let column = column.max(1);
         return DocumentFault::NotJson { line, column };
     }
     DocumentFault::NotYaml { fault }

@@ -100,6 +100,8 @@ impl<'t> Path<'t> {
     pub(crate) fn leave(&mut self, is_entered: bool) {
         if is_entered {
             self.is_left = true;
+            // (an empty value stands at its key)
+            self.is_awaited = false;
         }
     }
 

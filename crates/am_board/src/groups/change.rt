@@ -1,4 +1,5 @@
-//! Groups are found by their names, made, changed in their places and removed.
+//! Changes of groups: finds one by its name, adds one, changes one at its place, removes the empty
+//! ones.
 ghost use Rattle.std.specs.Prelude.{◌≡◌, ℕ, ◌+◌, ◌<◌, ◌≤◌, ◌∷◌, [], ◌++◌, None, count_by, length, map, not, position, slice_index_or};
 ghost use Rattle.std.specs.Prelude.{true, All, IfSome, OnOk};
 ghost use Rattle.std.specs.List.{IsDistinct};
@@ -31,7 +32,7 @@ impl Groups {
         self.groups.get_index_of(name)
     }
 
-    /// Adds a group, for which there is room, under its name, which no other has.
+    /// Adds a group under its name, which no other has. Memory is reserved.
     pub(crate) fn add(&mut self, name: GroupName, group: Group)
         requires name { name ≡ group.name }
         requires missing { position (λ g. same_name name g.name) self.old.items ≡ None }
@@ -43,7 +44,7 @@ impl Groups {
         self.groups.insert(name, group).unwrap();
     }
 
-    /// Makes room for so many more alerts in the group at a place.
+    /// Reserves memory for so many more alerts in the group at a place.
     pub(crate) fn reserve_at(&mut self, i: usize, more: usize) -> Result<(), AllocError>
         requires place { i < length self.old.items }
         ensures kept { Changes IsReserved i self.old self.new }
@@ -52,7 +53,7 @@ impl Groups {
         reserve_members(&mut self.groups[i], more)
     }
 
-    /// Makes room for so many more alerts in the group at a place, if there is one.
+    /// Reserves memory for so many more alerts in the group at a place, if there is one.
     pub(crate) fn reserve_found(
         &mut self,
         place: Option<usize>,
@@ -72,7 +73,7 @@ impl Groups {
         }
     }
 
-    /// Puts a member into the group at a place, where there is room for it.
+    /// Adds an alert to the group at a place. Memory is reserved.
     pub(crate) fn insert(&mut self, i: usize, labels: Labels, member: Member, wait: u64, t: u64)
         requires place { i < length self.old.items }
         requires labels { labels ≡ member.alert.labels }
@@ -94,7 +95,7 @@ impl Groups {
         put_in_order(&mut self.groups[i], alloc);
     }
 
-    /// The group at a place was taken, and is due at this moment again.
+    /// Marks the group at a place as taken by a begin, and due again at this time.
     pub(crate) fn begin(&mut self, i: usize, due: u64)
         requires { i < length self.old.items }
         ensures { Changes (λ from to. to ≡ record from { due = due; flushed = true }) i self.old self.new }
@@ -105,8 +106,10 @@ impl Groups {
         self.due.change(&group.name, before, due);
     }
 
-    /// The group at a place was taken, and nobody is asked: it is due at this moment again, and the
-    /// alerts that are resolved at `t` leave it. Answers how many.
+    /// Marks the group at a place as taken by a begin that notifies no integration.
+    ///
+    /// It is due again at this time, and its alerts that are resolved at `t` leave. Returns how
+    /// many.
     pub(crate) fn begin_quiet(&mut self, i: usize, due: u64, t: u64) -> usize
         requires { i < length self.old.items }
         ensures group { Changes
@@ -120,8 +123,10 @@ impl Groups {
         take_resolved(group, t)
     }
 
-    /// Takes the alerts out of the group at a place that stand there as they did when they were found
-    /// resolved, and answers how many.
+    /// Takes out of the group at a place the alerts that are as they were when they were found
+    /// resolved.
+    ///
+    /// Returns how many.
     pub(crate) fn take_leaving(&mut self, i: usize, leaving: &[LeavingAlert]) -> usize
         requires { i < length self.old.items }
         ensures group { Changes (λ from to. group_state to ≡ record (group_state from) {

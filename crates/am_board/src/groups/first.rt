@@ -1,4 +1,8 @@
-//! The group that is due first.
+//! The group that a begin takes. `begin`, `preview` and `next_due` call `Groups::first_due`.
+//!
+//! It looks through the set of due times and skips stale keys and groups with an open flush. While
+//! the set is incomplete it walks over all groups. Both give the definitions' `least` of the groups
+//! that a begin may take.
 ghost use Rattle.std.specs.Prelude.{◌≡◌, ◌<◌, All, IfSome, IsTrue, length, map, slice_index_or};
 ghost use Rattle.std.specs.List.{IsDistinct};
 ghost use Rattle.std.specs.Map.{keys_of, values_of};
@@ -22,8 +26,9 @@ use indexmap::IndexMap;
 use std::collections::BTreeSet;
 
 impl Groups {
-    /// The place of the group to take at `t`: of those that are due and have no open flush the first,
-    /// by due moment, then by name.
+    /// Returns the place of the group to take at `t`: the first due one without an open flush.
+    ///
+    /// They are ordered by due time, then by name.
     pub(crate) fn first_due(&self, flushes: &[OpenFlush], t: u64) -> Option<usize>
         ensures within { IfSome result (λ i. i < length self.now.items) }
         ensures first { IsFirst self.now.items result (first_of (map flush_state flushes.now) t (map group_state self.now.items)) }
@@ -36,8 +41,10 @@ impl Groups {
     }
 }
 
-/// The place of the group to take at `t`, where each group has its key: that of the first key that
-/// isn't stale and whose group has no open flush, if that key's moment has come.
+/// Returns the place of the group to take at `t`, by the complete set of keys.
+///
+/// It is the group of the first key that isn't stale and whose group has no open flush, if it is
+/// due.
 fn first_by_keys(
     groups: &IndexMap<GroupName, Group>,
     keys: &BTreeSet<DueKey>,
@@ -108,7 +115,7 @@ fn first_by_walk(groups: &[Group], flushes: &[OpenFlush], t: u64) -> Option<usiz
     best
 }
 
-/// Whether a group may be taken at `t`: it is due, and no flush of it is open.
+/// Returns whether a begin at `t` can take a group: it is due, and no flush of it is open.
 fn may_begin(group: &Group, flushes: &[OpenFlush], t: u64) -> bool
     ensures { result ≡ may_take (map flush_state flushes.now) t (group_state group.now) }
 {
@@ -134,7 +141,7 @@ fn earlier(groups: &[Group], i: usize, other: Option<usize>) -> usize
     }
 }
 
-/// Whether a group is to be taken after another: by due moment, then by name.
+/// Returns whether a group comes after another, by due time, then by name.
 fn is_behind(group: &Group, other: &Group) -> bool
     ensures { result ≡ is_gt (due_cmp (group_state group.now) (group_state other.now)) }
 {

@@ -3,6 +3,7 @@ use Rattle.std.proofs.Common.{◌≡◌, ℕ, ◌+◌, ◌*◌, ◌≤◌, Bool,
 use Rattle.std.specs.Prelude.{All, filter, sum_by, ◌==◌}
 use Rattle.std.specs.List.{AllByRecursion}
 use Rattle.am_alerts.specs.AlertData.{AlertData, is_resolved}
+use Rattle.am_alerts.specs.RoutingTree.{last_of}
 use Rattle.am_retry.specs.declared.outcome.Outcome.{Outcome}
 use Rattle.am_model.specs.declared.config.Config.{Config}
 use Rattle.am_model.specs.declared.config.Integration.{Integration}
@@ -20,23 +21,23 @@ use Rattle.am_model.specs.Upkeep.{is_deserted, after_maintain}
 use Rattle.am_model.proofs.legal.BoundedAlerts.{count_alerts, count_alerts-sum, count-filter, count-changed, count-each, length-filter, length-names, routed-each, routed-names}
 use Rattle.am_model.proofs.lists.Distinct.{all_from, all-filter, all-least, all-map, all-push, all-weaker}
 
--- how many children the routes have
-abbrev pub children_of : Config → ℕ
-children_of config = length config.routes.children
+-- the last position of a route
+abbrev pub last_route : Config → ℕ
+last_route config = last_of config.routes
 
 -- the state after so many records: at most so many inserts and flushes, groups and flushes of routes that are there, and no more alerts than each insert adds to a group of each route
 pub record IsBounded (config : Config) (records : ℕ) (s : State) : Type 0 where
   pub inserts : s.inserts ≤ records
   pub next_number : s.next_number ≤ records + 1
-  pub groups : All (λ g. g.name.route ≤ children_of config) s.groups
-  pub flushes : All (λ f. f.group.route ≤ children_of config) s.flushes
-  pub alerts : children_of config ≤ 63 → sum_by (λ g. length g.members) s.groups ≤ 64 * s.inserts
+  pub groups : All (λ g. g.name.route ≤ last_route config) s.groups
+  pub flushes : All (λ f. f.group.route ≤ last_route config) s.flushes
+  pub alerts : last_route config ≤ 1_023 → sum_by (λ g. length g.members) s.groups ≤ 1_024 * s.inserts
 
 -- what doesn't depend on the number of records, by recursion along the lists
 record IsSmall (config : Config) (s : State) : Type 0 where
-  groups : AllByRecursion (λ g. g.name.route ≤ children_of config) s.groups
-  flushes : AllByRecursion (λ f. f.group.route ≤ children_of config) s.flushes
-  alerts : children_of config ≤ 63 → count_alerts s.groups ≤ 64 * s.inserts
+  groups : AllByRecursion (λ g. g.name.route ≤ last_route config) s.groups
+  flushes : AllByRecursion (λ f. f.group.route ≤ last_route config) s.flushes
+  alerts : last_route config ≤ 1_023 → count_alerts s.groups ≤ 1_024 * s.inserts
 
 -- a step counts one insert and one flush at most
 record IsStep (s after : State) : Type 0 where
@@ -48,9 +49,9 @@ bounded_from config records s few numbers h =
     record {
       inserts = few;
       next_number = numbers;
-      groups = all_from (λ (g : GroupState). g.name.route ≤ children_of config) s.groups h.groups;
-      flushes = all_from (λ (f : FlushState). f.group.route ≤ children_of config) s.flushes h.flushes;
-      alerts = λ within. subst (λ n. n ≤ 64 * s.inserts) (sym (count_alerts-sum s.groups)) (h.alerts within);
+      groups = all_from (λ (g : GroupState). g.name.route ≤ last_route config) s.groups h.groups;
+      flushes = all_from (λ (f : FlushState). f.group.route ≤ last_route config) s.flushes h.flushes;
+      alerts = λ within. subst (λ n. n ≤ 1_024 * s.inserts) (sym (count_alerts-sum s.groups)) (h.alerts within);
     }
 
 -- ---- what each call keeps
@@ -71,7 +72,7 @@ small_insert config s t a h =
     let m : MemberState = record { alert = a; stamp = next_stamp s } in
     let names = names_for config a.labels in
     record {
-      groups = routed-each config t m (children_of config) names s.groups (routed-names config a.labels) h.groups;
+      groups = routed-each config t m (last_route config) names s.groups (routed-names config a.labels) h.groups;
       flushes = h.flushes;
       alerts = λ within. let before = h.alerts within in omega (arith, before, within, count-each config t m names s.groups, length-names config a.labels);
     }
@@ -80,11 +81,11 @@ small_at : (config : Config) (s : State) (t : ℕ) → IsSmall config s → IsSm
 small_at config s t h = record { groups = h.groups; flushes = h.flushes; alerts = h.alerts }
 
 -- groups that are changed without a new name or a new alert
-small_changed : (config : Config) (s : State) (test : GroupState → Bool) (f : GroupState → GroupState) (flushes : List FlushState) → IsSmall config s → ((g : GroupState) → (f g).name ≡ g.name) → ((g : GroupState) → length (f g).members ≤ length g.members) → AllByRecursion (λ f. f.group.route ≤ children_of config) flushes → (after : State) → after.groups ≡ changed_where test f s.groups → after.flushes ≡ flushes → after.inserts ≡ s.inserts → IsSmall config after
+small_changed : (config : Config) (s : State) (test : GroupState → Bool) (f : GroupState → GroupState) (flushes : List FlushState) → IsSmall config s → ((g : GroupState) → (f g).name ≡ g.name) → ((g : GroupState) → length (f g).members ≤ length g.members) → AllByRecursion (λ f. f.group.route ≤ last_route config) flushes → (after : State) → after.groups ≡ changed_where test f s.groups → after.flushes ≡ flushes → after.inserts ≡ s.inserts → IsSmall config after
 small_changed config s test f flushes h names fewer all after is same steady =
     record {
-      groups = subst (AllByRecursion (λ g. g.name.route ≤ children_of config)) (sym is) (routed-changed (children_of config) test f names s.groups h.groups);
-      flushes = subst (AllByRecursion (λ f. f.group.route ≤ children_of config)) (sym same) all;
+      groups = subst (AllByRecursion (λ g. g.name.route ≤ last_route config)) (sym is) (routed-changed (last_route config) test f names s.groups h.groups);
+      flushes = subst (AllByRecursion (λ f. f.group.route ≤ last_route config)) (sym same) all;
       alerts = λ within.
           let before = h.alerts within in
           let less = count-changed test f fewer s.groups in
@@ -93,19 +94,19 @@ small_changed config s test f flushes h names fewer all after is same steady =
     }
 
 -- the route of the group that is taken
-taken-routed : (config : Config) (s : State) (t : ℕ) (g : GroupState) → IsSmall config s → taken s t ≡ Some g → g.name.route ≤ children_of config
+taken-routed : (config : Config) (s : State) (t : ℕ) (g : GroupState) → IsSmall config s → taken s t ≡ Some g → g.name.route ≤ last_route config
 taken-routed config s t g h e =
-    let P : GroupState → Type 0 = λ k. k.name.route ≤ children_of config in
+    let P : GroupState → Type 0 = λ k. k.name.route ≤ last_route config in
     all-least P due_cmp g (filter (may_begin s t) s.groups) (all-filter P (may_begin s t) s.groups h.groups) e
 
-small_asking : (config : Config) (s : State) (t : ℕ) (g : GroupState) (asked : List (ℕ × Integration)) → g.name.route ≤ children_of config → IsSmall config s → IsSmall config (after_asking config s t g asked)
+small_asking : (config : Config) (s : State) (t : ℕ) (g : GroupState) (asked : List (ℕ × Integration)) → g.name.route ≤ last_route config → IsSmall config s → IsSmall config (after_asking config s t g asked)
 small_asking config s t g [] routed h =
     small_changed config s (is_named g.name) (λ k. without_resolved t (begun_group config t k)) s.flushes h (λ k. refl)
     (λ k. length-filter (λ (m : MemberState). not (is_resolved m.alert t)) k.members) h.flushes (after_asking config s t g []) refl refl refl
 small_asking config s t g (i ∷ is) routed h =
     let f = flush_asking config s t g (i ∷ is) in
     small_changed config s (is_named g.name) (begun_group config t) (s.flushes ++ f ∷ []) h (λ k. refl) (λ k. omega arith)
-    (all-push (λ (k : FlushState). k.group.route ≤ children_of config) s.flushes f h.flushes routed) (after_asking config s t g (i ∷ is)) refl refl refl
+    (all-push (λ (k : FlushState). k.group.route ≤ last_route config) s.flushes f h.flushes routed) (after_asking config s t g (i ∷ is)) refl refl refl
 
 small_taking : (config : Config) (s : State) (t : ℕ) (o : Option GroupState) → taken s t ≡ o → IsSmall config s → IsSmall config (after_taking config s t o)
 small_taking config s t None e h = small_at config s t h
@@ -114,7 +115,7 @@ small_taking config s t (Some g) e h = small_asking config s t g (asked_of confi
 small_finish : (config : Config) (s : State) (t : ℕ) (outcomes : List (ℕ × Outcome)) (o : Option FlushState) → IsSmall config s → IsSmall config (after_finish_of config s t outcomes o)
 small_finish config s t outcomes None h = small_at config s t h
 small_finish config s t outcomes (Some f) h =
-    let P : FlushState → Type 0 = λ k. k.group.route ≤ children_of config in
+    let P : FlushState → Type 0 = λ k. k.group.route ≤ last_route config in
     let stays : FlushState → Bool = λ k. not (k.number == f.number) in
     small_changed config s (is_named f.group) (finished_group outcomes f) (filter stays s.flushes) h (λ k. refl)
     (λ k. length-filter (λ m. not (leaves_by outcomes f m)) k.members) (all-filter P stays s.flushes h.flushes) (after_finish config s t outcomes f) refl refl refl
@@ -123,7 +124,7 @@ small_maintain : (config : Config) (s : State) (t : ℕ) → IsSmall config s �
 small_maintain config s t h =
     let stays : GroupState → Bool = λ g. not (is_deserted g) in
     record {
-      groups = all-filter (λ (g : GroupState). g.name.route ≤ children_of config) stays s.groups h.groups;
+      groups = all-filter (λ (g : GroupState). g.name.route ≤ last_route config) stays s.groups h.groups;
       flushes = h.flushes;
       alerts = λ within. let before = h.alerts within in let less = count-filter stays s.groups in omega (arith, before, less);
     }
@@ -136,13 +137,13 @@ small_note config s t integration outcome (Some f) h =
       | false ↦ small_at config s t h
     ]
   where
-    by : (k : FlushState) (b : Bool) → k.group.route ≤ children_of config → (cond b (with_note integration k) k).group.route ≤ children_of config
+    by : (k : FlushState) (b : Bool) → k.group.route ≤ last_route config → (cond b (with_note integration k) k).group.route ≤ last_route config
     by k true h = h
     by k false h = h
 
-    noted : AllByRecursion (λ k. k.group.route ≤ children_of config) (changed_where (λ k. k.number == f.number) (with_note integration) s.flushes)
+    noted : AllByRecursion (λ k. k.group.route ≤ last_route config) (changed_where (λ k. k.number == f.number) (with_note integration) s.flushes)
     noted =
-        let P : FlushState → Type 0 = λ k. k.group.route ≤ children_of config in
+        let P : FlushState → Type 0 = λ k. k.group.route ≤ last_route config in
         let change : FlushState → FlushState = λ k. cond (k.number == f.number) (with_note integration k) k in
         all-map change P s.flushes (all-weaker P (λ k. P (change k)) (λ k routed. by k (k.number == f.number) routed) s.flushes h.flushes)
 

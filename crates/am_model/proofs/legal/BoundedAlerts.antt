@@ -6,11 +6,9 @@ use Rattle.std.specs.Option.{option_map}
 use Rattle.std.proofs.lemmas.Bool.{false≢true}
 use Rattle.std.proofs.lemmas.List.{length-map}
 use Rattle.std.proofs.lemmas.List.Sums.{sum_by-cons}
-use Rattle.am_alerts.specs.Matcher.{match_all}
-use Rattle.am_alerts.specs.RoutingTree.{matching_from, or_root, routes_of}
+use Rattle.am_alerts.specs.RoutingTree.{last_of, matching, or_self, routes_of}
 use Rattle.am_alerts.specs.declared.labels.Label.{Label}
-use Rattle.am_alerts.specs.declared.route.Child.{Child}
-use Rattle.am_alerts.proofs.Positions.{routes_of-exist}
+use Rattle.am_alerts.proofs.Positions.{Ascend, matching-ascend, routes_of-exist}
 use Rattle.am_model.specs.declared.config.Config.{Config}
 use Rattle.am_model.specs.declared.group.GroupName.{GroupName}
 use Rattle.am_model.specs.Insert.{same_member, same_group, name_in, names_for, new_group, group_or_new, group_with, put_into_group}
@@ -141,26 +139,23 @@ module _ (config : Config) (t : ℕ) (m : MemberState) where
 
 -- ---- the groups of an alert
 
-pub routed-names : (config : Config) (labels : List Label) → AllByRecursion (λ n. n.route ≤ length config.routes.children) (names_for config labels)
+pub routed-names : (config : Config) (labels : List Label) → AllByRecursion (λ n. n.route ≤ last_of config.routes) (names_for config labels)
 routed-names config labels =
-    let P : GroupName → Type 0 = λ n. n.route ≤ length config.routes.children in
-    let Q : ℕ → Type 0 = λ p. p ≤ length config.routes.children in
+    let P : GroupName → Type 0 = λ n. n.route ≤ last_of config.routes in
+    let Q : ℕ → Type 0 = λ p. p ≤ last_of config.routes in
     all-map (name_in config labels) P (routes_of config.routes labels) (all_to Q (routes_of config.routes labels) (routes_of-exist config.routes labels))
 
-length-matching : (p : ℕ) (cs : List Child) (labels : List Label) → length (matching_from p cs labels) ≤ length cs
-length-matching p [] labels = omega arith
-length-matching p (c ∷ cs) labels = by (match_all c.matchers labels) c.goes_on (matching_from (p + 1) cs labels) (length-matching (p + 1) cs labels)
-  where
-    by : (m on : Bool) (rest : List ℕ) → length rest ≤ length cs → length (cond m (p ∷ cond on rest []) rest) ≤ length (c ∷ cs)
-    by true true rest h = omega (arith, h)
-    by true false rest h = omega arith
-    by false on rest h = omega (arith, h)
+-- numbers that ascend are no more than lie between their bounds
+length-ascend : (low high : ℕ) (ps : List ℕ) → Ascend low high ps → low + length ps ≤ high
+length-ascend low high [] a = omega (arith, a)
+length-ascend low high (p ∷ ps) a = omega (arith, a.0, length-ascend (p + 1) high ps a.1)
 
-pub length-names : (config : Config) (labels : List Label) → length (names_for config labels) ≤ length config.routes.children + 1
+pub length-names : (config : Config) (labels : List Label) → length (names_for config labels) ≤ last_of config.routes + 1
 length-names config labels =
-    let few = by (matching_from 1 config.routes.children labels) (length-matching 1 config.routes.children labels) in
+    let found : List ℕ = matching 1 config.routes.below labels in
+    let few = by found (length-ascend 1 (1 + last_of config.routes) found (matching-ascend 1 config.routes.below labels)) in
     omega (arith, few, length-map (routes_of config.routes labels) (name_in config labels))
   where
-    by : (ps : List ℕ) → length ps ≤ length config.routes.children → length (or_root ps) ≤ length config.routes.children + 1
+    by : (ps : List ℕ) → 1 + length ps ≤ 1 + last_of config.routes → length (or_self 0 ps) ≤ last_of config.routes + 1
     by [] h = omega arith
     by (p ∷ ps) h = omega (arith, h)

@@ -1,4 +1,4 @@
--- Entry: what the log has for a group and an integration, looked for from the end of a history. No state is used.
+-- Entry: the log row of a group and an integration, computed from the end of a history, without a state.
 use Rattle.std.specs.Prelude.{ℕ, Bool, false, not, ◌&&◌, ◌==◌, List, [], ◌∷◌, map, filter, Option, Some, None, if◌then◌else◌}
 use Rattle.std.specs.List.{list_any, filter_map}
 use Rattle.std.specs.Option.{option_or}

@@ -1,4 +1,4 @@
--- Interval: how far apart the begins of a group are, told from the end of a history. No state is used.
+-- Interval: how far apart the begins of a group are, computed from the end of a history, without a state.
 use Rattle.std.specs.Prelude.{◌≡◌, ℕ, ◌+◌, ◌≤◌, Bool, true, false, not, ◌&&◌, ◌||◌, ◌==◌, List, [], ◌∷◌}
 use Rattle.am_nflog.specs.Members.{is_empty}
 use Rattle.am_model.specs.declared.config.Config.{Config}

@@ -1,4 +1,4 @@
--- Look-back: what was done and why, told from a history alone, with any number of flushes open.
+-- Laws of looking back: what was done and why follows from a history alone, with any number of open flushes.
 use Rattle.std.specs.Prelude.{◌≡◌, ℕ, ◌+◌, Bool, true, false, IsTrue, not, ◌&&◌, ◌||◌, ◌==◌, ◌⊎◌, max, All, List, [], ◌∷◌, map, filter}
 use Rattle.std.specs.Prelude.{find, count_by, Option, Some, None, if◌then◌else◌}
 use Rattle.std.specs.List.{list_any}

@@ -1,5 +1,4 @@
--- A past: a history with its latest record first, so that behind each record stands what came before it. What is looked for from the
--- end is found by recursion.
+-- Past: a history with its latest record first. Behind each record are those before it, so recursion looks back from the end.
 use Rattle.std.specs.Prelude.{ℕ, Bool, true, false, ◌&&◌, ◌||◌, ◌==◌, min, max, List, [], ◌∷◌, reverse, if◌then◌else◌}
 use Rattle.std.specs.List.{list_any}
 use Rattle.am_alerts.specs.declared.limits.TheConstants.{MAX_MOMENT}

@@ -1,4 +1,4 @@
--- Presence: which alerts are in a group, looked for from the end of a history. No state is used.
+-- Presence: which alerts are in a group, computed from the end of a history, without a state.
 use Rattle.std.specs.Prelude.{ℕ, Bool, false, ◌&&◌, ◌||◌, List, [], ◌∷◌, Option, Some, None, if◌then◌else◌}
 use Rattle.std.specs.List.{list_all, list_any}
 use Rattle.am_alerts.specs.AlertData.{AlertData, is_resolved}

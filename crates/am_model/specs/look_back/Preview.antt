@@ -1,5 +1,5 @@
--- Preview: what a begin is to do with the group that it takes, told before it is made. The group and what mutes its alerts are the
--- state's; the reasons are told from the history, and by the state too.
+-- Preview: what a begin would do with the group that it takes. The group and what mutes its alerts are from the state; the reasons are from
+-- the history, and equal those by the state.
 use Rattle.std.specs.Prelude.{◌≡◌, ℕ, List, map, find, Option}
 use Rattle.std.specs.List.{filter_map}
 use Rattle.std.specs.Option.{option_map}

@@ -1,4 +1,4 @@
--- Reasons: why a begin asks an integration of its group's receiver, or why not, told from the history before it. No state is used.
+-- Reasons: why a begin notifies an integration of its group's receiver, or why not, computed from the history before it, without a state.
 use Rattle.std.specs.Prelude.{◌≡◌, ◌≢◌, ◌↔◌, ℕ, ◌+◌, ◌<◌, ◌≤◌, Bool, true, false, not, ◌&&◌, ◌==◌, nat_lt, All, List, [], ◌∷◌, map}
 use Rattle.std.specs.Prelude.{filter, Option, Some, None, if◌then◌else◌}
 use Rattle.std.specs.List.{list_any}

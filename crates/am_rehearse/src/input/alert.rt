@@ -1,4 +1,5 @@
-//! When alerts fire.
+//! The alerts of a rehearsal with their spans, and how they are read. `planned` makes inserts of
+//! them.
 use crate::input::span::Span;
 use am_alerts::labels::Labels;
 use am_cli::fault::{FaultKind, InputFault};

@@ -1,4 +1,4 @@
-//! The configuration of a rehearsal.
+//! The configuration of a rehearsal: `config`, or Alertmanager's own. `input` calls it.
 use am_board::config::Config;
 use am_cli::config::read_config;
 use am_cli::fault::{FaultKind, InputFault};
@@ -7,11 +7,24 @@ use am_config::alertmanager::read_alertmanager;
 use am_config::dropped::IgnoredSettings;
 use am_config::faults::Refusal;
 
-/// Reads the configuration, and tells what of it is dropped. It stands in `config` or, as Alertmanager
+/// A configuration, and what of it is ignored.
+#[derive(Drop)]
+pub struct Configured {
+    pub config: Config,
+    pub ignored: IgnoredSettings,
+}
+
+/// Reads the configuration of a story, unless one is given in its place. It stands in `config` or, as Alertmanager
 /// has it, in `alertmanager`, which is refused beside `config`.
-pub fn read_configured(top: &Object<'_, '_>) -> Result<(Config, IgnoredSettings), Refusal> {
+pub fn read_configured(
+    top: &Object<'_, '_>,
+    given: Option<Configured>,
+) -> Result<Configured, Refusal> {
+    if let Some(configured) = given {
+        return Ok(configured);
+    }
     let Some(member) = top.optional("alertmanager") else {
-        return Ok((read_own(top)?, IgnoredSettings::nothing()));
+        return Ok(read_own(&top.required("config")?)?);
     };
     if top.optional("config").is_some() {
         return Err(Refusal::One(member.refuse(FaultKind::BadValue)));
@@ -19,11 +32,19 @@ pub fn read_configured(top: &Object<'_, '_>) -> Result<(Config, IgnoredSettings)
     read_theirs(&member)
 }
 
-fn read_own(top: &Object<'_, '_>) -> Result<Config, InputFault> {
-    read_config(&top.required("config")?)
+/// Reads a configuration of our own.
+pub fn read_own(reader: &Reader<'_, '_>) -> Result<Configured, InputFault> {
+    Ok(Configured {
+        config: read_config(reader)?,
+        ignored: IgnoredSettings::nothing(),
+    })
 }
 
-fn read_theirs(member: &Reader<'_, '_>) -> Result<(Config, IgnoredSettings), Refusal> {
-    let read = read_alertmanager(member)?;
-    Ok((read.config, read.dropped))
+/// Reads a configuration of Alertmanager.
+pub fn read_theirs(reader: &Reader<'_, '_>) -> Result<Configured, Refusal> {
+    let read = read_alertmanager(reader)?;
+    Ok(Configured {
+        config: read.config,
+        ignored: read.dropped,
+    })
 }

@@ -1,4 +1,7 @@
-//! What is expected.
+//! The expectations of a rehearsal, and how they are read. `input` calls it.
+//!
+//! An expectation without `to` reaches to the end of the rehearsal, and not to the ends of the
+//! notices in flight then.
 ghost use Rattle.std.specs.Prelude.{◌≡◌, IfOk, Some, codes, vec_len};
 ghost use Rattle.serde_json.specs.Find.{as_str, get_member};
 ghost use Rattle.serde_json.specs.View.{members_view, view};
@@ -6,6 +9,7 @@ ghost use Rattle.am_cli.specs.Read.{duration_in};
 ghost use Rattle.am_rehearse.specs.Expected.{AreExpectedIn, AreSetsIn, IsExpectedIn, IsExpectedOf, IsWantedIn, first_in, last_in};
 ghost use Rattle.am_rehearse.specs.Expected.{member_if, member_or};
 
+use crate::input::faults::target_fault;
 use crate::input::target::{check, position};
 use am_alerts::labels::Labels;
 use am_alerts::sequence::Sequence;
@@ -16,6 +20,7 @@ use am_cli::fault::{FaultKind, InputFault};
 use am_cli::labels::read_labels;
 use am_cli::place::JsonPointer;
 use am_cli::reader::{FromJson, Object, Reader};
+use am_config::faults::Faults;
 use am_timeline::expectation::{Expectation, Wanted};
 use std::alloc::{AllocError, Global};
 
@@ -87,6 +92,29 @@ fn check_targets(
                 expectation.integration,
                 listed.item(index),
             )?;
+        }
+    }
+    Ok(())
+}
+
+/// Keeps the fault of each expectation of a rehearsal that ends at `until`: of what it says, or of its receiver.
+pub fn expectation_faults(
+    faults: &mut Faults,
+    top: &Object<'_, '_>,
+    config: Option<&Config>,
+    until: u64,
+) -> Result<(), InputFault> {
+    let Some(member) = top.optional("expect") else {
+        return Ok(());
+    };
+    let Some(values) = faults.kept(member.array())? else {
+        return Ok(());
+    };
+    for (index, value) in values.iter().enumerate() {
+        let reader = member.item(index, value);
+        if let Some(expectation) = faults.kept(read_expectation(&reader, until))? {
+            let receiver = expectation.receiver.as_ref().map(Text::as_str);
+            target_fault(faults, &reader, config, receiver, expectation.integration)?;
         }
     }
     Ok(())

@@ -1,4 +1,4 @@
-//! The moment of the start.
+//! The time of the start, and how it is read. `input` calls it.
 ghost use Rattle.std.specs.Prelude.{IfOk, codes};
 ghost use Rattle.serde_json.specs.Find.{get_member};
 ghost use Rattle.serde_json.specs.View.{members_view};

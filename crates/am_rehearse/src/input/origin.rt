@@ -1,4 +1,4 @@
-//! Where a plan stands in the input.
+//! The pointer of a planned action. `run` reports it if a limit leaves no capacity for the action.
 use am_cli::fault::{FaultKind, InputFault};
 use am_cli::place::JsonPointer;
 use std::alloc::Global;

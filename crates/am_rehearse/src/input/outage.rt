@@ -1,4 +1,4 @@
-//! How integrations answer.
+//! The outages of a rehearsal, and how they are read. `input` calls it.
 use crate::input::span::Span;
 use crate::input::target::position;
 use am_alerts::text::Text;

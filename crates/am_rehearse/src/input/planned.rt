@@ -1,4 +1,6 @@
-//! What is planned, in the order of moments.
+//! The planned actions of a rehearsal, in the order of their times. `input` calls it.
+//!
+//! An alert's span is two inserts: one without an end at its start, one with its end at that time.
 use crate::input::alert::AlertItem;
 use crate::input::origin::Origin;
 use crate::input::silence::SilenceItem;

@@ -1,4 +1,6 @@
-//! Silences.
+//! The silences of a rehearsal, and how they are read. `input` calls it.
+//!
+//! A silence is set where its span begins, unless `set` gives another time.
 use crate::input::span::Span;
 use am_alerts::limits::MAX_MATCHERS;
 use am_alerts::matcher::Matcher;

@@ -1,4 +1,4 @@
-//! Spans of time.
+//! Spans of time, and how they are read. Alerts, silences and outages call it.
 use am_cli::duration::{duration, duration_or};
 use am_cli::fault::{FaultKind, InputFault};
 use am_cli::reader::{FromJson, Object, Reader};

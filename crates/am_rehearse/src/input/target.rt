@@ -1,4 +1,4 @@
-//! Which receiver and which integration is meant.
+//! The receiver and the integration that an outage or an expectation names, and how they are read.
 ghost use Rattle.std.specs.Prelude.{◌≡◌, IfOk, Some, codes};
 ghost use Rattle.serde_json.specs.Find.{get_member};
 ghost use Rattle.serde_json.specs.View.{members_view};

@@ -1,4 +1,4 @@
-//! The calls of a lane.
+//! The calls of a lane, and how they are read. `read` calls it.
 ghost use Rattle.std.specs.Prelude.{◌≡◌, None, IfOk, IsSomeAnd, MatchOption, codes};
 ghost use Rattle.serde_json.specs.Find.{get_member};
 ghost use Rattle.serde_json.specs.View.{members_view, view};

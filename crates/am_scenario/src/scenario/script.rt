@@ -1,4 +1,4 @@
-//! What is answered to the attempts of a notice.
+//! The answers to the attempts of a notice, and how they are read. `read` calls it.
 ghost use Rattle.std.specs.Prelude.{◌≡◌, Some, IfOk};
 ghost use Rattle.serde_json.specs.Find.{as_str};
 ghost use Rattle.serde_json.specs.View.{view};

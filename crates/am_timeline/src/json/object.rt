@@ -1,4 +1,4 @@
-//! A JSON object that is being made.
+//! A JSON object that is being made. `json` calls it.
 use crate::clock::TimeFormat;
 use crate::groups::push_integration;
 use crate::shown::push_hex;
@@ -18,7 +18,7 @@ pub(super) struct Object {
 }
 
 impl Object {
-    /// An object on an event at a moment, with its group.
+    /// Returns the object of an event at a time, with its group.
     pub(super) fn new<C: TimeFormat>(
         alloc: Global,
         config: &Config,
@@ -94,7 +94,7 @@ impl Object {
     }
 }
 
-/// Adds a JSON text, with the control characters by their numbers that JSON lets stand.
+/// Adds a JSON text, and the control characters that JSON allows as their numbers.
 fn push_without_controls(text: &str, out: &mut String) -> Result<(), AllocError> {
     for c in text.chars() {
         match c {

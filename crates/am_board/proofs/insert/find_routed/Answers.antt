@@ -1,6 +1,7 @@
 use Rattle.std.proofs.Common.{◌≡◌, ◌∙◌, ◌<◌, ◌≤◌, List, [], ◌∷◌, ◌++◌, ℕ, length, map, sym, ap, subst, arith}
 use Rattle.std.specs.Prelude.{All}
 use Rattle.std.proofs.lemmas.List.Elements.{All-push}
+use Rattle.am_alerts.specs.RoutingTree.{last_of}
 use Rattle.am_board.specs.Inserting.{IsFound, name_at}
 use Rattle.am_board.specs.declared.insert.Target.{Target}
 use Rattle.am_board.proofs.lemmas.insert.Placing.{names_more}
@@ -8,8 +9,8 @@ use Rattle.am_board.proofs.insert.find_routed.Goals as goal
 
 pub find_target-requires : goal.find_target-requires
 find_target-requires c =
-    let exist : All (λ (p : ℕ). p ≤ length c.args.routes.now.children) c.deref-route-items.result.now =
-    subst (All (λ (p : ℕ). p ≤ length c.args.routes.now.children)) (sym c.deref-route-items.ensures.value) c.in_ok-positions.ensures.exist in
+    let exist : All (λ (p : ℕ). p ≤ last_of c.args.routes.now) c.deref-route-items.result.now =
+    subst (All (λ (p : ℕ). p ≤ last_of c.args.routes.now)) (sym c.deref-route-items.ensures.value) c.in_ok-positions.ensures.exist in
     exist c.loop-route.route-index 0 (omega arith)
 
 pub loop-route-preserved : goal.loop-route-preserved

@@ -1,11 +1,13 @@
-use Rattle.std.proofs.Common.{◌≡◌, ◌∙◌, ◌<◌, length, ◌+◌, false, ◌++◌, ◌∷◌, [], List, Some, None, map, get_or, inl, inr, refl, sym, ap, subst, arith, suc}
+use Rattle.std.proofs.Common.{◌≡◌, ◌∙◌, ◌<◌, length, ◌+◌, false, ◌++◌, ◌∷◌, [], List, Some, None, map, get_or, inl, inr, refl, sym, ap, subst, arith, true≢false}
+use Rattle.std.specs.Prelude.{◌==◌}
+use Rattle.std.proofs.lemmas.Cmp.{nat_eq_equiv}
 use Rattle.am_model.specs.declared.group.GroupName.{GroupName}
 use Rattle.am_model.specs.Insert.{wait_of, new_group, group_with}
 use Rattle.am_board.specs.Refinement.{group_state}
 use Rattle.am_board.specs.declared.group.Group.{Group}
 use Rattle.am_board.specs.Group.{names_of, HasRoom}
 use Rattle.am_board.specs.Inserting.{place_in}
-use Rattle.am_board.proofs.lemmas.invariant.GroupNames.{names_set, names-push, room_set, room_push}
+use Rattle.am_board.proofs.lemmas.invariant.GroupNames.{names_set, names-push, room_other, room_push}
 use Rattle.std.specs.Prelude.{IfSome}
 use Rattle.am_board.proofs.lemmas.insert.Found.{found_within}
 use Rattle.am_board.proofs.lemmas.insert.GroupRoom.{named_at}
@@ -37,11 +39,17 @@ returns-in-Some-clause-names c =
     let group = c.insert.ensures in
     inl (ap names_of group.items ∙ names_set c.args.groups.now.items c.in-Some.i group.to group.from (group.name ∙ ap (λ (g : Group). g.name) group.was))
 
+-- names of different routes differ
+differ : (a b : GroupName) → (a.route == b.route) ≡ false → b ≡ a → ⊥
+differ a b apart same = true≢false (sym (nat_eq_equiv.refl a.route) ∙ ap (λ (n : GroupName). a.route == n.route) (sym same) ∙ apart)
+
 pub returns-in-Some-clause-others : goal.returns-in-Some-clause-others
-returns-in-Some-clause-others c n name ready room =
+returns-in-Some-clause-others c name apart room =
     let group = c.insert.ensures in
-    subst (HasRoom n name) (sym group.items)
-    (room_set (suc n) n name c.args.groups.now.items c.in-Some.i group.to group.from (omega arith) (inside ((goal.at.returns-in-Some-clause-others c).In-Some)) group.was group.name (λ fits. omega (arith, fits, group.changed.room)) room)
+    let spot = (goal.at.returns-in-Some-clause-others c).In-Some in
+    let of_name : group.to.name ≡ c.args.placement.name = group.name ∙ ap (λ (g : Group). g.name) group.was ∙ named spot group.from in
+    subst (HasRoom 1 name) (sym group.items)
+    (room_other 1 name c.args.groups.now.items c.in-Some.i group.to (inside spot) (λ same. differ name c.args.placement.name apart (sym of_name ∙ same)) room)
 
 pub returns-in-Some-clause-state : goal.returns-in-Some-clause-state
 returns-in-Some-clause-state c config m early is =
@@ -66,9 +74,9 @@ returns-in-None-clause-names c =
     inr (ap names_of c.add.ensures.items ∙ (names-push c.args.groups.now.items c.insert-in-None.new.self ∙ ap (λ n. names_of c.args.groups.now.items ++ n ∷ []) c.insert-in-None.ensures.name))
 
 pub returns-in-None-clause-others : goal.returns-in-None-clause-others
-returns-in-None-clause-others c n name ready room =
-    subst (HasRoom n name) (sym c.add.ensures.items)
-    (room_push (suc n) n name c.args.groups.now.items c.insert-in-None.new.self (omega arith) (omega (arith, ready.1 c.in-None.is, c.insert-in-None.ensures.room)) room)
+returns-in-None-clause-others c name apart room =
+    subst (HasRoom 1 name) (sym c.add.ensures.items)
+    (room_push 1 name c.args.groups.now.items c.insert-in-None.new.self (λ same. differ name c.args.placement.name apart (sym c.insert-in-None.ensures.name ∙ same)) room)
 
 pub returns-in-None-clause-state : goal.returns-in-None-clause-state
 returns-in-None-clause-state c config m early is =

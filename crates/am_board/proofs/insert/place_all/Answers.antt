@@ -1,17 +1,18 @@
 use Rattle.std.proofs.Common.{◌≡◌, ◌∙◌, ◌≤◌, ◌++◌, ◌∷◌, [], ℕ, suc, List, Some, map, vec_len, length, arith, sym, ap, subst}
 use Rattle.std.specs.Prelude.{All, fold, reverse, ◌==◌}
 use Rattle.std.proofs.lemmas.List.{reverse-append, reverse-reverse}
-use Rattle.std.proofs.lemmas.List.Elements.{All-pop, All-weaker}
+use Rattle.std.proofs.lemmas.List.Elements.{All-pop}
 use Rattle.std.proofs.lemmas.List.Sorted.{All-permutation}
 use Rattle.std.proofs.lemmas.Cmp.{nat_eq_equiv}
 use Rattle.std.proofs.lemmas.Map.Keys.{IsDistinct-IsPermutation}
-use Rattle.am_board.proofs.lemmas.insert.Found.{found_rest}
+use Rattle.am_board.proofs.lemmas.insert.Found.{found_rest, room_rest}
 use Rattle.am_model.proofs.lists.Distinct.{IsDistinct-last}
+use Rattle.am_alerts.specs.RoutingTree.{last_of}
 use Rattle.am_board.specs.declared.insert.Placement.{Placement}
 use Rattle.am_board.specs.Group.{names_of, HasRoom}
 use Rattle.am_model.specs.Insert.{put_into_group}
 use Rattle.am_board.specs.Refinement.{group_state}
-use Rattle.am_board.specs.Inserting.{IsEmptyWithRoom, HaveRoom, IsFound, AreApart, target_of, IsPlacementOf}
+use Rattle.am_board.specs.Inserting.{IsEmptyWithRoom, IsFound, AreApart, target_of, IsPlacementOf}
 use Rattle.am_board.proofs.lemmas.invariant.GroupNames.{routed_added}
 use Rattle.am_board.proofs.insert.place_all.Goals as goal
 
@@ -21,16 +22,13 @@ loop-placement-init c =
     let given : List Placement = c.args.placements.items in
     let turned : List Placement = c.reverse.new.self.items in
     let count : vec_len c.reverse.new.self ≡ vec_len c.args.placements = c.reverse.ensures.len in
-    let n : ℕ = vec_len c.reverse.new.self in
-    let room : HaveRoom n c.args.groups.now.items given = subst (λ m. HaveRoom m c.args.groups.now.items given) (sym count) c.requires.room in
-    let ready : All (IsEmptyWithRoom n) given = subst (λ m. All (IsEmptyWithRoom m) given) (sym count) c.requires.ready in
     record {
       spare = omega (arith, c.requires.spare, count);
-      room = moved (λ p. HasRoom n p.name c.args.groups.now.items) given turned c.reverse.ensures.permutation room;
-      ready = moved (IsEmptyWithRoom n) given turned c.reverse.ensures.permutation ready;
+      room = moved (λ p. HasRoom 1 p.name c.args.groups.now.items) given turned c.reverse.ensures.permutation c.requires.room;
+      ready = moved IsEmptyWithRoom given turned c.reverse.ensures.permutation c.requires.ready;
       found = moved (λ p. IsFound c.args.groups.now.items (target_of p)) given turned c.reverse.ensures.permutation c.requires.found;
       apart = IsDistinct-IsPermutation (λ p q. p.name.route == q.name.route) (λ p q. nat_eq_equiv.symm p.name.route q.name.route) given turned c.reverse.ensures.permutation c.requires.apart;
-      routed = λ tree groups placements. (groups, moved (λ p. p.name.route ≤ length tree.children) given turned c.reverse.ensures.permutation placements);
+      routed = λ tree groups placements. (groups, moved (λ p. p.name.route ≤ last_of tree) given turned c.reverse.ensures.permutation placements);
       state = λ config m early are. (
         moved (IsPlacementOf config.routes m) given turned c.reverse.ensures.permutation are,
         ap (λ ps. fold (put_into_group config c.args.t m) (map group_state c.args.groups.now.items) (map (λ (p : Placement). p.name) ps)) (ap reverse c.reverse.ensures.items ∙ reverse-reverse given),
@@ -38,14 +36,12 @@ loop-placement-init c =
     }
 
 pub place-requires-clause-room : goal.place-requires-clause-room
-place-requires-clause-room c k d within same =
-    let last = All-pop (λ (p : Placement). HasRoom (vec_len c.loop-placement.placements) p.name c.loop-placement.groups.items) c.loop-placement.placements.items c.pop.new.self.items (Some c.in-Some.placement) c.in-Some.ensures.items c.loop-placement.invariant.room in
-    omega (arith, last.1 k d within same, c.in-Some.ensures.len)
+place-requires-clause-room c =
+    (All-pop (λ (p : Placement). HasRoom 1 p.name c.loop-placement.groups.items) c.loop-placement.placements.items c.pop.new.self.items (Some c.in-Some.placement) c.in-Some.ensures.items c.loop-placement.invariant.room).1
 
 pub place-requires-clause-ready : goal.place-requires-clause-ready
 place-requires-clause-ready c =
-    let last = All-pop (IsEmptyWithRoom (vec_len c.loop-placement.placements)) c.loop-placement.placements.items c.pop.new.self.items (Some c.in-Some.placement) c.in-Some.ensures.items c.loop-placement.invariant.ready in
-    (last.1.0, (λ missing. omega (arith, last.1.1 missing, c.in-Some.ensures.len)), last.1.2, last.1.3)
+    (All-pop IsEmptyWithRoom c.loop-placement.placements.items c.pop.new.self.items (Some c.in-Some.placement) c.in-Some.ensures.items c.loop-placement.invariant.ready).1
 
 pub place-requires-clause-found : goal.place-requires-clause-found
 place-requires-clause-found c =
@@ -58,23 +54,19 @@ loop-placement-preserved c =
     let x : Placement = c.in-Some.placement in
     let popped : c.loop-placement.placements.items ≡ rest ++ x ∷ [] = c.in-Some.ensures.items in
     let counted : vec_len c.loop-placement.placements ≡ suc n = omega (arith, c.in-Some.ensures.len) in
-    let room : HaveRoom (suc n) c.loop-placement.groups.items c.loop-placement.placements.items =
-    subst (λ m. HaveRoom m c.loop-placement.groups.items c.loop-placement.placements.items) counted c.loop-placement.invariant.room in
-    let ready : All (IsEmptyWithRoom (suc n)) c.loop-placement.placements.items =
-    subst (λ m. All (IsEmptyWithRoom m) c.loop-placement.placements.items) counted c.loop-placement.invariant.ready in
-    let rooms = All-pop (λ (p : Placement). HasRoom (suc n) p.name c.loop-placement.groups.items) c.loop-placement.placements.items rest (Some x) popped room in
-    let readies = All-pop (IsEmptyWithRoom (suc n)) c.loop-placement.placements.items rest (Some x) popped ready in
+    let rooms = All-pop (λ (p : Placement). HasRoom 1 p.name c.loop-placement.groups.items) c.loop-placement.placements.items rest (Some x) popped c.loop-placement.invariant.room in
+    let readies = All-pop IsEmptyWithRoom c.loop-placement.placements.items rest (Some x) popped c.loop-placement.invariant.ready in
     let founds = All-pop (λ (p : Placement). IsFound c.loop-placement.groups.items (target_of p)) c.loop-placement.placements.items rest (Some x) popped c.loop-placement.invariant.found in
     let last = IsDistinct-last (λ (p q : Placement). p.name.route == q.name.route) rest x (subst AreApart popped c.loop-placement.invariant.apart) in
     record {
       found = found_rest x.name c.loop-placement.groups.items c.place.new.groups.items c.place.ensures.names rest last.1 founds.0;
       apart = last.0;
       spare = omega (arith, c.place.ensures.spare, c.loop-placement.invariant.spare, counted);
-      room = All-weaker (λ (p : Placement). HasRoom (suc n) p.name c.loop-placement.groups.items) (λ (p : Placement). HasRoom n p.name c.place.new.groups.items) (λ p had. c.place.ensures.others n p.name readies.1 had) rest rooms.0;
-      ready = All-weaker (IsEmptyWithRoom (suc n)) (IsEmptyWithRoom n) (λ p had. (had.0, (λ missing. omega (arith, had.1 missing)), had.2, had.3)) rest readies.0;
+      room = room_rest x.name c.loop-placement.groups.items c.place.new.groups.items c.place.ensures.others rest last.1 rooms.0;
+      ready = readies.0;
       routed = λ tree groups placements.
           let before = c.loop-placement.invariant.routed tree groups placements in
-          let parts = All-pop (λ (p : Placement). p.name.route ≤ length tree.children) c.loop-placement.placements.items rest (Some x) popped before.1 in
+          let parts = All-pop (λ (p : Placement). p.name.route ≤ last_of tree) c.loop-placement.placements.items rest (Some x) popped before.1 in
           (routed_added tree (names_of c.loop-placement.groups.items) x.name (names_of c.place.new.groups.items) before.0 parts.1 c.place.ensures.names, parts.0);
       state = λ config m early are.
           let before = c.loop-placement.invariant.state config m early are in

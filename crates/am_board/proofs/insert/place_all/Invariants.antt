@@ -14,8 +14,8 @@ use Rattle.am_board.proofs.insert.place_all.Given as goal
 abbrev pub invariant-loop-placement : goal.invariant-loop-placement
 invariant-loop-placement l = record {
   spare : vec_len l.placements ≤ l.groups.room;
-  room : HaveRoom (vec_len l.placements) l.groups.items l.placements.items;
-  ready : All (IsEmptyWithRoom (vec_len l.placements)) l.placements.items;
+  room : HaveRoom l.groups.items l.placements.items;
+  ready : All IsEmptyWithRoom l.placements.items;
   found : AreFound l.groups.items l.placements.items;
   apart : AreApart l.placements.items;
   routed : (tree : RoutingTree) → AreRouted tree (names_of l.fn.groups.items) → AreRoutedPlacements tree l.fn.placements.items → AreRouted tree (names_of l.groups.items) × AreRoutedPlacements tree l.placements.items;

@@ -4,6 +4,7 @@ use Rattle.std.proofs.lemmas.Iterator.Adapters.{YieldsList-from_vec}
 use Rattle.std.proofs.lemmas.Iterator.Consumers.{YieldsList-turn}
 use Rattle.std.proofs.lemmas.List.{map-append, length_push}
 use Rattle.std.proofs.lemmas.List.Elements.{All-push}
+use Rattle.am_alerts.specs.RoutingTree.{last_of}
 use Rattle.am_board.specs.Inserting.{IsEmptyWithRoom, IsPlacementOf, stamped_alert, target_of}
 use Rattle.am_board.specs.declared.insert.Placement.{Placement}
 use Rattle.am_board.specs.declared.insert.Target.{Target}
@@ -14,7 +15,7 @@ prepare-requires c =
     let items : c.into_iter-target-iterator.result.rest.items ≡ c.args.targets.items = c.into_iter-target-iterator.ensures.into_iter_gives.0 in
     let len : c.into_iter-target-iterator.result.rest.len ≡ length c.args.targets.items = c.into_iter-target-iterator.ensures.into_iter_gives.1 ∙ c.args.targets.ok.0 in
     let turn = YieldsList-turn (YieldsList-from_vec {s = c.into_iter-target-iterator.result} c.args.targets.items items len) c.loop-target.yielded c.loop-target.target-iterator c.loop-target.yielded_by c.next.result c.next.new.self c.in-Some.target c.in-Some.is c.next.ensures.steps in
-    subst (λ (t : Target). t.name.route ≤ length c.args.routes.now.children) (sym turn.1) (c.requires (length c.loop-target.yielded) c.in-Some.target turn.0)
+    subst (λ (t : Target). t.name.route ≤ last_of c.args.routes.now) (sym turn.1) (c.requires (length c.loop-target.yielded) c.in-Some.target turn.0)
 
 pub loop-target-preserved : goal.loop-target-preserved
 loop-target-preserved c =
@@ -24,6 +25,6 @@ loop-target-preserved c =
     record {
       count = omega (arith, c.in_ok-push.ensures.len, c.loop-target.invariant.count, length_push c.loop-target.yielded c.in-Some.target);
       targets = ap (map target_of) pushed ∙ (map-append target_of before (x ∷ []) ∙ (ap (λ ts. ts ++ target_of x ∷ []) c.loop-target.invariant.targets ∙ ap (λ t. c.loop-target.yielded ++ t ∷ []) c.in_ok-prepare.ensures.target));
-      ready = subst (All (IsEmptyWithRoom c.len-room.result)) (sym pushed) (All-push (IsEmptyWithRoom c.len-room.result) before x c.loop-target.invariant.ready c.in_ok-prepare.ensures.ready);
+      ready = subst (All IsEmptyWithRoom) (sym pushed) (All-push IsEmptyWithRoom before x c.loop-target.invariant.ready c.in_ok-prepare.ensures.ready);
       placed = subst (All (IsPlacementOf c.args.routes.now (stamped_alert c.args.alert.now c.args.stamp))) (sym pushed) (All-push (IsPlacementOf c.args.routes.now (stamped_alert c.args.alert.now c.args.stamp)) before x c.loop-target.invariant.placed c.in_ok-prepare.ensures.placed);
     }

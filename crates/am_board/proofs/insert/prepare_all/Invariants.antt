@@ -8,6 +8,6 @@ abbrev pub invariant-loop-target : goal.invariant-loop-target
 invariant-loop-target l = record {
   count : vec_len l.placements ≡ length l.yielded;
   targets : map target_of l.placements.items ≡ l.yielded;
-  ready : All (IsEmptyWithRoom l.room) l.placements.items;
+  ready : All IsEmptyWithRoom l.placements.items;
   placed : All (IsPlacementOf l.routes (stamped_alert l.alert l.stamp)) l.placements.items;
 }

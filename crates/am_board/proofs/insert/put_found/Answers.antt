@@ -11,7 +11,7 @@ use Rattle.am_model.proofs.lists.Distinct.{all_from, all_to, all-map, all-told}
 use Rattle.am_model.specs.Insert.{name_in, names_for, inserted}
 use Rattle.am_model.specs.declared.group.GroupName.{GroupName}
 use Rattle.am_alerts.proofs.Positions.{routes_of-exist}
-use Rattle.am_alerts.specs.RoutingTree.{routes_of}
+use Rattle.am_alerts.specs.RoutingTree.{last_of, routes_of}
 use Rattle.am_alerts.specs.declared.labels.Label.{Label}
 use Rattle.am_board.specs.Refinement.{state_of, IsPrepared}
 use Rattle.am_model.specs.declared.config.Config.{Config}
@@ -40,13 +40,13 @@ returns-then-len-made c =
     (answer_groups config (vec_len s.history) (state_of s) c.args.alert is.room is.few (makes_many config s c.args.alert c.count_missing-made.result made (omega (arith, c.if-len-made.true, c.len.ensures.len))), stays_itself config s c.requires.good)
 
 -- each group that was found is of a route that is there
-routed : (config : Config) (labels : List Label) (ts : List Target) → map (λ t. t.name) ts ≡ names_for config labels → All (λ t. t.name.route ≤ length config.routes.children) ts
+routed : (config : Config) (labels : List Label) (ts : List Target) → map (λ t. t.name) ts ≡ names_for config labels → All (λ t. t.name.route ≤ last_of config.routes) ts
 routed config labels ts names =
-    all-told (λ (t : Target). t.name) (λ (n : GroupName). n.route ≤ length config.routes.children) ts
-    (subst (All (λ (n : GroupName). n.route ≤ length config.routes.children)) (sym names)
-    (all_from (λ (n : GroupName). n.route ≤ length config.routes.children) (names_for config labels)
-    (all-map (name_in config labels) (λ (n : GroupName). n.route ≤ length config.routes.children) (routes_of config.routes labels)
-    (all_to (λ (r : ℕ). r ≤ length config.routes.children) (routes_of config.routes labels) (routes_of-exist config.routes labels)))))
+    all-told (λ (t : Target). t.name) (λ (n : GroupName). n.route ≤ last_of config.routes) ts
+    (subst (All (λ (n : GroupName). n.route ≤ last_of config.routes)) (sym names)
+    (all_from (λ (n : GroupName). n.route ≤ last_of config.routes) (names_for config labels)
+    (all-map (name_in config labels) (λ (n : GroupName). n.route ≤ last_of config.routes) (routes_of config.routes labels)
+    (all_to (λ (r : ℕ). r ≤ last_of config.routes) (routes_of config.routes labels) (routes_of-exist config.routes labels)))))
 
 pub prepare_all-requires : goal.prepare_all-requires
 prepare_all-requires c = routed c.args.config.now c.args.alert.labels c.args.found.targets.items c.requires.found.names
@@ -84,8 +84,8 @@ returns c =
     let alert : AlertData = c.args.alert in
     let is = c.requires.found in
     let names = names_placed placements targets (names_for config alert.labels) c.in_ok-placements.ensures.targets is.names in
-    let routes = all-told target_of (λ (t : Target). t.name.route ≤ length config.routes.children) placements
-    (subst (All (λ (t : Target). t.name.route ≤ length config.routes.children)) (sym c.in_ok-placements.ensures.targets) (routed config alert.labels targets is.names)) in
+    let routes = all-told target_of (λ (t : Target). t.name.route ≤ last_of config.routes) placements
+    (subst (All (λ (t : Target). t.name.route ≤ last_of config.routes)) (sym c.in_ok-placements.ensures.targets) (routed config alert.labels targets is.names)) in
     let kept = c.in_ok-reserve_insert.ensures.kept in
     let ready = c.in_ok-reserve_insert.ensures.ready in
     let made : c.count_missing-made.result ≡ (inserted config (state_of s) alert).made =

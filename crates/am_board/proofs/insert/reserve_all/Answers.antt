@@ -30,17 +30,16 @@ loop-placement-preserved c =
       names = c.in_ok-reserve_found.ensures.names ∙ c.loop-placement.invariant.names;
       states = c.in_ok-reserve_found.ensures.states ∙ c.loop-placement.invariant.states;
       spare = c.in_ok-reserve_found.ensures.spare ∙ c.loop-placement.invariant.spare;
-      more = c.loop-placement.invariant.more;
       room = λ k d less.
-          elim (eqb k c.loop-placement.placement-index) as (λ b. eqb k c.loop-placement.placement-index ≡ b → HasRoom (length c.args.placements.now) (get_or c.args.placements.now k d).name new) [
+          elim (eqb k c.loop-placement.placement-index) as (λ b. eqb k c.loop-placement.placement-index ≡ b → HasRoom 1 (get_or c.args.placements.now k d).name new) [
             | true ↦ λ e.
                 let at : c.placement-item.result.name ≡ (get_or c.args.placements.now k d).name =
                 ap (λ (p : Placement). p.name) c.placement-item.is ∙ ap (λ (p : Placement). p.name) (get_or_default c.args.placements.now c.loop-placement.placement-index c.placement-item.result d (omega arith)) ∙ ap (λ j. (get_or c.args.placements.now j d).name) (sym (eqb-true k c.loop-placement.placement-index e)) in
                 let found = at_hand c.args.placements.now c.args.groups.now.items c.loop-placement.groups.items c.loop-placement.placement-index c.placement-item.result c.loop-placement.invariant.names c.requires.found (omega arith) c.placement-item.is in
-                subst (λ n. HasRoom (length c.args.placements.now) n new) at (c.in_ok-reserve_found.ensures.room c.placement-item.result.name found)
+                subst (λ n. HasRoom 1 n new) at (c.in_ok-reserve_found.ensures.room c.placement-item.result.name found)
             | false ↦ λ e.
                 let apart : k ≢ c.loop-placement.placement-index = eqb-false k c.loop-placement.placement-index e in
                 let before = c.loop-placement.invariant.room k d (omega arith) in
-                c.in_ok-reserve_found.ensures.others (length c.args.placements.now) (get_or c.args.placements.now k d).name before
+                c.in_ok-reserve_found.ensures.others 1 (get_or c.args.placements.now k d).name before
           ] refl;
     }

@@ -1,4 +1,4 @@
-use Rattle.std.proofs.Common.{◌≡◌, ◌<◌, ℕ, map, get_or, length}
+use Rattle.std.proofs.Common.{◌≡◌, ◌<◌, ℕ, map, get_or}
 use Rattle.am_board.specs.Group.{names_of, HasRoom}
 use Rattle.am_board.specs.Refinement.{group_state}
 use Rattle.am_board.specs.declared.insert.Placement.{Placement}
@@ -10,6 +10,5 @@ invariant-loop-placement l = record {
   names : names_of l.groups.items ≡ names_of l.fn.groups.items;
   states : map group_state l.groups.items ≡ map group_state l.fn.groups.items;
   spare : l.groups.room ≡ l.fn.groups.room;
-  more : l.more ≡ length l.placements;
-  room : (k : ℕ) (d : Placement) → k < l.placement-index → HasRoom l.more (get_or l.placements k d).name l.groups.items;
+  room : (k : ℕ) (d : Placement) → k < l.placement-index → HasRoom 1 (get_or l.placements k d).name l.groups.items;
 }

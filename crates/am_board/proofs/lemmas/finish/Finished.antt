@@ -3,6 +3,7 @@ use Rattle.std.proofs.Common.{◌≡◌, ℕ, ◌+◌, ◌<◌, ◌≤◌, ◌==
 use Rattle.std.specs.Prelude.{All, IsPermutation}
 use Rattle.std.specs.List.{remove}
 use Rattle.std.specs.Option.{option_map}
+use Rattle.am_alerts.specs.RoutingTree.{last_of}
 use Rattle.am_alerts.specs.declared.limits.TheConstants.{MAX_MOMENT}
 use Rattle.am_retry.specs.declared.outcome.Outcome.{Outcome}
 use Rattle.am_model.specs.Finish.{leaves_by, finished_group, finished, after_finish_of, rows_after}
@@ -80,7 +81,7 @@ module _ (config : Config) (id : ℕ) (old new : kept.State) (f : ℕ) (o : Open
       record {
         told = told done;
         state = subst (λ g. EqualUpToRowOrder (state_of new) (after_finish_of config (state_of old) (moment (state_of old) now) outcomes g)) (sym found) (state done);
-        routed = subst (λ names. All (λ n. n.route ≤ length config.routes.children) names) (sym done.names) good.routed;
+        routed = subst (λ names. All (λ n. n.route ≤ last_of config.routes) names) (sym done.names) good.routed;
         prepared = subst (All (IsPrepared config new.log)) (sym done.flushes) (All-remove (IsPrepared config new.log) old.flushes.items f (all_prepared config old.log new.log old.flushes.items done.keys good.prepared));
         history = done.history;
         records = done.records;

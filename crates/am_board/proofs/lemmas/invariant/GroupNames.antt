@@ -7,7 +7,7 @@ use Rattle.std.proofs.lemmas.List.{get_or-map, length-map}
 use Rattle.am_board.specs.declared.group.Group.{Group}
 use Rattle.am_model.specs.declared.group.GroupName.{GroupName}
 use Rattle.std.proofs.lemmas.List.Elements.{All-append, All-cons, All-nil}
-use Rattle.am_alerts.specs.RoutingTree.{RoutingTree}
+use Rattle.am_alerts.specs.RoutingTree.{RoutingTree, last_of}
 use Rattle.am_board.specs.Refinement.{group_state}
 use Rattle.am_board.specs.Group.{names_of, AreRouted, AddsAtMost, HasRoom, Fits}
 
@@ -19,50 +19,46 @@ names_set gs i g d h = map-set_same (λ g. g.name) gs i g d h
 pub states_set : (gs : List Group) (i : ℕ) (g d : Group) → group_state g ≡ group_state (get_or gs i d) → map group_state (set gs i g) ≡ map group_state gs
 states_set gs i g d h = map-set_same group_state gs i g d h
 
--- one group is replaced by one of its name
-pub room_set : (m n : ℕ) (name : GroupName) (gs : List Group) (i : ℕ) (g old : Group) → n ≤ m → i < length gs → old ≡ get_or gs i old → g.name ≡ old.name → (Fits m old → Fits n g) → HasRoom m name gs → HasRoom n name (set gs i g)
-room_set m n name gs i g old less within is named fits room k d h same =
-    let P : Group → Type 0 = λ x. x.name ≡ name → Fits n x in
-    let there : k < length gs = omega (arith, h, length-set gs i g) in
-    elim (eqb k i) as (λ b. eqb k i ≡ b → Fits n (get_or (set gs i g) k d)) [
-      | true ↦ λ e.
-          let at : get_or (set gs i g) k d ≡ g = ap (λ j. get_or (set gs i g) j d) (eqb-true k i e) ∙ get_or-set_same gs i g d within in
-          let here : (get_or gs i old).name ≡ name = ap (λ x. x.name) (sym is) ∙ (sym named ∙ (ap (λ x. x.name) (sym at) ∙ same)) in
-          let had : Fits m (get_or gs i old) = room i old within here in
-          subst (Fits n) (sym at) (fits (subst (Fits m) (sym is) had))
-      | false ↦ λ e.
-          let apart : k ≢ i = eqb-false k i e in
-          let at : get_or (set gs i g) k d ≡ get_or gs k d = get_or-set_other gs i k g d apart in
-          let had : Fits m (get_or gs k d) = room k d there (ap (λ x. x.name) (sym at) ∙ same) in
-          subst (Fits n) (sym at) (omega (arith, had, less))
-    ] refl
-
 -- a group is added
 pub names-push : (gs : List Group) (g : Group) → names_of (gs ++ g ∷ []) ≡ names_of gs ++ g.name ∷ []
 names-push [] g = refl
 names-push (x ∷ gs) g = ap (λ ns. x.name ∷ ns) (names-push gs g)
 
 -- a name is added whose route is there
-pub routed_added : (tree : RoutingTree) (old : List GroupName) (name : GroupName) (new : List GroupName) → AreRouted tree old → name.route ≤ length tree.children → AddsAtMost old name new → AreRouted tree new
+pub routed_added : (tree : RoutingTree) (old : List GroupName) (name : GroupName) (new : List GroupName) → AreRouted tree old → name.route ≤ last_of tree → AddsAtMost old name new → AreRouted tree new
 routed_added tree old name new routed here added =
     elim added [
       | inl e ↦ subst (AreRouted tree) (sym e) routed
-      | inr e ↦ subst (AreRouted tree) (sym e) (All-append (λ (n : GroupName). n.route ≤ length tree.children) old (name ∷ []) routed (All-cons (λ (n : GroupName). n.route ≤ length tree.children) name [] here (All-nil (λ (n : GroupName). n.route ≤ length tree.children))))
+      | inr e ↦ subst (AreRouted tree) (sym e) (All-append (λ (n : GroupName). n.route ≤ last_of tree) old (name ∷ []) routed (All-cons (λ (n : GroupName). n.route ≤ last_of tree) name [] here (All-nil (λ (n : GroupName). n.route ≤ last_of tree))))
     ]
 
--- a group with this room is added
-pub room_push : (m n : ℕ) (name : GroupName) (gs : List Group) (g : Group) → n ≤ m → Fits n g → HasRoom m name gs → HasRoom n name (gs ++ g ∷ [])
-room_push m n name gs g less fits room =
+-- a group of another name is replaced by one of its name
+pub room_other : (n : ℕ) (name : GroupName) (gs : List Group) (i : ℕ) (g : Group) → i < length gs → (g.name ≡ name → ⊥) → HasRoom n name gs → HasRoom n name (set gs i g)
+room_other n name gs i g within other room k d h same =
+    let there : k < length gs = omega (arith, h, length-set gs i g) in
+    elim (eqb k i) as (λ b. eqb k i ≡ b → Fits n (get_or (set gs i g) k d)) [
+      | true ↦ λ e.
+          let at : get_or (set gs i g) k d ≡ g = ap (λ j. get_or (set gs i g) j d) (eqb-true k i e) ∙ get_or-set_same gs i g d within in
+          absurd (other (ap (λ x. x.name) (sym at) ∙ same))
+      | false ↦ λ e.
+          let apart : k ≢ i = eqb-false k i e in
+          let at : get_or (set gs i g) k d ≡ get_or gs k d = get_or-set_other gs i k g d apart in
+          subst (Fits n) (sym at) (room k d there (ap (λ x. x.name) (sym at) ∙ same))
+    ] refl
+
+-- a group of another name is added
+pub room_push : (n : ℕ) (name : GroupName) (gs : List Group) (g : Group) → (g.name ≡ name → ⊥) → HasRoom n name gs → HasRoom n name (gs ++ g ∷ [])
+room_push n name gs g other room =
     let P : Group → Type 0 = λ x. x.name ≡ name → Fits n x in
-    All-append P gs (g ∷ []) (λ k d h same. omega (arith, less, room k d h same)) (All-cons P g [] (λ _. fits) (All-nil P))
+    All-append P gs (g ∷ []) room (All-cons P g [] (λ same. absurd (other same)) (All-nil P))
 
 -- a whole list, lent as a slice and given back
 pub whole_again : {X : Type 0} (n : ℕ) (xs ys : List X) → length xs ≡ n → take n (xs ++ ys) ≡ xs
 whole_again n xs ys e = subst (λ m. take m (xs ++ ys) ≡ xs) e (take-append_seam xs ys)
 
 -- the route of a group at a place is there
-pub routed_at : (tree : RoutingTree) (gs : List Group) (i : ℕ) (g : Group) → AreRouted tree (names_of gs) → i < length gs → g ≡ get_or gs i g → g.name.route ≤ length tree.children
+pub routed_at : (tree : RoutingTree) (gs : List Group) (i : ℕ) (g : Group) → AreRouted tree (names_of gs) → i < length gs → g ≡ get_or gs i g → g.name.route ≤ last_of tree
 routed_at tree gs i g routed within is =
     let within_names : i < length (names_of gs) = omega (arith, within, length-map gs (λ (x : Group). x.name)) in
     let at : get_or (names_of gs) i g.name ≡ g.name = get_or-map (λ (x : Group). x.name) gs i g g.name within ∙ ap (λ (x : Group). x.name) (sym is) in
-    subst (λ (n : GroupName). n.route ≤ length tree.children) at (routed i g.name within_names)
+    subst (λ (n : GroupName). n.route ≤ last_of tree) at (routed i g.name within_names)

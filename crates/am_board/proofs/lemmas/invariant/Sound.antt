@@ -2,8 +2,9 @@
 use Rattle.std.proofs.Common.{◌≡◌, ℕ, ◌+◌, ◌*◌, ◌≤◌, false, Option, Some, None, List, length, vec_len, sym, ap, ◌∙◌, subst, arith}
 use Rattle.std.specs.Prelude.{sum_by, All}
 use Rattle.std.proofs.lemmas.List.Elements.{All-nil}
+use Rattle.am_alerts.specs.RoutingTree.{last_of}
 use Rattle.am_alerts.specs.AlertData.{AlertData}
-use Rattle.am_alerts.specs.declared.limits.TheConstants.{MAX_CHILDREN}
+use Rattle.am_alerts.specs.declared.limits.TheConstants.{MAX_ROUTES}
 use Rattle.am_mute.specs.Silence.{SilenceData}
 use Rattle.am_mute.specs.SourceIndex.{SourceIndex}
 use Rattle.am_mute.specs.Sources.{AreLearnt}
@@ -83,10 +84,10 @@ module _ (b : Inside) (sound : IsSound b) where
       }
 
   -- the alerts over all groups are few, and so are the inserts
-  pub few_alerts : sum_by (λ g. length g.members) (state_of b.state).groups ≤ 64 * b.state.inserts
+  pub few_alerts : sum_by (λ g. length g.members) (state_of b.state).groups ≤ 1_024 * b.state.inserts
   few_alerts =
       let few : IsBounded b.config (length b.state.history.items) replayed = bounded b.config b.state.history.items in
-      subst (λ (s : State). sum_by (λ g. length g.members) s.groups ≤ 64 * s.inserts) (sym sound.agrees.rest) (few.alerts sound.children)
+      subst (λ (s : State). sum_by (λ g. length g.members) s.groups ≤ 1_024 * s.inserts) (sym sound.agrees.rest) (few.alerts sound.few_routes)
 
   pub few_inserts : b.state.inserts ≤ MAX_HISTORY
   few_inserts = omega (arith, good.inserts, sound.kept, sound.limits.history.1)
@@ -119,7 +120,7 @@ module _ (b : Inside) (sound : IsSound b) where
         record {
           limits = sound.limits;
           configured = sound.configured;
-          children = sound.children;
+          few_routes = sound.few_routes;
           legal = legal_then;
           agrees = agrees_then;
           names = (fewer few).0;
@@ -144,7 +145,7 @@ module _ (b : Inside) (sound : IsSound b) where
         record {
           limits = sound.limits;
           configured = sound.configured;
-          children = sound.children;
+          few_routes = sound.few_routes;
           legal = subst (IsLegal b.config b.id) (sym stays.history) sound.legal;
           agrees = subst (λ (s : State). EqualUpToRowOrder s (replay b.config new.history.items)) (sym stays.state) (subst (λ (h : List Record). EqualUpToRowOrder (state_of b.state) (replay b.config h)) (sym stays.history) sound.agrees);
           names = subst (λ (s : State). length s.known ≤ b.config.limits.names) (sym stays.state) sound.names;
@@ -166,7 +167,7 @@ sound_learnt b sources destinations learnt kept sound =
     record {
       limits = sound.limits;
       configured = sound.configured;
-      children = sound.children;
+      few_routes = sound.few_routes;
       legal = sound.legal;
       agrees = sound.agrees;
       names = sound.names;
@@ -182,13 +183,13 @@ sound_learnt b sources destinations learnt kept sound =
     }
 
 -- a board that was just made is sound
-pub new_sound : (config : Config) (id : ℕ) (s : kept.State) (sources : SourceIndex) (destinations : List (Option (List GroupName))) → AreLearnt config.rules s.known.items sources → AreKept config s.known.items destinations → config_fault config ≡ None → length config.routes.children ≤ MAX_CHILDREN → AreAllowed config.limits → IsNew s
+pub new_sound : (config : Config) (id : ℕ) (s : kept.State) (sources : SourceIndex) (destinations : List (Option (List GroupName))) → AreLearnt config.rules s.known.items sources → AreKept config s.known.items destinations → config_fault config ≡ None → last_of config.routes ≤ MAX_ROUTES → AreAllowed config.limits → IsNew s
     → IsSound (record { config = config; id = id; state = s; sources = sources; destinations = destinations })
-new_sound config id s sources destinations learnt names configured children limits new =
+new_sound config id s sources destinations learnt names configured few limits new =
     record {
       limits = limits;
       configured = configured;
-      children = children;
+      few_routes = few;
       legal = subst (IsLegal config id) (sym new.history) tt;
       agrees = subst (λ (h : List Record). EqualUpToRowOrder (state_of s) (replay config h)) (sym new.history) (subst (λ (x : State). EqualUpToRowOrder x opening_state) (sym new.state) (EqualUpToRowOrder-refl opening_state));
       names = subst (λ (x : State). length x.known ≤ config.limits.names) (sym new.state) (omega arith);
@@ -197,7 +198,7 @@ new_sound config id s sources destinations learnt names configured children limi
       opened = omega (arith, new.unflushed);
       kept = omega (arith, new.unflushed, new.records);
       room = omega (arith, new.unflushed, new.records);
-      routed = subst (λ (gs : List Group). AreRouted config.routes (names_of gs)) (sym new.groups) (All-nil (λ (n : GroupName). n.route ≤ length config.routes.children));
+      routed = subst (λ (gs : List Group). AreRouted config.routes (names_of gs)) (sym new.groups) (All-nil (λ (n : GroupName). n.route ≤ last_of config.routes));
       prepared = subst (All (IsPrepared config s.log)) (sym new.flushes) (All-nil (IsPrepared config s.log));
       sources = learnt;
       destinations = names;

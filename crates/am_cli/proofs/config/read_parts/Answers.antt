@@ -1,4 +1,4 @@
-use Rattle.std.proofs.Common.{◌≡◌, List, [], codes, ap, subst, sym}
+use Rattle.std.proofs.Common.{◌≡◌, List, [], codes, ap, ◌∙◌, subst, sym}
 use Rattle.serde_json.specs.Find.{get_member}
 use Rattle.serde_json.specs.View.{members_view, view}
 use Rattle.am_alerts.specs.RoutingTree.{RoutingTree, tree_of}
@@ -31,9 +31,9 @@ returns c =
       root = subst (λ (r : Route). Has DecodesToRoot (codes "route") members r) (sym (ap (λ (t : RoutingTree). t.root) routes))
           (decoded_by DecodesToRoot (get_member (codes "route") members) (view c.in_ok-required-2.field-0.value) c.in_ok-root.root
           c.in_ok-required-2.ensures.value c.in_ok-root.ensures);
-      children = subst (λ (cs : List Child). HasOr (IsList (DecodesToChild c.args.reader.now.dialect)) [] (codes "children") members cs)
-          (sym (ap (λ (t : RoutingTree). t.children) routes))
-          (subst (λ (m : Dialect). HasOr (IsList (DecodesToChild m)) [] (codes "children") members children) dialect c.in_ok-children.ensures.told);
+      children = children;
+      listed = subst (λ (m : Dialect). HasOr (IsList (DecodesToChild m)) [] (codes "children") members children) dialect c.in_ok-children.ensures.told;
+      tree = routes ∙ ap (λ (r : Route). tree_of r children) (sym (ap (λ (t : RoutingTree). t.root) routes));
       rules = subst (λ (rs : List RuleData). HasOr (IsList (DecodesToRule c.args.reader.now.dialect)) [] (codes "inhibit") members rs) (sym c.from-2.ensures)
           (subst (λ (m : Dialect). HasOr (IsList (DecodesToRule m)) [] (codes "inhibit") members rules) dialect c.in_ok-rules.ensures.told);
     }

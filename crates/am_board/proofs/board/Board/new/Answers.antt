@@ -25,7 +25,7 @@ returns-in-Err c =
 pub invariant_of-result : goal.invariant_of-result
 invariant_of-result c =
     new_sound c.args.config c.args.id c.in_ok-new-in-Ok.field-0 c.new-in-Ok.result c.new-in-Ok-2.result (c.new-in-Ok.ensures c.args.config.rules c.in_ok-new-in-Ok.field-0.known.items)
-    (subst (AreKept c.args.config c.in_ok-new-in-Ok.field-0.known.items) (sym c.new-in-Ok-2.ensures) (kept_none c.args.config c.in_ok-new-in-Ok.field-0.known.items)) (no_fault (config_fault c.args.config) tt tt c.in-Ok.ensures.fault) c.in-Ok.ensures.children c.in-Ok.ensures.limits
+    (subst (AreKept c.args.config c.in_ok-new-in-Ok.field-0.known.items) (sym c.new-in-Ok-2.ensures) (kept_none c.args.config c.in_ok-new-in-Ok.field-0.known.items)) (no_fault (config_fault c.args.config) tt tt c.in-Ok.ensures.fault) c.in-Ok.ensures.few c.in-Ok.ensures.limits
     c.in_ok-new-in-Ok.ensures
 
 pub returns-in_ok-new-in-Ok : goal.returns-in_ok-new-in-Ok

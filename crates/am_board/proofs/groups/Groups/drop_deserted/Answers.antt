@@ -3,6 +3,7 @@ use Rattle.std.specs.List.{count_by}
 use Rattle.std.specs.Map.{values_of}
 use Rattle.indexmap.proofs.CallerLemmas.{filter-RetainsPairs}
 use Rattle.std.proofs.lemmas.List.Elements.{All-filter}
+use Rattle.am_alerts.specs.RoutingTree.{last_of}
 use Rattle.am_board.specs.Due.{key_of, AreDue, HasKey}
 use Rattle.am_board.specs.declared.group.Group.{Group}
 use Rattle.am_model.specs.declared.group.GroupName.{GroupName}
@@ -61,4 +62,4 @@ returns-clause-routed c tree routed =
     let es = c.self.inside.groups.entries in
     let before = subst (λ (k : GroupList). AreRouted tree (names_of k.items)) (sym c.self.view_is) routed in
     subst (λ gs. AreRouted tree (names_of gs)) (sym (left ((goal.at.returns-clause-routed c).After-retain)))
-    (All-map_filter (λ (n : GroupName). n.route ≤ length tree.children) (λ g. not (is_deserted (group_state g))) (λ (g : Group). g.name) (values_of es) before)
+    (All-map_filter (λ (n : GroupName). n.route ≤ last_of tree) (λ g. not (is_deserted (group_state g))) (λ (g : Group). g.name) (values_of es) before)

@@ -1,6 +1,7 @@
 use Rattle.std.proofs.Common.{◌≡◌, true, ◌&&◌, List, ◌∷◌, map, sym, ap, ◌∙◌}
 use Rattle.std.specs.List.{list_all}
 use Rattle.std.proofs.lemmas.List.Folds.{list_all-map}
+use Rattle.am_alerts.specs.RoutingTree.{children_of}
 use Rattle.am_alerts.specs.declared.route.Child.{Child}
 use Rattle.am_alerts.specs.declared.route.Route.{Route}
 use Rattle.am_model.specs.Config.{has_receiver}
@@ -24,6 +25,6 @@ returns-then-has_receiver c =
       value =
           c.have_receivers.ensures
           ∙ (λ i. list_all (λ (d : Child). has_receiver (receivers i) d.route.receiver) (c.children-children.ensures.children i))
-          ∙ children_decide c.args.self.now.receivers c.args.self.now.routes.root c.args.self.now.routes.children there;
-      children = c.children-children.ensures.few;
+          ∙ children_decide c.args.self.now.receivers c.args.self.now.routes.root (children_of c.args.self.now.routes) there;
+      few = c.children-children.ensures.few;
     }

@@ -1,0 +1,217 @@
+-- Forests and the lists in which they lie.
+use Rattle.std.proofs.Common.{◌≡◌, ℕ, ◌+◌, ◌-◌, ◌<◌, ◌≤◌, zero, suc, List, [], ◌∷◌, ◌++◌, length, map, get_or, take, drop, None, sym, refl, ap, ◌∙◌, subst, arith}
+use Rattle.std.proofs.lemmas.List.{map-append, length-append, length-take-le, length-drop, take_at, drop_at, take-take, drop-take, drop-drop, drop_more, take_all}
+use Rattle.am_alerts.specs.Forest.{Forest, bare, grow, count, listed, level}
+use Rattle.am_alerts.specs.Layout.{laid, planted, planted_of_laid, first_trees-none, other_trees, other_trees-none}
+use Rattle.am_alerts.specs.Planted.{IsLaid, IsPlanted, below_in, paired, part, place_of, tree_from}
+use Rattle.am_alerts.specs.RoutingTree.{RoutingTree, TreeRoute, below_at, plain, children_of, last_of, tree_fault}
+use Rattle.am_alerts.specs.declared.planting.Place.{Place}
+use Rattle.am_alerts.specs.declared.route.Child.{Child}
+use Rattle.am_alerts.specs.declared.route.Route.{Route}
+
+-- ---- any forest
+
+module _ {X : Type 0} where
+  pub length_laid : (f : Forest X) → length (laid f) ≡ count f
+  length_laid bare = refl
+  length_laid (grow x below after) = omega (arith, length-append (laid below) (laid after), length_laid below, length_laid after)
+
+  pub listed_of_laid : (f : Forest X) → map (λ t. t.0) (laid f) ≡ listed f
+  listed_of_laid bare = refl
+  listed_of_laid (grow x below after) =
+      ap (λ xs. x ∷ xs) (map-append (λ t. t.0) (laid below) (laid after)
+      ∙ ap (λ xs. xs ++ map (λ t. t.0) (laid after)) (listed_of_laid below)
+      ∙ ap (λ xs. listed below ++ xs) (listed_of_laid after))
+
+  pub length_listed : (f : Forest X) → length (listed f) ≡ count f
+  length_listed bare = refl
+  length_listed (grow x below after) = omega (arith, length-append (listed below) (listed after), length_listed below, length_listed after)
+
+  pub listed_level : (xs : List X) → listed (level xs) ≡ xs
+  listed_level [] = refl
+  listed_level (x ∷ xs) = ap (λ ys. x ∷ ys) (listed_level xs)
+
+-- ---- children with their places
+
+pub length_paired : (cs : List Child) (ps : List Place) → length (paired cs ps) ≡ length cs
+length_paired [] ps = refl
+length_paired (c ∷ cs) [] = ap suc (length_paired cs [])
+length_paired (c ∷ cs) (p ∷ ps) = ap suc (length_paired cs ps)
+
+pub children_paired : (cs : List Child) (ps : List Place) → map (λ t. t.0.child) (paired cs ps) ≡ cs
+children_paired [] ps = refl
+children_paired (c ∷ cs) [] = ap (λ r. c ∷ r) (children_paired cs [])
+children_paired (c ∷ cs) (p ∷ ps) = ap (λ r. c ∷ r) (children_paired cs ps)
+
+pub get_or_paired : (cs : List Child) (ps : List Place) (k : ℕ) (d : Child) (e : TreeRoute × ℕ) → k < length cs → get_or (paired cs ps) k e ≡ (plain (get_or cs k d), below_in ps k)
+get_or_paired [] ps k d e within = absurd (omega arith)
+get_or_paired (c ∷ cs) [] zero d e within = refl
+get_or_paired (c ∷ cs) [] (suc k) d e within = get_or_paired cs [] k d e (omega arith)
+get_or_paired (c ∷ cs) (p ∷ ps) zero d e within = refl
+get_or_paired (c ∷ cs) (p ∷ ps) (suc k) d e within = get_or_paired cs ps k d e (omega arith)
+
+pub paired_again : (ts : List (TreeRoute × ℕ)) → paired (map (λ t. t.0.child) ts) (map place_of ts) ≡ ts
+paired_again [] = refl
+paired_again (t ∷ ts) = ap (λ r. t ∷ r) (paired_again ts)
+
+children_twice : (ts : List (TreeRoute × ℕ)) → map (λ r. r.child) (map (λ t. t.0) ts) ≡ map (λ t. t.0.child) ts
+children_twice [] = refl
+children_twice (t ∷ ts) = ap (λ r. t.0.child ∷ r) (children_twice ts)
+
+pub children_laid : (f : Forest TreeRoute) → map (λ t. t.0.child) (laid f) ≡ map (λ r. r.child) (listed f)
+children_laid f = sym (children_twice (laid f)) ∙ ap (map (λ r. r.child)) (listed_of_laid f)
+
+-- the children and the places of a forest are its layout
+pub paired_laid : (f : Forest TreeRoute) → paired (map (λ r. r.child) (listed f)) (map place_of (laid f)) ≡ laid f
+paired_laid f = ap (λ cs. paired cs (map place_of (laid f))) (sym (children_laid f)) ∙ paired_again (laid f)
+
+-- children without places are one level
+pub planted_level : (cs : List Child) → planted (paired cs []) ≡ level (map plain cs)
+planted_level [] = refl
+planted_level (c ∷ cs) =
+    ap (λ f. grow (plain c) f (other_trees 0 (planted (paired cs [])))) (first_trees-none (planted (paired cs [])))
+    ∙ ap (λ f. grow (plain c) bare f) (other_trees-none (planted (paired cs [])) ∙ planted_level cs)
+
+pub laid_level : (cs : List Child) → laid (level (map plain cs)) ≡ paired cs []
+laid_level [] = refl
+laid_level (c ∷ cs) = ap (λ ts. (plain c, 0) ∷ ts) (laid_level cs)
+
+module _ (root : Route) (cs : List Child) (ps : List Place) (is_laid : IsLaid (paired cs ps)) where
+  pub children_planted : children_of (tree_from root (paired cs ps)) ≡ cs
+  children_planted =
+      sym (children_laid (planted (paired cs ps))) ∙ ap (map (λ t. t.0.child)) is_laid ∙ children_paired cs ps
+
+  pub last_planted : last_of (tree_from root (paired cs ps)) ≡ length cs
+  last_planted = sym (length_laid (planted (paired cs ps))) ∙ ap length is_laid ∙ length_paired cs ps
+
+-- ---- the first route of a layout, those below it and those after it
+
+abbrev Splits : TreeRoute × ℕ → List (TreeRoute × ℕ) → Forest TreeRoute → Type 0
+Splits t rest f =
+    (t.1 ≤ length rest) × IsLaid (take t.1 rest) × IsLaid (drop t.1 rest)
+    × (f ≡ grow t.0 (planted (take t.1 rest)) (planted (drop t.1 rest)))
+
+splits-grow : (x : TreeRoute) (below after : Forest TreeRoute) → Splits (x, count below) (laid below ++ laid after) (grow x below after)
+splits-grow x below after =
+    let taken : take (count below) (laid below ++ laid after) ≡ laid below = take_at (laid below) (laid after) (count below) (length_laid below) in
+    let left : drop (count below) (laid below ++ laid after) ≡ laid after = drop_at (laid below) (laid after) (count below) (length_laid below) in (
+      omega (arith, length-append (laid below) (laid after), length_laid below),
+      subst (λ ts. IsLaid ts) (sym taken) (ap laid (planted_of_laid below)),
+      subst (λ ts. IsLaid ts) (sym left) (ap laid (planted_of_laid after)),
+      ap (λ f. grow x f after) (sym (ap planted taken ∙ planted_of_laid below))
+          ∙ ap (λ f. grow x (planted (take (count below) (laid below ++ laid after))) f) (sym (ap planted left ∙ planted_of_laid after)),
+    )
+
+splits : (f : Forest TreeRoute) (t : TreeRoute × ℕ) (rest : List (TreeRoute × ℕ)) → laid f ≡ t ∷ rest → Splits t rest f
+splits bare t rest e = absurd (cc)
+splits (grow x below after) t rest e =
+    let first : (x, count below) ≡ t = cc in
+    let others : laid below ++ laid after ≡ rest = cc in
+    subst (λ u. Splits u rest (grow x below after)) first
+    (subst (λ us. Splits (x, count below) us (grow x below after)) others (splits-grow x below after))
+
+-- ---- parts of a list
+
+part-cons : (ts : List (TreeRoute × ℕ)) (at to : ℕ) (d : TreeRoute × ℕ) → at < to → to ≤ length ts → part at to ts ≡ get_or ts at d ∷ part (at + 1) to ts
+part-cons ts at to d before within =
+    let size : to - at ≡ suc (to - (at + 1)) = omega arith in
+    ap (λ us. take (to - at) us) (drop_more ts at d (omega arith)) ∙ ap (λ n. take n (get_or ts at d ∷ drop (at + 1) ts)) size
+
+part-take : (ts : List (TreeRoute × ℕ)) (at n to : ℕ) → at + n ≤ to → take n (part at to ts) ≡ part at (at + n) ts
+part-take ts at n to within =
+    let size : n ≡ at + n - at = omega arith in
+    take-take n (to - at) (drop at ts) (omega arith) ∙ ap (λ k. take k (drop at ts)) size
+
+part-drop : (ts : List (TreeRoute × ℕ)) (at n to : ℕ) → at + n ≤ to → drop n (part at to ts) ≡ part (at + n) to ts
+part-drop ts at n to within =
+    let size : to - at ≡ n + (to - (at + n)) = omega arith in
+    ap (λ k. drop n (take k (drop at ts))) size
+    ∙ drop-take n (to - (at + n)) (drop at ts)
+    ∙ ap (λ us. take (to - (at + n)) us) (drop-drop n at ts)
+
+length_part : (ts : List (TreeRoute × ℕ)) (at to : ℕ) → at ≤ to → to ≤ length ts → length (part at to ts) ≡ to - at
+length_part ts at to before within = length-take-le (to - at) (drop at ts) (omega (arith, length-drop at ts))
+
+pub part-all : (ts : List (TreeRoute × ℕ)) → part 0 (length ts) ts ≡ ts
+part-all ts = let size : length ts - 0 ≡ length ts = omega arith in take_all (length ts - 0) ts (omega arith)
+
+pub part-none : (ts : List (TreeRoute × ℕ)) (at to : ℕ) → to ≤ at → part at to ts ≡ []
+part-none ts at to past = let none : to - at ≡ 0 = omega arith in ap (λ n. take n (drop at ts)) none
+
+-- the route at a place in a part that is laid out, those below it and those after them
+pub record IsOpened (ts : List (TreeRoute × ℕ)) (at to end : ℕ) (x : TreeRoute) : Type 0 where
+  pub ends : end ≤ to
+  pub below : IsLaid (part (at + 1) end ts)
+  pub after : IsLaid (part end to ts)
+  pub whole : planted (part at to ts) ≡ grow x (planted (part (at + 1) end ts)) (planted (part end to ts))
+  pub size : at + 1 + count (planted (part (at + 1) end ts)) ≡ end
+
+pub opened : (ts : List (TreeRoute × ℕ)) (at to : ℕ) (d : TreeRoute × ℕ) → at < to → to ≤ length ts → IsLaid (part at to ts) → IsOpened ts at to (at + 1 + (get_or ts at d).1) (get_or ts at d).0
+opened ts at to d before within is_laid =
+    let t = get_or ts at d in
+    let rest = part (at + 1) to ts in
+    let cons : part at to ts ≡ t ∷ rest = part-cons ts at to d before within in
+    let parts : Splits t rest (planted (part at to ts)) = splits (planted (part at to ts)) t rest (is_laid ∙ cons) in
+    let room : at + 1 + t.1 ≤ to = omega (arith, parts.0, length_part ts (at + 1) to (omega arith) within) in
+    let taken : take t.1 rest ≡ part (at + 1) (at + 1 + t.1) ts = part-take ts (at + 1) t.1 to room in
+    let left : drop t.1 rest ≡ part (at + 1 + t.1) to ts = part-drop ts (at + 1) t.1 to room in
+    let below : IsLaid (part (at + 1) (at + 1 + t.1) ts) = subst (λ us. IsLaid us) taken parts.1 in
+    record {
+      ends = room;
+      below = below;
+      after = subst (λ us. IsLaid us) left parts.2;
+      whole = parts.3 ∙ ap (λ us. grow t.0 (planted us) (planted (drop t.1 rest))) taken ∙ ap (λ us. grow t.0 (planted (part (at + 1) (at + 1 + t.1) ts)) (planted us)) left;
+      size = omega (arith, sym (length_laid (planted (part (at + 1) (at + 1 + t.1) ts))) ∙ ap length below, length_part ts (at + 1) (at + 1 + t.1) (omega arith) (omega arith));
+    }
+
+-- ---- how many stand below a route of a layout: no more than there are
+
+abbrev AreSmall : ℕ → List (TreeRoute × ℕ) → Type 0
+AreSmall n [] = Unit {0}
+AreSmall n (t ∷ ts) = (t.1 ≤ n) × AreSmall n ts
+
+small-append : (n : ℕ) (ts us : List (TreeRoute × ℕ)) → AreSmall n ts → AreSmall n us → AreSmall n (ts ++ us)
+small-append n [] us a b = b
+small-append n (t ∷ ts) us a b = (a.0, small-append n ts us a.1 b)
+
+small_laid : (n : ℕ) (f : Forest TreeRoute) → count f ≤ n → AreSmall n (laid f)
+small_laid n bare few = tt
+small_laid n (grow x below after) few =
+    (omega arith, small-append n (laid below) (laid after) (small_laid n below (omega arith)) (small_laid n after (omega arith)))
+
+small-at : (n : ℕ) (ts : List (TreeRoute × ℕ)) (k : ℕ) → AreSmall n ts → get_or (map (λ t. t.1) ts) k 0 ≤ n
+small-at n [] k a = omega arith
+small-at n (t ∷ ts) zero a = a.0
+small-at n (t ∷ ts) (suc k) a = small-at n ts k a.1
+
+places_paired : (cs : List Child) (ps : List Place) (k : ℕ) → k < length cs → get_or (map (λ t. t.1) (paired cs ps)) k 0 ≡ below_in ps k
+places_paired [] ps k within = absurd (omega arith)
+places_paired (c ∷ cs) [] zero within = refl
+places_paired (c ∷ cs) [] (suc k) within = places_paired cs [] k (omega arith)
+places_paired (c ∷ cs) (p ∷ ps) zero within = refl
+places_paired (c ∷ cs) (p ∷ ps) (suc k) within = places_paired cs ps k (omega arith)
+
+-- ---- a routing tree and what it is kept as
+
+module _ (root : Route) (cs : List Child) (ps : List Place) (tree : RoutingTree) (view : tree_from root (paired cs ps) ≡ tree) (kept : IsPlanted root (paired cs ps)) where
+  pub kept_children : cs ≡ children_of tree
+  kept_children = sym (children_planted root cs ps kept.0) ∙ ap children_of view
+
+  pub kept_last : length cs ≡ last_of tree
+  kept_last = sym (last_planted root cs ps kept.0) ∙ ap last_of view
+
+  pub kept_sound : tree_fault tree ≡ None
+  kept_sound = sym (ap tree_fault view) ∙ kept.1
+
+  pub kept_below : (position : ℕ) → 0 < position → position ≤ last_of tree → below_in ps (position - 1) ≡ below_at tree position
+  kept_below position some within =
+      sym (places_paired cs ps (position - 1) (omega (arith, kept_last)))
+      ∙ ap (λ ts. get_or (map (λ t. t.1) ts) (position - 1) 0) (sym kept.0)
+      ∙ ap (λ t. below_at t position) view
+
+  pub below_at-small : (position : ℕ) → below_at tree position ≤ last_of tree
+  below_at-small position = small-at (last_of tree) (laid tree.below) (position - 1) (small_laid (last_of tree) tree.below (omega arith))
+
+-- the whole list is the part of it that stands in it
+pub part_paired : (cs : List Child) (ps : List Place) → part 0 (length cs) (paired cs ps) ≡ paired cs ps
+part_paired cs ps = ap (λ n. part 0 n (paired cs ps)) (sym (length_paired cs ps)) ∙ part-all (paired cs ps)

@@ -1,0 +1,34 @@
+use Rattle.std.proofs.Common.{rules, ◌≡◌, ◌-◌, ◌++◌, ◌∷◌, [], length, map, set, ap, sym, ◌∙◌}
+use Rattle.std.proofs.lemmas.List.{append-nil}
+use Rattle.am_alerts.specs.Forest.{count}
+use Rattle.am_alerts.specs.Layout.{laid}
+use Rattle.am_alerts.specs.Nested.{forest, settled, settled_below, settled_route}
+use Rattle.am_alerts.specs.Planted.{place_of}
+use Rattle.am_alerts.specs.declared.planting.Place.{Place}
+use Rattle.am_alerts.specs.declared.route.Child.{Child}
+use Rattle.am_alerts.proofs.Forests.{children_more, place_told, places_more}
+use Rattle.am_alerts.proofs.planting.+push.Goals as goal
+
+pub push_nodes-loop-node-preserved : goal.push_nodes-loop-node-preserved
+push_nodes-loop-node-preserved t c = record {
+  children = children_more c.args.above.now c.loop-node.yielded c.in-Some.node c.args.children.now.items c.loop-node.children.items c.push_node.new.children.items c.loop-node.invariant.children c.in_ok-push_node.ensures.children;
+  places = places_more c.args.above.now c.loop-node.yielded c.in-Some.node c.args.places.now.items c.loop-node.places.items c.push_node.new.places.items c.loop-node.invariant.places c.in_ok-push_node.ensures.places;
+}
+
+pub push_node-returns-clause-places : goal.push_node-returns-clause-places
+push_node-returns-clause-places t c =
+    let before = c.args.places.now.items in
+    let now = c.push_nodes.new.places.items in
+    let above = settled c.args.above.now c.args.rule in
+    let below = settled_below above (forest c.args.routes.items) in
+    let leaf : Place = record { below = 0 } in
+    let at : c.len-at.result ≡ length before = search rules in
+    let all : c.len.result ≡ length now = search rules in
+    let route : c.in_ok-route.route ≡ above = c.in_ok-route.ensures ∙ ap (λ (d : Child). d.route) c.in_ok-child.ensures in
+    let was : now ≡ (before ++ leaf ∷ []) ++ map place_of (laid below) =
+    c.in_ok-push_nodes.ensures.places
+    ∙ ap (λ ps. ps ++ map place_of (laid (settled_below c.in_ok-route.route (forest c.args.routes.items)))) c.in_ok-push-4.ensures.items
+    ∙ ap (λ r. (before ++ leaf ∷ []) ++ map place_of (laid (settled_below r (forest c.args.routes.items)))) route in
+    ap (λ i. set now i (let p : Place = record { below = c.len.result - i - 1 } in p)) at
+    ∙ place_told before now (settled_route c.args.above.now c.args.rule) leaf below (c.len.result - length before - 1) was (ap (λ n. n - length before - 1) all)
+    ∙ ap (λ ts. before ++ place_of (settled_route c.args.above.now c.args.rule, count below) ∷ map place_of ts) (sym (append-nil (laid below)))

@@ -1,0 +1,16 @@
+use Rattle.std.proofs.Common.{rules, ◌<◌, length, sym, ◌∙◌, arith}
+use Rattle.std.proofs.lemmas.List.{get_or_past, length-map}
+use Rattle.am_alerts.specs.Forest.{listed}
+use Rattle.am_alerts.specs.RoutingTree.{TreeRoute, children_of, last_of, routes_in}
+use Rattle.am_alerts.specs.declared.route.Child.{Child}
+use Rattle.am_alerts.proofs.Layouts.{length_listed}
+use Rattle.am_model.proofs.config.Config.route_of.Goals as goal
+
+pub returns-else-group-last : goal.returns-else-group-last
+returns-else-group-last c =
+    let tree = c.args.self.now.routes in
+    let past : last_of tree < c.args.group.now.route = search rules in
+    let several = length-map (children_of tree) (λ (child : Child). child.route) in
+    let listed_all = length-map (listed tree.below) (λ (r : TreeRoute). r.child) in
+    c.root.ensures.root
+    ∙ sym (get_or_past (routes_in tree) c.args.group.now.route tree.root (omega (arith, past, several, listed_all, length_listed tree.below)))

@@ -1,0 +1,102 @@
+//! `am-rehearse check`: says what configurations hold, or all that is wrong in them.
+use crate::commands::config::{Form, form_of, has_configuration, read_configuration};
+use crate::commands::warnings::push_warnings;
+use crate::console::{Console, Document, shown};
+use crate::input::{Configured, Overrides, ReceiversOf, story_faults};
+use std::alloc::AllocError;
+use std::rt::Files;
+
+/// Checks each file, and returns the status: that of the first file that isn't accepted, if there is one.
+pub fn check<R: Files + Eprint + AllocGlobal>(rt: &R, console: &mut Console, files: &[&str]) -> u8 {
+    let mut status = 0;
+    let mut lines = String::new(rt.alloc());
+    for path in files {
+        if let Err(fault) = check_file(rt, console, path, &mut lines) {
+            status = if status == 0 { fault } else { status };
+        }
+    }
+    match console.print(rt, lines.as_str()) {
+        0 => status,
+        unwritten => unwritten,
+    }
+}
+
+/// Adds what a file holds. The error is the status.
+fn check_file<R: Files + Eprint + AllocGlobal>(
+    rt: &R,
+    console: &mut Console,
+    path: &str,
+    lines: &mut String,
+) -> Result<(), u8> {
+    let document = console.read(rt, path)?;
+    match form_of(&document.value) {
+        Form::Story if !has_configuration(&document.value) => {
+            check_story(rt, console, &document, ReceiversOf::Given(None))?;
+            let file = shown(path);
+            return match writeln!(lines, "{file}: accepted; a story without a configuration") {
+                Ok(()) => Ok(()),
+                Err(_) => Err(console.complain_of_memory(rt)),
+            };
+        }
+        Form::Story => check_story(rt, console, &document, ReceiversOf::Own)?,
+        Form::Own | Form::Alertmanager => {}
+    }
+    let configured = match read_configuration(rt.alloc(), &document.value) {
+        Ok(configured) => configured,
+        Err(refusal) => return Err(console.complain_of_refusal(rt, &document, refusal)),
+    };
+    match push_summary(rt, path, &configured, lines) {
+        Ok(()) => Ok(()),
+        Err(_) => Err(console.complain_of_memory(rt)),
+    }
+}
+
+fn check_story<R: Files + Eprint + AllocGlobal>(
+    rt: &R,
+    console: &Console,
+    document: &Document<'_>,
+    receivers: ReceiversOf<'_>,
+) -> Result<(), u8> {
+    let overrides = Overrides {
+        output: None,
+        until: None,
+    };
+    let Ok(faults) = story_faults(rt.alloc(), &document.value, receivers, overrides) else {
+        return Err(console.complain_of_memory(rt));
+    };
+    if faults.is_empty() {
+        return Ok(());
+    }
+    Err(console.complain_of_faults(rt, document, &faults))
+}
+
+/// Adds how many receivers, integrations, rules and routes there are, what is ignored and the warnings.
+fn push_summary<R: AllocGlobal>(
+    rt: &R,
+    path: &str,
+    configured: &Configured,
+    lines: &mut String,
+) -> Result<(), AllocError> {
+    let file = shown(path);
+    let config = &configured.config;
+    let mut integrations = 0usize;
+    for receiver in config.receivers.as_slice() {
+        integrations = integrations.saturating_add(receiver.integrations.len());
+    }
+    let receivers = config.receivers.len();
+    let rules = config.rules.len();
+    let routes = config.routes.last();
+    write!(
+        lines,
+        "{file}: accepted; receivers: {receivers}, integrations: {integrations}, "
+    )?;
+    write!(
+        lines,
+        "inhibition rules: {rules}, routes below the root: {routes}\n"
+    )?;
+    if configured.ignored.is_something() {
+        let ignored = configured.ignored;
+        write!(lines, "{file}: ignored: {ignored}\n")?;
+    }
+    push_warnings(rt.alloc(), file, &config.routes, lines)
+}

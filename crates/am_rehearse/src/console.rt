@@ -1,0 +1,237 @@
+//! What a command reads from and prints to.
+use crate::bounds::{bounds, wrong_of};
+use crate::files::{FileFault, PaintedOutput, read};
+use am_cli::device::StandardInput;
+use am_cli::fault::{FaultKind, InputFault};
+use am_cli::transfer::write_all;
+use am_command::complaint::Complaint;
+use am_command::explain::{Wrong, explain};
+use am_command::request::{FaultFormat, STANDARD_INPUT};
+use am_config::faults::{Faults, Refusal};
+use am_yaml::document::{DocumentFault, read_document};
+use am_yaml::fault::YamlFault;
+use am_yaml::locate::{Part, locate};
+use am_yaml::place::Place;
+use serde_json::Value;
+use std::alloc::AllocError;
+use std::rt::Files;
+
+/// The status of a file that isn't accepted, or of a wrong command line.
+pub const REJECTED: u8 = 2;
+
+/// The status where memory was refused.
+pub const NO_MEMORY: u8 = 3;
+
+/// The status where the output wasn't taken.
+pub const UNWRITABLE: u8 = 4;
+
+/// How many bytes of text are gone over to find where faults stand. The whole text is, for each fault, so of a long file
+/// with many faults only the first ones get a line and a column.
+const WALKED: usize = 8_388_608;
+
+/// What a command reads from and prints to.
+#[derive(Drop)]
+pub struct Console {
+    pub input: StandardInput,
+    pub output: PaintedOutput,
+    pub format: FaultFormat,
+    /// Whether complaints have colors.
+    pub is_colored: bool,
+}
+
+/// A file with its text and the value that it is read as.
+#[derive(Drop)]
+pub struct Document<'p> {
+    pub path: &'p str,
+    pub text: Vec<u8>,
+    pub value: Value,
+}
+
+/// Returns the name of a file as people see it.
+pub fn shown(path: &str) -> &str {
+    if path == STANDARD_INPUT {
+        "<stdin>"
+    } else {
+        path
+    }
+}
+
+impl Console {
+    /// Writes a text to the standard output, and returns the status.
+    pub fn print<R: Eprint>(&mut self, rt: &R, text: &str) -> u8 {
+        if write_all(&mut self.output, text.as_bytes()).is_ok() {
+            return 0;
+        }
+        let _ = eprintln!(rt; "am-rehearse: output not writable");
+        UNWRITABLE
+    }
+
+    /// Reads a file as a value. Where that fails it complains, and the error is the status.
+    pub fn read<'p, R: Files + Eprint + AllocGlobal>(
+        &mut self,
+        rt: &R,
+        path: &'p str,
+    ) -> Result<Document<'p>, u8> {
+        let text = match read(rt, &mut self.input, path) {
+            Ok(text) => text,
+            Err(fault) => return Err(self.complain_of_file(rt, path, fault)),
+        };
+        match read_document(rt.alloc(), text.as_slice()) {
+            Ok(value) => Ok(Document { path, text, value }),
+            Err(fault) => Err(self.complain_of_text(rt, path, fault)),
+        }
+    }
+
+    /// Complains of a file that isn't read, and returns the status.
+    pub fn complain_of_file<R: Eprint + AllocGlobal>(
+        &self,
+        rt: &R,
+        path: &str,
+        fault: FileFault,
+    ) -> u8 {
+        match self.complain(rt, path, None, None, "file", fault.message()) {
+            Ok(()) => fault.status(),
+            Err(_) => self.complain_of_memory(rt),
+        }
+    }
+
+    /// Complains of a text that is neither JSON nor YAML, and returns the status.
+    pub fn complain_of_text<R: Eprint + AllocGlobal>(
+        &self,
+        rt: &R,
+        path: &str,
+        fault: DocumentFault,
+    ) -> u8 {
+        let place = place_of(fault);
+        let Ok(message) = message_of(rt, fault) else {
+            return self.complain_of_memory(rt);
+        };
+        match self.complain(rt, path, place, None, "text", message.as_str()) {
+            Ok(()) => REJECTED,
+            Err(_) => self.complain_of_memory(rt),
+        }
+    }
+
+    /// Complains of each fault of a document, at its place in the text, and returns the status.
+    pub fn complain_of_faults<R: Eprint + AllocGlobal>(
+        &self,
+        rt: &R,
+        document: &Document<'_>,
+        faults: &Faults,
+    ) -> u8 {
+        let located = (WALKED / document.text.len().max(1)).max(1);
+        for (index, fault) in faults.as_slice().iter().enumerate() {
+            let place = fault.place.as_str();
+            let kind = fault.fault_kind;
+            let said = self.complain_of_value(rt, document, place, kind, index < located);
+            if said.is_err() {
+                return self.complain_of_memory(rt);
+            }
+        }
+        REJECTED
+    }
+
+    /// Complains of all for which a document is refused, and returns the status.
+    pub fn complain_of_refusal<R: Eprint + AllocGlobal>(
+        &self,
+        rt: &R,
+        document: &Document<'_>,
+        refusal: Refusal,
+    ) -> u8 {
+        match refusal {
+            Refusal::All(faults) => self.complain_of_faults(rt, document, &faults),
+            Refusal::One(InputFault::NoMemory) => self.complain_of_memory(rt),
+            Refusal::One(InputFault::Refused { place, fault_kind }) => {
+                match self.complain_of_value(rt, document, place.as_str(), fault_kind, true) {
+                    Ok(()) => REJECTED,
+                    Err(_) => self.complain_of_memory(rt),
+                }
+            }
+        }
+    }
+
+    /// Complains that memory was refused, and returns the status.
+    pub fn complain_of_memory<R: Eprint>(&self, rt: &R) -> u8 {
+        let _ = eprintln!(rt; "am-rehearse: no memory");
+        NO_MEMORY
+    }
+
+    /// Complains of a value of a document, with its place in the text if it `is_located`.
+    fn complain_of_value<R: Eprint + AllocGlobal>(
+        &self,
+        rt: &R,
+        document: &Document<'_>,
+        pointer: &str,
+        fault_kind: FaultKind,
+        is_located: bool,
+    ) -> Result<(), AllocError> {
+        let alloc = rt.alloc();
+        let wrong = wrong_of(fault_kind);
+        let message = explain(alloc, &document.value, pointer, wrong, &bounds())?;
+        let part = if wrong == Wrong::Unknown {
+            Part::Key
+        } else {
+            Part::Value
+        };
+        let place = match std::str::from_utf8(document.text.as_slice()) {
+            Ok(text) if is_located => Some(locate(alloc, text, pointer, part)?),
+            _ => None,
+        };
+        let kind = wrong.name();
+        self.complain(
+            rt,
+            document.path,
+            place,
+            Some(pointer),
+            kind,
+            message.as_str(),
+        )
+    }
+
+    /// Prints a complaint in a line.
+    fn complain<R: Eprint + AllocGlobal>(
+        &self,
+        rt: &R,
+        path: &str,
+        place: Option<Place>,
+        pointer: Option<&str>,
+        kind: &str,
+        message: &str,
+    ) -> Result<(), AllocError> {
+        let complaint = Complaint {
+            file: shown(path),
+            place,
+            pointer,
+            kind,
+            message,
+        };
+        let line = match self.format {
+            FaultFormat::Text => complaint.text(rt.alloc(), self.is_colored)?,
+            FaultFormat::Json => complaint.json(rt.alloc())?,
+        };
+        let _ = eprintln!(rt; "{line}");
+        Ok(())
+    }
+}
+
+/// Returns where a text isn't read, if that is known.
+fn place_of(fault: DocumentFault) -> Option<Place> {
+    match fault {
+        DocumentFault::NotText { line, column }
+        | DocumentFault::NotJson { line, column }
+        | DocumentFault::NotYaml {
+            fault: YamlFault::Refused { line, column, .. },
+        } => Some(Place { line, column }),
+        DocumentFault::NotYaml { .. } | DocumentFault::NoMemory => None,
+    }
+}
+
+/// Returns why a text isn't read, in words.
+fn message_of<R: AllocGlobal>(rt: &R, fault: DocumentFault) -> Result<String, AllocError> {
+    match fault {
+        DocumentFault::NotYaml {
+            fault: YamlFault::Refused { reason, .. },
+        } => format!(in rt.alloc(); "{reason}"),
+        fault => format!(in rt.alloc(); "{fault}"),
+    }
+}

@@ -1,0 +1,179 @@
+//! Files that are read, and the output in colors.
+ghost use Rattle.std.specs.Prelude.{◌≡◌, ◌≤◌, length, IfOk};
+
+use am_cli::device::{DeviceFault, Sink, Source, StandardInput, StandardOutput};
+use am_cli::io_trace::IoTrace;
+use am_cli::transfer::{ReadFault, read_all, write_all};
+use am_command::paint::painted;
+use am_command::request::STANDARD_INPUT;
+use std::alloc::Global;
+use std::fs;
+use std::io::{ErrorKind, Read};
+use std::rt::Files;
+
+/// A file that is read.
+#[derive(Drop)]
+pub struct FileSource<F: Read + Drop> {
+    file: F,
+    io_trace: IoTrace,
+}
+
+/// The standard output, perhaps with colors.
+#[derive(Drop)]
+pub struct PaintedOutput {
+    alloc: Global,
+    output: StandardOutput,
+    is_colored: bool,
+    io_trace: IoTrace,
+}
+
+/// Why a file isn't read.
+#[derive(Clone, Copy, Debug, PartialEq, Eq)]
+pub enum FileFault {
+    Missing,
+    Denied,
+    Unopened,
+    /// A read failed, or the file has more than 16 MiB.
+    Unreadable,
+    NoMemory,
+}
+
+impl FileFault {
+    /// Returns the fault in words.
+    pub fn message(self) -> &'static str {
+        match self {
+            FileFault::Missing => "there is no such file",
+            FileFault::Denied => "the file may not be read",
+            FileFault::Unopened => "the file can't be opened",
+            FileFault::Unreadable => "not readable, or longer than 16 MiB",
+            FileFault::NoMemory => "out of memory",
+        }
+    }
+
+    /// Returns the status with which the program ends on the fault.
+    pub fn status(self) -> u8 {
+        match self {
+            FileFault::NoMemory => 3,
+            _ => 1,
+        }
+    }
+}
+
+impl From<ReadFault> for FileFault {
+    fn from(fault: ReadFault) -> FileFault {
+        match fault {
+            ReadFault::Unreadable => FileFault::Unreadable,
+            ReadFault::NoMemory => FileFault::NoMemory,
+        }
+    }
+}
+
+/// Opens a file.
+pub fn open<R: Files>(rt: &R, path: &str) -> Result<FileSource<R::File>, FileFault> {
+    match fs::open(rt, path) {
+        Ok(file) => Ok(FileSource {
+            file,
+            io_trace: IoTrace::none(),
+        }),
+        Err(fault) => Err(match fault.kind() {
+            ErrorKind::NotFound => FileFault::Missing,
+            ErrorKind::PermissionDenied => FileFault::Denied,
+            ErrorKind::OutOfMemory => FileFault::NoMemory,
+            _ => FileFault::Unopened,
+        }),
+    }
+}
+
+/// Reads a whole file, or standard input where the path is `-`.
+pub fn read<R: Files + AllocGlobal>(
+    rt: &R,
+    input: &mut StandardInput,
+    path: &str,
+) -> Result<Vec<u8>, FileFault> {
+    if path == STANDARD_INPUT {
+        return Ok(read_all(rt.alloc(), input)?);
+    }
+    let mut file = open(rt, path)?;
+    Ok(read_all(rt.alloc(), &mut file)?)
+}
+
+impl<F: Read + Drop> Source for FileSource<F> {
+    ghost asked = { λ s. s.io_trace.asked };
+
+    ghost failed = { λ s. s.io_trace.failed };
+
+    ghost ended = { λ s. s.io_trace.ended };
+
+    ghost given = { λ s. s.io_trace.moved };
+
+    fn read(&mut self, buffer: &mut [u8]) -> Result<usize, DeviceFault> {
+        match self.file.read(buffer) {
+            Ok(0) if !buffer.is_empty() => {
+                self.io_trace.add_end();
+                Ok(0)
+            }
+            Ok(count) => {
+                self.io_trace.add_success(&buffer[..count]);
+                Ok(count)
+            }
+            Err(_) => {
+                self.io_trace.add_failure();
+                Err(DeviceFault)
+            }
+        }
+    }
+}
+
+impl PaintedOutput {
+    /// Returns the output that paints what it writes, or doesn't.
+    pub fn new(alloc: Global, output: StandardOutput, is_colored: bool) -> PaintedOutput {
+        PaintedOutput {
+            alloc,
+            output,
+            is_colored,
+            io_trace: IoTrace::none(),
+        }
+    }
+
+    /// Writes all bytes in their colors, and returns how many they are; or as many as the output takes, without colors.
+    fn pass(&mut self, bytes: &[u8]) -> Result<usize, DeviceFault>
+        ensures count { IfOk result (λ count. count ≤ length bytes.now) }
+        ensures trace { self.new.io_trace ≡ self.old.io_trace }
+    {
+        if !self.is_colored {
+            return self.output.write(bytes);
+        }
+        let Ok(text) = std::str::from_utf8(bytes) else {
+            return self.output.write(bytes);
+        };
+        let Ok(painted) = painted(self.alloc, text) else {
+            return Err(DeviceFault);
+        };
+        match write_all(&mut self.output, painted.as_bytes()) {
+            Ok(()) => Ok(bytes.len()),
+            Err(_) => Err(DeviceFault),
+        }
+    }
+}
+
+/// It takes the bytes without their colors.
+impl Sink for PaintedOutput {
+    ghost asked = { λ o. o.io_trace.asked };
+
+    ghost failed = { λ o. o.io_trace.failed };
+
+    ghost taken = { λ o. o.io_trace.moved };
+
+    fn write(&mut self, bytes: &[u8]) -> Result<usize, DeviceFault> {
+        match self.pass(bytes) {
+            Ok(count) if count > 0 => {
+                self.io_trace.add_success(&bytes[..count]);
+                Ok(count)
+            }
+            _ => {
+                self.io_trace.add_failure();
+                Err(DeviceFault)
+            }
+        }
+    }
+}

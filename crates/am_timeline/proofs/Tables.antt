@@ -1,0 +1,68 @@
+-- What tables by label set hold after one more alert.
+use Rattle.std.proofs.Common.{◌≡◌, ◌∙◌, ℕ, ◌+◌, ◌-◌, Bool, true, false, cond, ◌||◌, List, [], ◌∷◌, ◌++◌, Option, Some, None, ap, sym, refl, subst, min, find, reverse, sum_by, arith, if◌then◌else◌}
+use Rattle.std.specs.Prelude.{unwrap_or}
+use Rattle.std.specs.List.{list_any}
+use Rattle.std.specs.Option.{option_map}
+use Rattle.std.proofs.lemmas.List.{reverse-append}
+use Rattle.std.proofs.lemmas.List.Folds.{list_any-append}
+use Rattle.std.proofs.lemmas.List.Sums.{sum_by-append}
+use Rattle.am_alerts.specs.AlertData.{AlertData}
+use Rattle.am_alerts.specs.Labels.{same_label_set}
+use Rattle.am_alerts.specs.LabelOrder.{same_label_set-decides}
+use Rattle.am_alerts.specs.declared.labels.Label.{Label}
+use Rattle.am_alerts.specs.declared.limits.TheConstants.{MAX_MOMENT}
+use Rattle.am_model.specs.declared.preview.MutedAlert.{MutedAlert}
+use Rattle.am_mute.specs.declared.mute.MuteCause.{MuteCause}
+use Rattle.am_timeline.specs.Expectation.{has_set}
+use Rattle.am_timeline.specs.Undelivered.{fired_for, last_cause, span_of}
+
+-- a test of one more
+or_cond : (here there : Bool) → cond here true there ≡ (there || (here || false))
+or_cond true true = refl
+or_cond true false = refl
+or_cond false true = refl
+or_cond false false = refl
+
+-- the label sets of alerts, and of one more
+pub has_set-added : (alerts : List AlertData) (a : AlertData) (labels : List Label)
+    → cond (same_label_set a.labels labels) true (has_set alerts labels) ≡ has_set (alerts ++ a ∷ []) labels
+has_set-added alerts a labels =
+    or_cond (same_label_set a.labels labels) (has_set alerts labels)
+    ∙ sym (list_any-append (λ (x : AlertData). same_label_set x.labels labels) alerts (a ∷ []))
+
+-- the last cause of muted alerts, and of one more
+pub last_cause-added : (muted : List MutedAlert) (m : MutedAlert) (labels : List Label)
+    → cond (same_label_set m.labels labels) (Some m.cause) (last_cause labels muted) ≡ last_cause labels (muted ++ m ∷ [])
+last_cause-added muted m labels =
+    by (same_label_set m.labels labels)
+    ∙ sym (ap (λ (l : List MutedAlert). option_map (λ (x : MutedAlert). x.cause) (find (λ (x : MutedAlert). same_label_set x.labels labels) l)) (reverse-append muted (m ∷ [])))
+  where
+    by : (here : Bool)
+        → cond here (Some m.cause) (last_cause labels muted)
+        ≡ option_map (λ (x : MutedAlert). x.cause) (if here then Some m else find (λ (x : MutedAlert). same_label_set x.labels labels) (reverse muted))
+    by true = refl
+    by false = refl
+
+-- for how long a label set fired by inserts and by one more, where this is what is kept of it
+pub fired_for-added : (alerts : List AlertData) (a : AlertData) (labels : List Label) (total : ℕ) (before : Option ℕ)
+    → total ≡ min (fired_for a.labels alerts + (unwrap_or a.ends a.starts - a.starts)) MAX_MOMENT
+    → unwrap_or before 0 ≡ fired_for labels alerts
+    → unwrap_or (cond (same_label_set a.labels labels) (Some total) before) 0 ≡ fired_for labels (alerts ++ a ∷ [])
+fired_for-added alerts a labels total before is kept = by (same_label_set a.labels labels) refl
+  where
+    whole : fired_for labels (alerts ++ a ∷ []) ≡ min (sum_by (span_of labels) alerts + (0 + span_of labels a)) MAX_MOMENT
+    whole = ap (λ n. min n MAX_MOMENT) (sum_by-append (span_of labels) alerts (a ∷ []))
+
+    by : (here : Bool) → same_label_set a.labels labels ≡ here
+        → unwrap_or (cond here (Some total) before) 0 ≡ fired_for labels (alerts ++ a ∷ [])
+    by true e =
+        let own : total ≡ min (fired_for labels alerts + (unwrap_or a.ends a.starts - a.starts)) MAX_MOMENT =
+        subst (λ (l : List Label). total ≡ min (fired_for l alerts + (unwrap_or a.ends a.starts - a.starts)) MAX_MOMENT) ((same_label_set-decides a.labels labels).0 e) is in
+        let more : span_of labels a ≡ unwrap_or a.ends a.starts - a.starts = ap (λ b. if b then unwrap_or a.ends a.starts - a.starts else 0) e in
+        let capped : min (min (sum_by (span_of labels) alerts) MAX_MOMENT + (unwrap_or a.ends a.starts - a.starts)) MAX_MOMENT
+        ≡ min (sum_by (span_of labels) alerts + (0 + (unwrap_or a.ends a.starts - a.starts))) MAX_MOMENT = omega arith in
+        own ∙ capped ∙ ap (λ n. min (sum_by (span_of labels) alerts + (0 + n)) MAX_MOMENT) (sym more) ∙ sym whole
+    by false e =
+        let none : span_of labels a ≡ 0 = ap (λ b. if b then unwrap_or a.ends a.starts - a.starts else 0) e in
+        let same : min (sum_by (span_of labels) alerts) MAX_MOMENT ≡ min (sum_by (span_of labels) alerts + (0 + 0)) MAX_MOMENT = omega arith in
+        kept ∙ same ∙ ap (λ n. min (sum_by (span_of labels) alerts + (0 + n)) MAX_MOMENT) (sym none) ∙ sym whole

@@ -1,0 +1,156 @@
+-- Undelivered: the alerts that no delivered notice has, for how long they fired, and why.
+use Rattle.std.specs.Prelude.{ℕ, ◌-◌, Bool, false, ◌==◌, List, [], ◌∷◌, ◌++◌, length, codes, find, min, reverse, sum_by, Option, Some, None}
+use Rattle.std.specs.Prelude.{unwrap_or, if◌then◌else◌}
+use Rattle.std.specs.List.{flat_map, list_all}
+use Rattle.std.specs.Option.{option_map, option_map_or}
+use Rattle.am_alerts.specs.AlertData.{AlertData}
+use Rattle.am_alerts.specs.Labels.{same_label_set}
+use Rattle.am_alerts.specs.RoutingTree.{route_at, routes_of}
+use Rattle.am_alerts.specs.declared.labels.Label.{Label}
+use Rattle.am_alerts.specs.declared.limits.TheConstants.{MAX_MOMENT}
+use Rattle.am_mute.specs.declared.mute.MuteCause.{MuteCause}
+use Rattle.am_model.specs.declared.config.Config.{Config}
+use Rattle.am_model.specs.declared.preview.MutedAlert.{MutedAlert}
+use Rattle.am_model.specs.declared.record.Record.{Record}
+use Rattle.am_model.specs.Configured.{integrations_named}
+use Rattle.am_model.specs.Lists.{without}
+use Rattle.am_model.specs.look_back.Entry.{alert_in, known_in}
+use Rattle.am_model.specs.look_back.Past.{notices_in, past_of}
+use Rattle.am_model.specs.Notice.{NoticeData}
+use Rattle.am_model.specs.Outcomes.{outcomes_in}
+use Rattle.am_model.specs.Ticket.{outcome_of}
+use Rattle.am_rehearsal.specs.declared.event.PreviewedBegin.{PreviewedBegin}
+use Rattle.am_timeline.specs.Expectation.{has_set}
+use Rattle.am_timeline.specs.Playback.{PlaybackData, is_delivered}
+use Rattle.am_timeline.specs.Shown.{set_shown}
+use Rattle.am_timeline.specs.Timeline.{cause_text}
+use Rattle.am_timeline.specs.TimeFormatData.{TimeFormatData, counted_text}
+
+-- the alerts that a notice has, those that fire and those that are resolved
+abbrev pub alerts_in : NoticeData → List AlertData
+alerts_in n = n.firing ++ n.resolved
+
+-- whether a notice was delivered, as the finish of its flush in the later records says
+abbrev pub is_delivered_in : List Record → NoticeData → Bool
+is_delivered_in later n = option_map_or is_delivered (outcome_of (outcomes_in n.ticket later) n.integration) false
+
+-- the alerts that a notice has, if it was delivered
+abbrev pub alerts_delivered : List Record → NoticeData → List AlertData
+alerts_delivered later n = if is_delivered_in later n then alerts_in n else []
+
+-- the alerts in the notices of a history
+abbrev pub sent_in : List Record → List AlertData
+sent_in [] = []
+sent_in (r ∷ later) = flat_map alerts_in (notices_in r.reply) ++ sent_in later
+
+-- the alerts in the delivered notices of a history
+abbrev pub delivered_in : List Record → List AlertData
+delivered_in [] = []
+delivered_in (r ∷ later) = flat_map (alerts_delivered later) (notices_in r.reply) ++ delivered_in later
+
+-- alerts, with this one at the end unless one of them has its label set
+abbrev pub with_first : List AlertData → Option AlertData → List AlertData
+with_first alerts None = alerts
+with_first alerts (Some a) = if has_set alerts a.labels then alerts else alerts ++ a ∷ []
+
+-- undelivered: of the known alerts those that no delivered notice has, the one that was inserted last at the end
+abbrev pub undelivered_in : List Record → List AlertData
+undelivered_in history = without (λ a. has_set (delivered_in history) a.labels) (reverse (known_in (past_of history)))
+
+-- the alert that a call inserts, if it does
+abbrev pub insert_of : Option AlertData → List AlertData
+insert_of None = []
+insert_of (Some a) = a ∷ []
+
+-- the alerts of all inserts of a history
+abbrev pub inserted_in : List Record → List AlertData
+inserted_in history = flat_map (λ r. insert_of (alert_in r.call)) history
+
+-- for how long an insert says that an alert of a label set fired: nothing where it has no end
+abbrev pub span_of : List Label → AlertData → ℕ
+span_of labels a = if same_label_set a.labels labels then unwrap_or a.ends a.starts - a.starts else 0
+
+-- for how long an alert of a label set fired, up to the greatest moment, by the ends that were inserted
+abbrev pub fired_for : List Label → List AlertData → ℕ
+fired_for labels alerts = min (sum_by (span_of labels) alerts) MAX_MOMENT
+
+-- the alerts that were muted at begins
+abbrev pub muted_in : List PreviewedBegin → List MutedAlert
+muted_in begins = flat_map (λ b. b.preview.muted) begins
+
+-- why a label set was muted at the last begin at which it was
+abbrev pub last_cause : List Label → List MutedAlert → Option MuteCause
+last_cause labels muted = option_map (λ m. m.cause) (find (λ m. same_label_set m.labels labels) (reverse muted))
+
+-- whether the receiver of the route at a position has no integrations
+abbrev pub has_none_at : Config → ℕ → Bool
+has_none_at config position = length (integrations_named (route_at config.routes position).receiver config.receivers) == 0
+
+-- whether the receivers of all routes of a label set have no integrations
+abbrev pub has_no_integrations : Config → List Label → Bool
+has_no_integrations config labels = list_all (has_none_at config) (routes_of config.routes labels)
+
+-- what looking back finds: the alerts in notices, those that were muted, and those of all inserts
+pub record FindingsData : Type 0 where
+  pub sent : List AlertData
+  pub muted : List MutedAlert
+  pub inserted : List AlertData
+
+-- findings: what looking back finds of a rehearsal that was played
+abbrev pub findings_of : PlaybackData → FindingsData
+findings_of playback = record { sent = sent_in playback.history; muted = muted_in playback.begins; inserted = inserted_in playback.history }
+
+-- for how long an alert fired before it fires again; nothing where it didn't
+abbrev pub before_text : ℕ → List ℕ
+before_text total = if total == 0 then [] else codes ", fired for " ++ counted_text total ++ codes " before"
+
+-- for how long an alert fired that has this end, or since when it fires
+abbrev pub fired_text : TimeFormatData → ℕ → ℕ → Option ℕ → List ℕ
+fired_text times total starts None = codes "fires since " ++ times.text starts ++ before_text total
+fired_text times total starts (Some end) = codes "fired for " ++ counted_text total ++ codes " until " ++ times.text end
+
+-- why no begin sent an alert that has this end, where none muted it
+abbrev pub unseen_text : Option ℕ → List ℕ
+unseen_text None = codes "no flush of its group since"
+unseen_text (Some end) = codes "resolved before a flush of its group"
+
+-- that an alert was muted at each flush, and why
+abbrev pub muted_each_text : TimeFormatData → MuteCause → List ℕ
+muted_each_text times cause = codes "muted at each flush:" ++ cause_text times cause
+
+-- why no begin sent an alert that has this end, where this is why it was muted, if it was
+abbrev pub unsent_text : TimeFormatData → Option MuteCause → Option ℕ → List ℕ
+unsent_text times None ends = unseen_text ends
+unsent_text times (Some cause) ends = muted_each_text times cause
+
+-- why no delivered notice has an alert: its receivers have no integrations, each notice that has it failed, it was muted, or no flush
+-- came while it fired
+abbrev pub undelivered_cause : Config → TimeFormatData → FindingsData → AlertData → List ℕ
+undelivered_cause config times found a =
+    if has_no_integrations config a.labels then codes "no integrations"
+    else (if has_set found.sent a.labels then codes "every notice failed"
+    else unsent_text times (last_cause a.labels found.muted) a.ends)
+
+-- for how long an alert fired, as looking back finds it
+abbrev pub alert_fired_text : TimeFormatData → FindingsData → AlertData → List ℕ
+alert_fired_text times found a = fired_text times (fired_for a.labels found.inserted) a.starts a.ends
+
+-- that no delivered notice has an alert, and for how long it fired
+unfoldable pub undelivered_front : TimeFormatData → FindingsData → AlertData → List ℕ
+undelivered_front times found a = codes "undelivered " ++ set_shown a.labels ++ codes ": " ++ alert_fired_text times found a
+
+-- an alert that no delivered notice has, and why
+unfoldable pub undelivered_line : Config → TimeFormatData → FindingsData → AlertData → List ℕ
+undelivered_line config times found a =
+    undelivered_front times found a ++ codes "; " ++ undelivered_cause config times found a ++ codes "\n"
+
+-- lines behind an empty line, if there are any
+abbrev pub behind_empty_line : List ℕ → List ℕ
+behind_empty_line [] = []
+behind_empty_line (c ∷ lines) = codes "\n" ++ c ∷ lines
+
+-- the alerts that no delivered notice has, a line for each, behind an empty line
+abbrev pub undelivered_text : PlaybackData → TimeFormatData → List ℕ
+undelivered_text playback times =
+    behind_empty_line
+    (flat_map (undelivered_line playback.config times (findings_of playback)) (undelivered_in playback.history))

@@ -1,0 +1,492 @@
+//! What the delivered notices of two rehearsals of one story differ in, as text. `am_rehearse` prints it.
+//!
+//! Two notices are the same if they are for one integration of one receiver and tell the same alerts. Of the same notices
+//! those of one time are paired first. Of what is left the first of one rehearsal is paired with the first of the other,
+//! and so on: these have moved. Cost: the notices of both, sorted.
+use crate::alerts::push_alerts;
+use crate::clock::{TimeFormat, push_column};
+use crate::groups::push_integration;
+use crate::line::push_reason;
+use crate::playback::Playback;
+use crate::sent::{Sent, sent_of};
+use crate::shown::{push_set, push_text};
+use am_board::config::Config;
+use std::alloc::{AllocError, Global};
+use std::cmp::Ordering;
+
+/// How many milliseconds an hour has.
+const HOUR: u64 = 3_600_000;
+
+/// What two rehearsals differ in.
+#[derive(Drop)]
+pub struct Comparison {
+    /// A line for each notice that differs, by time; then a line for each receiver that differs, and for each alert that
+    /// only one of the two rehearsals tells of.
+    pub text: String,
+    /// Whether a notice differs.
+    pub differs: bool,
+}
+
+/// Which of the two rehearsals.
+#[derive(Clone, Copy, Debug, PartialEq, Eq)]
+enum Side {
+    Old,
+    New,
+}
+
+/// A delivered notice.
+#[derive(Drop)]
+struct Told {
+    side: Side,
+    /// When its sending ended, in milliseconds.
+    at: u64,
+    receiver: String,
+    /// The receiver and the integration.
+    target: String,
+    alerts: String,
+    /// Why it was sent.
+    reason: String,
+}
+
+/// A line on a notice that differs.
+#[derive(Drop)]
+struct Difference {
+    at: u64,
+    line: String,
+}
+
+/// An alert that a delivered notice tells as firing.
+#[derive(Drop)]
+struct Heard {
+    side: Side,
+    alert: String,
+}
+
+/// How many notices each of the two rehearsals has.
+#[derive(Clone, Copy, Debug, PartialEq, Eq)]
+struct Counts {
+    old: usize,
+    new: usize,
+}
+
+/// The notices of a receiver.
+#[derive(Drop)]
+struct ReceiverCounts<'t> {
+    receiver: &'t str,
+    all: Counts,
+    /// Those of each hour that has one.
+    hours: Vec<HourCounts>,
+}
+
+/// The notices of an hour, by its number.
+#[derive(Clone, Copy, Debug, PartialEq, Eq)]
+struct HourCounts {
+    hour: u64,
+    counts: Counts,
+}
+
+/// The notices that tell an alert as firing.
+#[derive(Drop)]
+struct AlertCounts<'t> {
+    alert: &'t str,
+    counts: Counts,
+}
+
+/// Returns what the delivered notices of two rehearsals differ in.
+pub fn compare_notices<C: TimeFormat>(
+    alloc: Global,
+    old: &Playback<'_>,
+    new: &Playback<'_>,
+    clock: &C,
+) -> Result<Comparison, AllocError> {
+    let mut told = Vec::new(alloc);
+    let mut heard = Vec::new(alloc);
+    add_notices(alloc, Side::Old, old, clock, &mut told, &mut heard)?;
+    add_notices(alloc, Side::New, new, clock, &mut told, &mut heard)?;
+    told.sort_unstable_by(by_content);
+    let differences = differences_of(alloc, told.as_slice(), clock)?;
+    let differs = !differences.is_empty();
+    let mut text = String::new(alloc);
+    if differs {
+        push_differences(differences, &mut text)?;
+        let mut summary = String::new(alloc);
+        told.sort_unstable_by(by_receiver);
+        push_receivers(alloc, told.as_slice(), clock, &mut summary)?;
+        heard.sort_unstable_by(by_alert);
+        push_heard(alloc, heard.as_slice(), &mut summary)?;
+        if !summary.is_empty() {
+            text.push('\n')?;
+            text.push_str(summary.as_str())?;
+        }
+    } else {
+        let count = told.len() / 2;
+        write!(text, "no difference in {count} notices\n")?;
+    }
+    Ok(Comparison { text, differs })
+}
+
+/// The same notices follow each other by time, and of one time the old ones come first.
+fn by_content(one: &Told, other: &Told) -> Ordering {
+    one.target
+        .as_str()
+        .cmp(other.target.as_str())
+        .then(one.alerts.as_str().cmp(other.alerts.as_str()))
+        .then(one.at.cmp(&other.at))
+        .then(number(one.side).cmp(&number(other.side)))
+}
+
+fn by_receiver(one: &Told, other: &Told) -> Ordering {
+    one.receiver
+        .as_str()
+        .cmp(other.receiver.as_str())
+        .then(one.at.cmp(&other.at))
+}
+
+fn by_time(one: &Difference, other: &Difference) -> Ordering {
+    one.at
+        .cmp(&other.at)
+        .then(one.line.as_str().cmp(other.line.as_str()))
+}
+
+fn by_alert(one: &Heard, other: &Heard) -> Ordering {
+    one.alert.as_str().cmp(other.alert.as_str())
+}
+
+fn number(side: Side) -> u8 {
+    match side {
+        Side::Old => 0,
+        Side::New => 1,
+    }
+}
+
+/// Adds the delivered notices of a rehearsal, and the alerts that they tell as firing.
+fn add_notices<C: TimeFormat>(
+    alloc: Global,
+    side: Side,
+    playback: &Playback<'_>,
+    clock: &C,
+    told: &mut Vec<Told>,
+    heard: &mut Vec<Heard>,
+) -> Result<(), AllocError> {
+    for event in playback.events {
+        if let Some(sent) = sent_of(playback, event) {
+            if sent.is_delivered() {
+                told.push(told_by(alloc, side, playback.config, clock, &sent)?)?;
+                add_heard(alloc, side, &sent, heard)?;
+            }
+        }
+    }
+    Ok(())
+}
+
+fn told_by<C: TimeFormat>(
+    alloc: Global,
+    side: Side,
+    config: &Config,
+    clock: &C,
+    sent: &Sent<'_>,
+) -> Result<Told, AllocError> {
+    let notice = sent.notice;
+    let place = notice.integration as usize;
+    let mut receiver = String::new(alloc);
+    push_text(
+        config.route_of(&notice.group).receiver.as_str(),
+        &mut receiver,
+    )?;
+    let mut target = receiver.clone()?;
+    target.push(' ')?;
+    push_integration(config, &notice.group, place, &mut target)?;
+    let mut alerts = String::new(alloc);
+    push_alerts("; firing ", notice.firing.as_slice(), &mut alerts)?;
+    push_alerts("; resolved ", notice.resolved.as_slice(), &mut alerts)?;
+    let mut reason = String::new(alloc);
+    if let Some(why) = sent.begin.preview.reasons.as_slice().get(place) {
+        push_reason(clock, why, &mut reason)?;
+    }
+    Ok(Told {
+        side,
+        at: sent.report.ended,
+        receiver,
+        target,
+        alerts,
+        reason,
+    })
+}
+
+fn add_heard(
+    alloc: Global,
+    side: Side,
+    sent: &Sent<'_>,
+    heard: &mut Vec<Heard>,
+) -> Result<(), AllocError> {
+    let notice = sent.notice;
+    for alert in notice.firing.as_slice() {
+        let mut text = String::new(alloc);
+        push_set(alert.labels(), &mut text)?;
+        heard.push(Heard { side, alert: text })?;
+    }
+    Ok(())
+}
+
+/// Returns whether two notices are the same, at whatever time.
+fn is_same(one: &Told, other: &Told) -> bool {
+    one.target.as_str() == other.target.as_str() && one.alerts.as_str() == other.alerts.as_str()
+}
+
+/// Returns the lines on what differs among notices in the order of `by_content`.
+fn differences_of<C: TimeFormat>(
+    alloc: Global,
+    told: &[Told],
+    clock: &C,
+) -> Result<Vec<Difference>, AllocError> {
+    let paired = paired_at_once(alloc, told)?;
+    let mut lines = Vec::new(alloc);
+    // The same notices of one rehearsal, of which those from `next` on wait for one of the other.
+    let mut waiting: Vec<&Told> = Vec::new(alloc);
+    let mut next = 0usize;
+    for (notice, is_paired) in told.iter().zip(paired.as_slice()) {
+        let is_other = match waiting.last() {
+            None => false,
+            Some(last) => !is_same(last, notice),
+        };
+        if is_other {
+            push_alone(alloc, waiting.as_slice(), next, clock, &mut lines)?;
+            waiting.clear();
+            next = 0;
+        }
+        if !*is_paired {
+            match waiting.get(next) {
+                Some(first) if first.side != notice.side => {
+                    push_moved(alloc, first, notice, clock, &mut lines)?;
+                    next = next.saturating_add(1);
+                }
+                _ => waiting.push(notice)?,
+            }
+        }
+    }
+    push_alone(alloc, waiting.as_slice(), next, clock, &mut lines)?;
+    Ok(lines)
+}
+
+/// Returns of each notice whether it is paired with the same notice of the other rehearsal at the same time, which stands
+/// beside it.
+fn paired_at_once(alloc: Global, told: &[Told]) -> Result<Vec<bool>, AllocError> {
+    let mut paired: Vec<bool> = Vec::new(alloc);
+    let mut last: Option<&Told> = None;
+    for notice in told {
+        let mut is_paired = false;
+        if let (Some(before), Some(was_paired)) = (last, paired.last_mut()) {
+            if !*was_paired
+                && before.side != notice.side
+                && before.at == notice.at
+                && is_same(before, notice)
+            {
+                *was_paired = true;
+                is_paired = true;
+            }
+        }
+        paired.push(is_paired)?;
+        last = Some(notice);
+    }
+    Ok(paired)
+}
+
+/// Adds a line for each of these notices from `next` on, which only one rehearsal has.
+fn push_alone<C: TimeFormat>(
+    alloc: Global,
+    waiting: &[&Told],
+    next: usize,
+    clock: &C,
+    lines: &mut Vec<Difference>,
+) -> Result<(), AllocError> {
+    for notice in waiting.iter().skip(next) {
+        let mut line = String::new(alloc);
+        line.push_str(match notice.side {
+            Side::Old => "- ",
+            Side::New => "+ ",
+        })?;
+        push_column(clock, notice.at, &mut line)?;
+        push_content(notice, &mut line)?;
+        lines.push(Difference {
+            at: notice.at,
+            line,
+        })?;
+    }
+    Ok(())
+}
+
+/// Adds a line on a notice that has moved from the time that one rehearsal has to that of the other.
+fn push_moved<C: TimeFormat>(
+    alloc: Global,
+    one: &Told,
+    other: &Told,
+    clock: &C,
+    lines: &mut Vec<Difference>,
+) -> Result<(), AllocError> {
+    let (old, new) = match one.side {
+        Side::Old => (one, other),
+        Side::New => (other, one),
+    };
+    if old.at == new.at {
+        return Ok(());
+    }
+    let mut line = String::new(alloc);
+    line.push_str("~ ")?;
+    clock.push_moment(old.at, &mut line)?;
+    line.push_str(" -> ")?;
+    push_column(clock, new.at, &mut line)?;
+    push_content(new, &mut line)?;
+    lines.push(Difference { at: old.at, line })?;
+    Ok(())
+}
+
+fn push_content(notice: &Told, line: &mut String) -> Result<(), AllocError> {
+    write!(
+        line,
+        "{}: {}{}\n",
+        notice.target, notice.reason, notice.alerts
+    )
+}
+
+fn push_differences(differences: Vec<Difference>, text: &mut String) -> Result<(), AllocError> {
+    let mut differences = differences;
+    differences.sort_unstable_by(by_time);
+    for difference in &differences {
+        text.push_str(difference.line.as_str())?;
+    }
+    Ok(())
+}
+
+impl Counts {
+    fn none() -> Counts {
+        Counts { old: 0, new: 0 }
+    }
+
+    fn count(&mut self, side: Side) {
+        match side {
+            Side::Old => self.old = self.old.saturating_add(1),
+            Side::New => self.new = self.new.saturating_add(1),
+        }
+    }
+
+    fn differ(&self) -> bool {
+        self.old != self.new
+    }
+}
+
+impl<'t> ReceiverCounts<'t> {
+    /// Counts a notice, which comes in the order of time.
+    fn count(&mut self, notice: &Told) -> Result<(), AllocError> {
+        self.all.count(notice.side);
+        let hour = notice.at / HOUR;
+        let is_known = match self.hours.last() {
+            None => false,
+            Some(last) => last.hour == hour,
+        };
+        if !is_known {
+            self.hours.push(HourCounts {
+                hour,
+                counts: Counts::none(),
+            })?;
+        }
+        if let Some(last) = self.hours.last_mut() {
+            last.counts.count(notice.side);
+        }
+        Ok(())
+    }
+}
+
+/// Adds a line for each receiver whose notices differ in number in some hour, and one for each such hour.
+fn push_receivers<C: TimeFormat>(
+    alloc: Global,
+    told: &[Told],
+    clock: &C,
+    text: &mut String,
+) -> Result<(), AllocError> {
+    let receivers = counted(alloc, told)?;
+    for receiver in &receivers {
+        if receiver.hours.iter().any(|hour| hour.counts.differ()) {
+            let Counts { old, new } = receiver.all;
+            write!(
+                text,
+                "receiver {}: {old} notices -> {new}\n",
+                receiver.receiver
+            )?;
+            push_hours(receiver, clock, text)?;
+        }
+    }
+    Ok(())
+}
+
+fn push_hours<C: TimeFormat>(
+    receiver: &ReceiverCounts<'_>,
+    clock: &C,
+    text: &mut String,
+) -> Result<(), AllocError> {
+    for hour in &receiver.hours {
+        if hour.counts.differ() {
+            let start = hour.hour.saturating_mul(HOUR);
+            text.push_str("  ")?;
+            clock.push_moment(start, text)?;
+            text.push_str(" to ")?;
+            clock.push_moment(start.saturating_add(HOUR), text)?;
+            let Counts { old, new } = hour.counts;
+            write!(text, ": {old} -> {new}\n")?;
+        }
+    }
+    Ok(())
+}
+
+/// Returns the counts of each receiver, of notices in the order of `by_receiver`.
+fn counted<'t>(alloc: Global, told: &'t [Told]) -> Result<Vec<ReceiverCounts<'t>>, AllocError> {
+    let mut receivers: Vec<ReceiverCounts<'t>> = Vec::new(alloc);
+    for notice in told {
+        let receiver = notice.receiver.as_str();
+        let is_known = match receivers.last() {
+            None => false,
+            Some(last) => last.receiver == receiver,
+        };
+        if !is_known {
+            receivers.push(ReceiverCounts {
+                receiver,
+                all: Counts::none(),
+                hours: Vec::new(alloc),
+            })?;
+        }
+        if let Some(last) = receivers.last_mut() {
+            last.count(notice)?;
+        }
+    }
+    Ok(receivers)
+}
+
+/// Adds a line for each alert that only one of the rehearsals tells of; they come in the order of `by_alert`.
+fn push_heard(alloc: Global, heard: &[Heard], text: &mut String) -> Result<(), AllocError> {
+    let mut alerts: Vec<AlertCounts<'_>> = Vec::new(alloc);
+    for told in heard {
+        let alert = told.alert.as_str();
+        let is_known = match alerts.last() {
+            None => false,
+            Some(last) => last.alert == alert,
+        };
+        if !is_known {
+            alerts.push(AlertCounts {
+                alert,
+                counts: Counts::none(),
+            })?;
+        }
+        if let Some(last) = alerts.last_mut() {
+            last.counts.count(told.side);
+        }
+    }
+    for told in &alerts {
+        let name = told.alert;
+        if told.counts.new == 0 {
+            write!(text, "nobody is told any more: {name}\n")?;
+        }
+        if told.counts.old == 0 {
+            write!(text, "told only now: {name}\n")?;
+        }
+    }
+    Ok(())
+}

@@ -1,0 +1,69 @@
+//! `Findings`: what looking back on a rehearsal finds of its alerts. `undelivered` calls it.
+ghost use Rattle.std.specs.Prelude.{◌≡◌, ◌≤◌, IfOk, option_copied};
+ghost use Rattle.am_timeline.specs.Expectation.{has_set};
+ghost use Rattle.am_timeline.specs.Undelivered.{findings_of, fired_for, last_cause};
+
+use crate::playback::Playback;
+use crate::undelivered::alert_set::AlertSet;
+use crate::undelivered::delivered::sent_alerts;
+use crate::undelivered::durations::Durations;
+use crate::undelivered::muted_alerts::MutedAlerts;
+use am_alerts::labels::Labels;
+use am_mute::mute::MuteCause;
+use std::alloc::{AllocError, Global};
+use std::marker::Model;
+
+/// What looking back finds: the alerts in notices, why alerts were muted, and for how long they fired.
+#[derive(Drop)]
+pub(super) struct Findings {
+    sent: AlertSet,
+    muted: MutedAlerts,
+    inserted: Durations,
+}
+
+impl Model for Findings {
+    ghost use Rattle.am_timeline.specs.Undelivered.{FindingsData};
+
+    ghost Value = { FindingsData };
+
+    ghost view = { λ f. record { sent = f.sent; muted = f.muted; inserted = f.inserted } };
+}
+
+impl Findings {
+    /// Returns what looking back on a rehearsal finds.
+    pub(super) fn of(alloc: Global, playback: &Playback) -> Result<Findings, AllocError>
+        ensures { IfOk result (λ found. found ≡ findings_of playback.now) }
+    {
+        let sent = sent_alerts(alloc, playback.history)?;
+        let mut muted = MutedAlerts::new(alloc);
+        muted.add_all(playback.begins)?;
+        let mut inserted = Durations::new(alloc);
+        inserted.add_all(playback.history)?;
+        Ok(Findings {
+            sent,
+            muted,
+            inserted,
+        })
+    }
+
+    /// Returns whether a notice has this label set.
+    pub(super) fn was_sent(&self, labels: &Labels) -> bool
+        ensures { result ≡ has_set self.now.sent labels.now }
+    {
+        self.sent.has(labels)
+    }
+
+    /// Returns why the alert of this label set was muted last, if it was.
+    pub(super) fn last_cause(&self, labels: &Labels) -> Option<&MuteCause>
+        ensures { option_copied result ≡ last_cause labels.now self.now.muted }
+    {
+        self.muted.last_cause(labels)
+    }
+
+    /// Returns for how long an alert of this label set fired, in milliseconds.
+    pub(super) fn fired_for(&self, labels: &Labels) -> u64
+        ensures { result ≡ fired_for labels.now self.now.inserted }
+    {
+        self.inserted.fired_for(labels)
+    }
+}

@@ -1,4 +1,0 @@
-pub mod Entries
-pub mod Levels
-pub mod Refusals
-pub mod Singles

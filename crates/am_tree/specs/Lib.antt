@@ -1,5 +1,0 @@
-pub mod Flat
-pub mod RouteForest
-pub mod Laws
-pub mod Negation
-pub mod FallThrough

@@ -1,5 +1,6 @@
 -- The texts that are durations are `0` and the sums of parts.
-use Rattle.std.proofs.Common.{⊎_elim, length-append, ◌≡◌, ℕ, ◌+◌, ◌*◌, ◌<◌, Bool, true, false, not, cond, List, [], ◌∷◌, ◌++◌, length, Option, Some, None, refl, sym, ap, subst, ◌∙◌, inl, inr, arith, bytes_eq, append_assoc}
+use Rattle.std.proofs.Common.{⊎_elim, length-append, ◌≡◌, ℕ, ◌+◌, ◌*◌, ◌<◌, Bool, true, false, not, cond, List, [], ◌∷◌, ◌++◌, length}
+use Rattle.std.proofs.Common.{Option, Some, None, refl, sym, ap, subst, ◌∙◌, inl, inr, arith, bytes_eq, append_assoc}
 use Rattle.std.specs.Prelude.{option_and_then, ◌⊎◌, ◌==◌, map, sum_by, codes}
 use Rattle.std.specs.Char.{is_ascii_digit, digit_value}
 use Rattle.std.specs.List.{AllByRecursion, flat_map}
@@ -14,8 +15,12 @@ use Rattle.std.proofs.lemmas.Slice.Eq.{bytes_eq-Decides}
 use Rattle.std.proofs.lemmas.Str.Parse.{digit_from_value}
 use Rattle.am_alerts.specs.declared.duration.TimeUnit.{TimeUnit}
 use Rattle.am_alerts.specs.declared.duration.TimeUnit.TheVariants.{Year, Week, Day, Hour, Minute, Second, Millisecond}
-use Rattle.am_alerts.specs.Duration.{time_units, symbol_of, millis_of, front_digits, behind_digits, behind_symbol, value_with, value_in, value_of_counts, duration_of, DurationPart, part_text, part_millis, AreSomeOf, IsSumOfParts, HasDuration, DurationsAreSums, before_digit, from_digit, unit_named}
-use Rattle.am_alerts.proofs.Durations.{behind_digits-drop, NoDigits, symbol_of-no_digits, before_digit-cons, IsCounted, IsCounted-from, IsDistinct, time_units-distinct, value_in-empty, value_in-counted, value_from, symbol_in, rest_of, AllDigits-front_digits}
+use Rattle.am_alerts.specs.Duration.{time_units, symbol_of, millis_of, front_digits, behind_digits, behind_symbol, value_with, value_in}
+use Rattle.am_alerts.specs.Duration.{value_of_counts, duration_of, DurationPart, part_text, part_millis, AreSomeOf, IsSumOfParts}
+use Rattle.am_alerts.specs.Duration.{HasDuration, DurationsAreSums, before_digit, from_digit, unit_named}
+use Rattle.am_alerts.proofs.Durations.{behind_digits-drop, NoDigits, symbol_of-no_digits, before_digit-cons, IsCounted, IsCounted-from}
+use Rattle.am_alerts.proofs.Durations.{IsDistinct, time_units-distinct, value_in-empty, value_in-counted, value_from, symbol_in, rest_of}
+use Rattle.am_alerts.proofs.Durations.{AllDigits-front_digits}
 
 -- what a value comes from
 cond_some : {A : Type 0} (q : Bool) (o : Option A) (x : A) → cond q o None ≡ Some x → (q ≡ true) × (o ≡ Some x)
@@ -30,7 +35,8 @@ map_some : (g : ℕ → ℕ) (o : Option ℕ) (v : ℕ) → option_map g o ≡ S
 map_some g None v e = cc
 map_some g (Some w) v e = (w, refl, sym (same_Some (g w) v e))
 
-then_some : (f : List ℕ → Option ℕ) (o : Option (List ℕ)) (v : ℕ) → option_and_then f o ≡ Some v → (rest : List ℕ) × (o ≡ Some rest) × (f rest ≡ Some v)
+then_some : (f : List ℕ → Option ℕ) (o : Option (List ℕ)) (v : ℕ) → option_and_then f o ≡ Some v → (rest : List ℕ) × (o ≡ Some rest)
+    × (f rest ≡ Some v)
 then_some f None v e = cc
 then_some f (Some rest) v e = (rest, refl, e)
 
@@ -65,8 +71,11 @@ record HasFirst (unit : TimeUnit) (f : List ℕ → Option ℕ) (text : List ℕ
 
 HasFirst-from : (unit : TimeUnit) (f : List ℕ → Option ℕ) (text : List ℕ) (v : ℕ) → value_with unit f text ≡ Some v → HasFirst unit f text v
 HasFirst-from unit f text v e =
-    let some = cond_none (length (front_digits text) == 0) (option_map (λ v. digits_value 10 (front_digits text) * millis_of unit + v) (option_and_then f (behind_symbol (symbol_of unit) (behind_digits text)))) v e in
-    let whole = map_some (λ v. digits_value 10 (front_digits text) * millis_of unit + v) (option_and_then f (behind_symbol (symbol_of unit) (behind_digits text))) v some.1 in
+    let some = cond_none (length (front_digits text) == 0)
+    (option_map (λ v. digits_value 10 (front_digits text) * millis_of unit + v)
+    (option_and_then f (behind_symbol (symbol_of unit) (behind_digits text)))) v e in
+    let whole = map_some (λ v. digits_value 10 (front_digits text) * millis_of unit + v)
+    (option_and_then f (behind_symbol (symbol_of unit) (behind_digits text))) v some.1 in
     let found = then_some f (behind_symbol (symbol_of unit) (behind_digits text)) whole.0 whole.1 in
     record {
       rest = found.0;
@@ -85,7 +94,9 @@ AreSomeOf-more first all (unit ∷ units) some = inr some
 abbrev first_part : TimeUnit → List ℕ → DurationPart
 first_part unit text = record { digits = front_digits text; unit = unit }
 
-first_more : (unit : TimeUnit) (units : List TimeUnit) (text : List ℕ) (v : ℕ) (first : HasFirst unit (value_in units) text v) (parts : List DurationPart) → IsSumOfParts units parts first.rest first.more → IsSumOfParts (unit ∷ units) (first_part unit text ∷ parts) text v
+first_more : (unit : TimeUnit) (units : List TimeUnit) (text : List ℕ) (v : ℕ) (first : HasFirst unit (value_in units) text v)
+    (parts : List DurationPart) → IsSumOfParts units parts first.rest first.more
+    → IsSumOfParts (unit ∷ units) (first_part unit text ∷ parts) text v
 first_more unit units text v first parts more =
     let part = first_part unit text in
     record {
@@ -99,7 +110,8 @@ first_more unit units text v first parts more =
       summed = first.summed ∙ ap (λ n. part_millis part + n) more.summed ∙ sym (sum_by-cons part_millis part parts);
     }
 
-later_more : (unit : TimeUnit) (units : List TimeUnit) (text : List ℕ) (v : ℕ) (parts : List DurationPart) → IsSumOfParts units parts text v → IsSumOfParts (unit ∷ units) parts text v
+later_more : (unit : TimeUnit) (units : List TimeUnit) (text : List ℕ) (v : ℕ) (parts : List DurationPart) → IsSumOfParts units parts text v
+    → IsSumOfParts (unit ∷ units) parts text v
 later_more unit units text v parts sum = record {
   counted = sum.counted;
   in_order = AreSomeOf-more unit units (map (λ part. part.unit) parts) sum.in_order;
@@ -108,7 +120,8 @@ later_more unit units text v parts sum = record {
 }
 
 -- a value is a sum of parts
-parts-from : (units : List TimeUnit) (text : List ℕ) (v : ℕ) → value_in units text ≡ Some v → (parts : List DurationPart) × IsSumOfParts units parts text v
+parts-from : (units : List TimeUnit) (text : List ℕ) (v : ℕ) → value_in units text ≡ Some v → (parts : List DurationPart)
+    × IsSumOfParts units parts text v
 parts-from [] [] v e = ([], record { counted = tt; in_order = tt; written = refl; summed = cc })
 parts-from [] (b ∷ bs) v e = cc
 parts-from (unit ∷ units) text v e =
@@ -179,7 +192,8 @@ at_digit-numeral : (ds symbol text : List ℕ) → IsNumeral 10 ds → IsAtDigit
 at_digit-numeral [] symbol text numeral = absurd (omega (arith, numeral.0))
 at_digit-numeral (d ∷ ds) symbol text numeral = digit_value-is d numeral.1.0
 
-at_digit-parts : (parts : List DurationPart) → AllByRecursion (λ part. IsNumeral 10 part.digits) parts → IsAtDigit (flat_map part_text parts)
+at_digit-parts : (parts : List DurationPart) → AllByRecursion (λ part. IsNumeral 10 part.digits) parts
+    → IsAtDigit (flat_map part_text parts)
 at_digit-parts [] counted = tt
 at_digit-parts (part ∷ parts) counted = at_digit-numeral part.digits (symbol_of part.unit) (flat_map part_text parts) counted.0
 
@@ -190,7 +204,8 @@ record IsNext (unit : TimeUnit) (units : List TimeUnit) (all : List TimeUnit) : 
   some : AreSomeOf later units
   distinct : IsDistinct later
 
-apart : (q : Bool) (first unit : TimeUnit) (all later : List TimeUnit) → bytes_eq (symbol_of first) (symbol_of unit) ≡ q → unit_named (symbol_of first) all ≡ None → unit_named (symbol_of unit) all ≡ Some (unit, later) → q ≡ false
+apart : (q : Bool) (first unit : TimeUnit) (all later : List TimeUnit) → bytes_eq (symbol_of first) (symbol_of unit) ≡ q
+    → unit_named (symbol_of first) all ≡ None → unit_named (symbol_of unit) all ≡ Some (unit, later) → q ≡ false
 apart true first unit all later same none found =
     let same_symbol : symbol_of first ≡ symbol_of unit = (bytes_eq-Decides (symbol_of first) (symbol_of unit)).0 same in
     absurd (none-some (unit, later) (sym none ∙ ap (λ s. unit_named s all) same_symbol ∙ found))
@@ -203,7 +218,8 @@ IsNext-from unit units (first ∷ all) some distinct =
     (λ here. record {
       later = all;
       found =
-          ap (λ q. cond q (Some (first, all)) (unit_named (symbol_of unit) all)) ((bytes_eq-Decides (symbol_of first) (symbol_of unit)).1 (ap symbol_of (sym here.0)))
+          ap (λ q. cond q (Some (first, all)) (unit_named (symbol_of unit) all))
+          ((bytes_eq-Decides (symbol_of first) (symbol_of unit)).1 (ap symbol_of (sym here.0)))
           ∙ ap (λ u. Some (u, all)) (sym here.0);
       some = here.1;
       distinct = distinct.1;
@@ -211,14 +227,17 @@ IsNext-from unit units (first ∷ all) some distinct =
     (λ behind. let next = IsNext-from unit units all behind distinct.1 in record {
       later = next.later;
       found =
-          ap (λ q. cond q (Some (first, all)) (unit_named (symbol_of unit) all)) (apart _ first unit all next.later refl distinct.0 next.found)
+          ap (λ q. cond q (Some (first, all)) (unit_named (symbol_of unit) all))
+          (apart _ first unit all next.later refl distinct.0 next.found)
           ∙ next.found;
       some = next.some;
       distinct = next.distinct;
     })
     some
 
-value-parts : (parts : List DurationPart) (units : List TimeUnit) → IsDistinct units → AllByRecursion (λ part. IsNumeral 10 part.digits) parts → AreSomeOf units (map (λ part. part.unit) parts) → value_in units (flat_map part_text parts) ≡ Some (sum_by part_millis parts)
+value-parts : (parts : List DurationPart) (units : List TimeUnit) → IsDistinct units
+    → AllByRecursion (λ part. IsNumeral 10 part.digits) parts → AreSomeOf units (map (λ part. part.unit) parts)
+    → value_in units (flat_map part_text parts) ≡ Some (sum_by part_millis parts)
 value-parts [] units distinct counted some = value_in-empty units
 value-parts (part ∷ parts) units distinct counted some =
     let unit = part.unit in
@@ -234,13 +253,16 @@ value-parts (part ∷ parts) units distinct counted some =
     let symbol : symbol_in text ≡ symbol_of unit =
     ap before_digit behind ∙ before-append (symbol_of unit) rest (symbol_of-no_digits unit) at in
     let left : rest_of text ≡ rest = ap from_digit behind ∙ from-append (symbol_of unit) rest (symbol_of-no_digits unit) at in
-    let is_counted : IsCounted text = IsCounted-from (front_digits text) (λ none. let none_there = ap length (sym front ∙ none) in omega (arith, none_there, counted.0.0)) in
+    let is_counted : IsCounted text =
+    IsCounted-from (front_digits text) (λ none. let none_there = ap length (sym front ∙ none) in
+    omega (arith, none_there, counted.0.0)) in
     let next = IsNext-from unit (map (λ part. part.unit) parts) units some distinct in
     value_in-counted units text distinct is_counted
     ∙ ap (λ s. option_and_then (value_from text) (unit_named s units)) symbol
     ∙ ap (option_and_then (value_from text)) next.found
     ∙ ap (λ t. option_map (λ v. digits_value 10 (front_digits text) * millis_of unit + v) (value_in next.later t)) left
-    ∙ ap (option_map (λ v. digits_value 10 (front_digits text) * millis_of unit + v)) (value-parts parts next.later next.distinct counted.1 next.some)
+    ∙ ap (option_map (λ v. digits_value 10 (front_digits text) * millis_of unit + v))
+    (value-parts parts next.later next.distinct counted.1 next.some)
     ∙ ap (λ ds. Some (digits_value 10 ds * millis_of unit + sum)) front
     ∙ ap Some (sym (sum_by-cons part_millis part parts))
 
@@ -250,7 +272,8 @@ not_empty : (parts : List DurationPart) (b : ℕ) (bs : List ℕ) → b ∷ bs �
 not_empty [] b bs e = cc
 not_empty (part ∷ parts) b bs e = omega arith
 
-zero_or_parts : (q : Bool) (b : ℕ) (bs : List ℕ) (v : ℕ) → bytes_eq (b ∷ bs) (codes "0") ≡ q → cond q (Some 0) (value_of_counts (b ∷ bs)) ≡ Some v → HasDuration (b ∷ bs) v
+zero_or_parts : (q : Bool) (b : ℕ) (bs : List ℕ) (v : ℕ) → bytes_eq (b ∷ bs) (codes "0") ≡ q
+    → cond q (Some 0) (value_of_counts (b ∷ bs)) ≡ Some v → HasDuration (b ∷ bs) v
 unfolding value_of_counts
 zero_or_parts true b bs v same e = inl ((bytes_eq-Decides (b ∷ bs) (codes "0")).0 same, sym (same_Some 0 v e))
 zero_or_parts false b bs v same e =
@@ -261,7 +284,8 @@ HasDuration-from [] v e = cc
 HasDuration-from (b ∷ bs) v e = zero_or_parts (bytes_eq (b ∷ bs) (codes "0")) b bs v refl e
 
 -- a text that isn't `0` has the value of its parts
-zero_or_value : (q : Bool) (text : List ℕ) (v : ℕ) → bytes_eq text (codes "0") ≡ q → value_of_counts text ≡ Some v → cond q (Some 0) (value_of_counts text) ≡ Some v
+zero_or_value : (q : Bool) (text : List ℕ) (v : ℕ) → bytes_eq text (codes "0") ≡ q → value_of_counts text ≡ Some v
+    → cond q (Some 0) (value_of_counts text) ≡ Some v
 unfolding value_of_counts
 zero_or_value true text v same e =
     absurd (none-some v (ap (value_in time_units) (sym ((bytes_eq-Decides text (codes "0")).0 same)) ∙ e))
@@ -271,16 +295,19 @@ duration_of-parts : (text : List ℕ) (v : ℕ) → 0 < length text → value_of
 duration_of-parts [] v some e = absurd (omega arith)
 duration_of-parts (b ∷ bs) v some e = zero_or_value (bytes_eq (b ∷ bs) (codes "0")) (b ∷ bs) v refl e
 
-text-not_empty : (parts : List DurationPart) → 0 < length parts → AllByRecursion (λ part. IsNumeral 10 part.digits) parts → 0 < length (flat_map part_text parts)
+text-not_empty : (parts : List DurationPart) → 0 < length parts → AllByRecursion (λ part. IsNumeral 10 part.digits) parts
+    → 0 < length (flat_map part_text parts)
 text-not_empty [] some counted = absurd (omega arith)
 text-not_empty (part ∷ parts) some counted =
     omega (arith, length-append part.digits (symbol_of part.unit), length-append (part_text part) (flat_map part_text parts), counted.0.0)
 
-duration_of-sum : (parts : List DurationPart) (text : List ℕ) (v : ℕ) → 0 < length parts → IsSumOfParts time_units parts text v → duration_of text ≡ Some v
+duration_of-sum : (parts : List DurationPart) (text : List ℕ) (v : ℕ) → 0 < length parts → IsSumOfParts time_units parts text v
+    → duration_of text ≡ Some v
 unfolding value_of_counts
 duration_of-sum parts text v some sum =
     duration_of-parts text v (subst (λ t. 0 < length t) (sym sum.written) (text-not_empty parts some sum.counted))
-    (ap (value_in time_units) sum.written ∙ value-parts parts time_units time_units-distinct sum.counted sum.in_order ∙ ap Some (sym sum.summed))
+    (ap (value_in time_units) sum.written ∙ value-parts parts time_units time_units-distinct sum.counted sum.in_order
+    ∙ ap Some (sym sum.summed))
 
 duration_of-has : (text : List ℕ) (v : ℕ) → HasDuration text v → duration_of text ≡ Some v
 duration_of-has text v (inl zero) = ap duration_of zero.0 ∙ ap Some (sym zero.1)

@@ -1,5 +1,6 @@
 -- Durations' texts: reading from the front gives the value.
-use Rattle.std.proofs.Common.{◌≡◌, ◌≢◌, ℕ, suc, ◌+◌, ◌*◌, ◌^◌, ◌<◌, ◌≤◌, Bool, true, false, cond, ◌&&◌, not, List, [], ◌∷◌, length, drop, Option, Some, None, refl, sym, ap, subst, ◌∙◌, arith, bytes_eq}
+use Rattle.std.proofs.Common.{◌≡◌, ◌≢◌, ℕ, suc, ◌+◌, ◌*◌, ◌^◌, ◌<◌, ◌≤◌, Bool, true, false, cond, ◌&&◌, not, List, [], ◌∷◌, length, drop}
+use Rattle.std.proofs.Common.{Option, Some, None, refl, sym, ap, subst, ◌∙◌, arith, bytes_eq}
 use Rattle.std.specs.Prelude.{option_and_then, ◌==◌}
 use Rattle.std.specs.Char.{is_ascii_digit, digit_value}
 use Rattle.std.specs.List.{prefix_len}
@@ -12,7 +13,8 @@ use Rattle.std.proofs.lemmas.Option.{some_pair_parts}
 use Rattle.std.proofs.lemmas.Slice.Eq.{bytes_eq-Decides}
 use Rattle.am_alerts.specs.declared.duration.TimeUnit.{TimeUnit}
 use Rattle.am_alerts.specs.declared.duration.TimeUnit.TheVariants.{Year, Week, Day, Hour, Minute, Second, Millisecond}
-use Rattle.am_alerts.specs.Duration.{time_units, symbol_of, millis_of, front_digits, behind_digits, behind_symbol, value_with, value_in, value_of_counts, capped, before_digit, from_digit, IsFirstPart, unit_named}
+use Rattle.am_alerts.specs.Duration.{time_units, symbol_of, millis_of, front_digits, behind_digits, behind_symbol, value_with, value_in}
+use Rattle.am_alerts.specs.Duration.{value_of_counts, capped, before_digit, from_digit, IsFirstPart, unit_named}
 
 -- dropping those of the front that pass
 drop-cond : (q : Bool) (n b : ℕ) (bs : List ℕ) → drop (cond q (1 + n) 0) (b ∷ bs) ≡ cond q (drop n bs) (b ∷ bs)
@@ -65,7 +67,8 @@ capped-times a m some =
     let least : 18446744073709551615 ≤ 18446744073709551615 * m = omega arith in
     grind (arith, least)
 
-pub capped-part : (sum count millis v : ℕ) → 0 < millis → capped (capped (sum + capped (capped count * millis)) + v) ≡ capped (sum + (count * millis + v))
+pub capped-part : (sum count millis v : ℕ) → 0 < millis
+    → capped (capped (sum + capped (capped count * millis)) + v) ≡ capped (sum + (count * millis + v))
 capped-part sum count millis v some =
     let product : capped (capped count * millis) ≡ capped (count * millis) = capped-times count millis some in
     omega (arith, product)
@@ -96,7 +99,9 @@ value_in-empty (unit ∷ units) = value_in-empty units
 -- where a text begins with no digit, no unit's count is at its front
 value_with-uncounted : (unit : TimeUnit) (f : List ℕ → Option ℕ) (text : List ℕ) → front_digits text ≡ [] → value_with unit f text ≡ None
 value_with-uncounted unit f text uncounted =
-    ap (λ ds. cond (length ds == 0) None (option_map (λ v. digits_value 10 (front_digits text) * millis_of unit + v) (option_and_then f (behind_symbol (symbol_of unit) (behind_digits text))))) uncounted
+    ap (λ ds. cond (length ds == 0) None
+    (option_map (λ v. digits_value 10 (front_digits text) * millis_of unit + v)
+    (option_and_then f (behind_symbol (symbol_of unit) (behind_digits text))))) uncounted
 
 -- a text that begins with no digit has no value, unless it is empty
 pub value_in-uncounted : (units : List TimeUnit) (b : ℕ) (bs : List ℕ) → front_digits (b ∷ bs) ≡ [] → value_in units (b ∷ bs) ≡ None
@@ -130,27 +135,31 @@ equal-nil : (q : Bool) (b : ℕ) (bs : List ℕ) → bytes_eq [] (cond (not q) (
 equal-nil true b bs = refl
 equal-nil false b bs = refl
 
-equal-cons : (q : Bool) (c b : ℕ) (cs bs : List ℕ) → bytes_eq (c ∷ cs) (cond (not q) (b ∷ bs) []) ≡ cond q false ((c == b) && bytes_eq cs bs)
+equal-cons : (q : Bool) (c b : ℕ) (cs bs : List ℕ)
+    → bytes_eq (c ∷ cs) (cond (not q) (b ∷ bs) []) ≡ cond q false ((c == b) && bytes_eq cs bs)
 equal-cons true c b cs bs = refl
 equal-cons false c b cs bs = refl
 
 nil_before-digit : (b : ℕ) (bs : List ℕ) → bytes_eq [] (before_digit (b ∷ bs)) ≡ is_ascii_digit b
 nil_before-digit b bs = ap (bytes_eq []) (before_digit-cons b bs) ∙ equal-nil (is_ascii_digit b) b (before_digit bs)
 
-cons_before-digit : (c b : ℕ) (cs bs : List ℕ) → bytes_eq (c ∷ cs) (before_digit (b ∷ bs)) ≡ cond (is_ascii_digit b) false ((c == b) && bytes_eq cs (before_digit bs))
+cons_before-digit : (c b : ℕ) (cs bs : List ℕ)
+    → bytes_eq (c ∷ cs) (before_digit (b ∷ bs)) ≡ cond (is_ascii_digit b) false ((c == b) && bytes_eq cs (before_digit bs))
 cons_before-digit c b cs bs = ap (bytes_eq (c ∷ cs)) (before_digit-cons b bs) ∙ equal-cons (is_ascii_digit b) c b cs (before_digit bs)
 
 nil_found : (q : Bool) (bs cs : List ℕ) → q ≡ true → bs ≡ cond q bs cs
 nil_found true bs cs e = refl
 nil_found false bs cs e = cc
 
-cons_found : (q e m : Bool) (o : Option (List ℕ)) (bs cs : List ℕ) → (m ≡ true → o ≡ Some cs) → cond q false (e && m) ≡ true → cond e o None ≡ Some (cond q bs cs)
+cons_found : (q e m : Bool) (o : Option (List ℕ)) (bs cs : List ℕ) → (m ≡ true → o ≡ Some cs) → cond q false (e && m) ≡ true
+    → cond e o None ≡ Some (cond q bs cs)
 cons_found true e m o bs cs same h = cc
 cons_found false true m o bs cs same h = same h
 cons_found false false m o bs cs same h = cc
 
 -- where the bytes up to the first digit are the symbol, the text from that digit is behind it
-behind_symbol-found : (symbol text : List ℕ) → bytes_eq symbol (before_digit text) ≡ true → behind_symbol symbol text ≡ Some (from_digit text)
+behind_symbol-found : (symbol text : List ℕ) → bytes_eq symbol (before_digit text) ≡ true
+    → behind_symbol symbol text ≡ Some (from_digit text)
 behind_symbol-found [] [] same = refl
 behind_symbol-found [] (b ∷ bs) same = ap Some (nil_found (is_ascii_digit b) (b ∷ bs) (from_digit bs) (sym (nil_before-digit b bs) ∙ same))
 behind_symbol-found (c ∷ cs) [] same = cc
@@ -158,13 +167,16 @@ behind_symbol-found (c ∷ cs) (b ∷ bs) same =
     cons_found (is_ascii_digit b) (c == b) (bytes_eq cs (before_digit bs)) (behind_symbol cs bs) (b ∷ bs) (from_digit bs)
     (behind_symbol-found cs bs) (sym (cons_before-digit c b cs bs) ∙ same)
 
-cons_missed : (f : List ℕ → Option ℕ) (q e m : Bool) (o : Option (List ℕ)) → (e ≡ true → q ≡ false) → (m ≡ false → option_and_then f o ≡ None) → cond q false (e && m) ≡ false → option_and_then f (cond e o None) ≡ None
+cons_missed : (f : List ℕ → Option ℕ) (q e m : Bool) (o : Option (List ℕ)) → (e ≡ true → q ≡ false)
+    → (m ≡ false → option_and_then f o ≡ None) → cond q false (e && m) ≡ false → option_and_then f (cond e o None) ≡ None
 cons_missed f q false m o apart missed h = refl
 cons_missed f true true m o apart missed h = let e = apart refl in cc
 cons_missed f false true m o apart missed h = missed h
 
 -- where they are not, nothing behind the symbol has a value: no digit stands there
-behind_symbol-missed : (f : List ℕ → Option ℕ) → ((b : ℕ) (bs : List ℕ) → is_ascii_digit b ≡ false → f (b ∷ bs) ≡ None) → (symbol text : List ℕ) → NoDigits symbol → bytes_eq symbol (before_digit text) ≡ false → option_and_then f (behind_symbol symbol text) ≡ None
+behind_symbol-missed : (f : List ℕ → Option ℕ) → ((b : ℕ) (bs : List ℕ) → is_ascii_digit b ≡ false → f (b ∷ bs) ≡ None)
+    → (symbol text : List ℕ) → NoDigits symbol → bytes_eq symbol (before_digit text) ≡ false
+    → option_and_then f (behind_symbol symbol text) ≡ None
 behind_symbol-missed f none [] [] no_digits other = cc
 behind_symbol-missed f none [] (b ∷ bs) no_digits other = none b bs (sym (nil_before-digit b bs) ∙ other)
 behind_symbol-missed f none (c ∷ cs) [] no_digits other = refl
@@ -184,16 +196,23 @@ symbol_in text = before_digit (behind_digits text)
 abbrev pub rest_of : List ℕ → List ℕ
 rest_of text = from_digit (behind_digits text)
 
-value_with-found : (unit : TimeUnit) (f : List ℕ → Option ℕ) (text : List ℕ) → IsCounted text → bytes_eq (symbol_of unit) (symbol_in text) ≡ true → value_with unit f text ≡ option_map (λ v. digits_value 10 (front_digits text) * millis_of unit + v) (f (rest_of text))
+value_with-found : (unit : TimeUnit) (f : List ℕ → Option ℕ) (text : List ℕ) → IsCounted text
+    → bytes_eq (symbol_of unit) (symbol_in text) ≡ true
+    → value_with unit f text ≡ option_map (λ v. digits_value 10 (front_digits text) * millis_of unit + v) (f (rest_of text))
 value_with-found unit f text counted same =
-    ap (λ q. cond q None (option_map (λ v. digits_value 10 (front_digits text) * millis_of unit + v) (option_and_then f (behind_symbol (symbol_of unit) (behind_digits text))))) counted
-    ∙ ap (λ o. option_map (λ v. digits_value 10 (front_digits text) * millis_of unit + v) (option_and_then f o)) (behind_symbol-found (symbol_of unit) (behind_digits text) same)
+    ap (λ q. cond q None (option_map (λ v. digits_value 10 (front_digits text) * millis_of unit + v)
+    (option_and_then f (behind_symbol (symbol_of unit) (behind_digits text))))) counted
+    ∙ ap (λ o. option_map (λ v. digits_value 10 (front_digits text) * millis_of unit + v) (option_and_then f o))
+    (behind_symbol-found (symbol_of unit) (behind_digits text) same)
 
-value_with-missed : (unit : TimeUnit) (units : List TimeUnit) (text : List ℕ) → IsCounted text → bytes_eq (symbol_of unit) (symbol_in text) ≡ false → value_with unit (value_in units) text ≡ None
+value_with-missed : (unit : TimeUnit) (units : List TimeUnit) (text : List ℕ) → IsCounted text
+    → bytes_eq (symbol_of unit) (symbol_in text) ≡ false → value_with unit (value_in units) text ≡ None
 value_with-missed unit units text counted other =
-    ap (λ q. cond q None (option_map (λ v. digits_value 10 (front_digits text) * millis_of unit + v) (option_and_then (value_in units) (behind_symbol (symbol_of unit) (behind_digits text))))) counted
+    ap (λ q. cond q None (option_map (λ v. digits_value 10 (front_digits text) * millis_of unit + v)
+    (option_and_then (value_in units) (behind_symbol (symbol_of unit) (behind_digits text))))) counted
     ∙ ap (option_map (λ v. digits_value 10 (front_digits text) * millis_of unit + v))
-    (behind_symbol-missed (value_in units) (λ b bs no_digit. value_in-uncounted units b bs (front_digits-no_digit b bs no_digit)) (symbol_of unit) (behind_digits text) (symbol_of-no_digits unit) other)
+    (behind_symbol-missed (value_in units) (λ b bs no_digit. value_in-uncounted units b bs (front_digits-no_digit b bs no_digit))
+    (symbol_of unit) (behind_digits text) (symbol_of-no_digits unit) other)
 
 -- the value of a text whose first part has this unit, with these behind it
 abbrev pub value_from : List ℕ → TimeUnit × List TimeUnit → Option ℕ
@@ -203,38 +222,50 @@ option_or-none : (o : Option ℕ) → option_or o None ≡ o
 option_or-none None = refl
 option_or-none (Some v) = refl
 
-value_in-first : (e : Bool) (unit : TimeUnit) (units : List TimeUnit) (text : List ℕ) → bytes_eq (symbol_of unit) (symbol_in text) ≡ e → unit_named (symbol_of unit) units ≡ None → IsCounted text → value_in units text ≡ option_and_then (value_from text) (unit_named (symbol_in text) units) → value_in (unit ∷ units) text ≡ option_and_then (value_from text) (cond e (Some (unit, units)) (unit_named (symbol_in text) units))
+value_in-first : (e : Bool) (unit : TimeUnit) (units : List TimeUnit) (text : List ℕ) → bytes_eq (symbol_of unit) (symbol_in text) ≡ e
+    → unit_named (symbol_of unit) units ≡ None → IsCounted text
+    → value_in units text ≡ option_and_then (value_from text) (unit_named (symbol_in text) units)
+    → value_in (unit ∷ units) text ≡ option_and_then (value_from text) (cond e (Some (unit, units)) (unit_named (symbol_in text) units))
 value_in-first true unit units text same apart counted later =
     let symbol_is : symbol_of unit ≡ symbol_in text = (bytes_eq-Decides (symbol_of unit) (symbol_in text)).0 same in
-    let none : value_in units text ≡ None = later ∙ ap (λ s. option_and_then (value_from text) (unit_named s units)) (sym symbol_is) ∙ ap (option_and_then (value_from text)) apart in
-    ap (option_or (value_with unit (value_in units) text)) none ∙ option_or-none (value_with unit (value_in units) text) ∙ value_with-found unit (value_in units) text counted same
+    let none : value_in units text ≡ None = later ∙ ap (λ s. option_and_then (value_from text) (unit_named s units)) (sym symbol_is)
+    ∙ ap (option_and_then (value_from text)) apart in
+    ap (option_or (value_with unit (value_in units) text)) none ∙ option_or-none (value_with unit (value_in units) text)
+    ∙ value_with-found unit (value_in units) text counted same
 value_in-first false unit units text same apart counted later =
     ap (λ o. option_or o (value_in units text)) (value_with-missed unit units text counted same) ∙ later
 
 -- a text that begins with a count has the value of its first part and of what is behind it, where its unit is allowed
-pub value_in-counted : (units : List TimeUnit) (text : List ℕ) → IsDistinct units → IsCounted text → value_in units text ≡ option_and_then (value_from text) (unit_named (symbol_in text) units)
+pub value_in-counted : (units : List TimeUnit) (text : List ℕ) → IsDistinct units → IsCounted text
+    → value_in units text ≡ option_and_then (value_from text) (unit_named (symbol_in text) units)
 value_in-counted [] [] distinct counted = cc
 value_in-counted [] (b ∷ bs) distinct counted = refl
 value_in-counted (unit ∷ units) text distinct counted =
-    value_in-first (bytes_eq (symbol_of unit) (symbol_in text)) unit units text refl distinct.0 counted (value_in-counted units text distinct.1 counted)
+    value_in-first (bytes_eq (symbol_of unit) (symbol_in text)) unit units text refl distinct.0 counted
+    (value_in-counted units text distinct.1 counted)
 
 -- a text whose digits are none, or are some
 pub IsCounted-from : (ds : List ℕ) → ds ≢ [] → (length ds == 0) ≡ false
 IsCounted-from [] some = absurd (some refl)
 IsCounted-from (d ∷ ds) some = grind (arith, common_steps)
 
-IsDistinct-cond : (e : Bool) (u : TimeUnit) (us : List TimeUnit) (unit : TimeUnit) (later : List TimeUnit) (found : Option (TimeUnit × List TimeUnit)) → IsDistinct us → (found ≡ Some (unit, later) → IsDistinct later) → cond e (Some (u, us)) found ≡ Some (unit, later) → IsDistinct later
+IsDistinct-cond : (e : Bool) (u : TimeUnit) (us : List TimeUnit) (unit : TimeUnit) (later : List TimeUnit)
+    (found : Option (TimeUnit × List TimeUnit)) → IsDistinct us → (found ≡ Some (unit, later) → IsDistinct later)
+    → cond e (Some (u, us)) found ≡ Some (unit, later) → IsDistinct later
 IsDistinct-cond true u us unit later found distinct inner h = subst IsDistinct (some_pair_parts u unit us later h).1 distinct
 IsDistinct-cond false u us unit later found distinct inner h = inner h
 
 -- the units behind one are distinct too
-pub IsDistinct-named : (units : List TimeUnit) (symbol : List ℕ) (unit : TimeUnit) (later : List TimeUnit) → IsDistinct units → unit_named symbol units ≡ Some (unit, later) → IsDistinct later
+pub IsDistinct-named : (units : List TimeUnit) (symbol : List ℕ) (unit : TimeUnit) (later : List TimeUnit) → IsDistinct units
+    → unit_named symbol units ≡ Some (unit, later) → IsDistinct later
 IsDistinct-named [] symbol unit later distinct named = cc
 IsDistinct-named (u ∷ us) symbol unit later distinct named =
-    IsDistinct-cond (bytes_eq (symbol_of u) symbol) u us unit later (unit_named symbol us) distinct.1 (IsDistinct-named us symbol unit later distinct.1) named
+    IsDistinct-cond (bytes_eq (symbol_of u) symbol) u us unit later (unit_named symbol us) distinct.1
+    (IsDistinct-named us symbol unit later distinct.1) named
 
 -- where no unit that is allowed has the symbol, the text has no value
-pub value_in-unnamed : (units : List TimeUnit) (text : List ℕ) (count : ℕ) (symbol rest : List ℕ) → IsDistinct units → IsFirstPart text count symbol rest → unit_named symbol units ≡ None → value_in units text ≡ None
+pub value_in-unnamed : (units : List TimeUnit) (text : List ℕ) (count : ℕ) (symbol rest : List ℕ) → IsDistinct units
+    → IsFirstPart text count symbol rest → unit_named symbol units ≡ None → value_in units text ≡ None
 value_in-unnamed units text count symbol rest distinct first unnamed =
     value_in-counted units text distinct (IsCounted-from (front_digits text) first.is_counted)
     ∙ ap (λ s. option_and_then (value_from text) (unit_named s units)) (sym first.named)
@@ -249,7 +280,10 @@ option_map-twice f g None = refl
 option_map-twice f g (Some v) = refl
 
 -- the first part goes into the sum, and what is behind it is left
-pub value_in-part : (units : List TimeUnit) (text : List ℕ) (count : ℕ) (symbol rest : List ℕ) (unit : TimeUnit) (later : List TimeUnit) (sum more : ℕ) → IsDistinct units → IsFirstPart text count symbol rest → unit_named symbol units ≡ Some (unit, later) → more ≡ capped (sum + capped (count * millis_of unit)) → option_map (λ v. capped (sum + v)) (value_in units text) ≡ option_map (λ v. capped (more + v)) (value_in later rest)
+pub value_in-part : (units : List TimeUnit) (text : List ℕ) (count : ℕ) (symbol rest : List ℕ) (unit : TimeUnit) (later : List TimeUnit)
+    (sum more : ℕ) → IsDistinct units → IsFirstPart text count symbol rest → unit_named symbol units ≡ Some (unit, later)
+    → more ≡ capped (sum + capped (count * millis_of unit))
+    → option_map (λ v. capped (sum + v)) (value_in units text) ≡ option_map (λ v. capped (more + v)) (value_in later rest)
 value_in-part units text count symbol rest unit later sum more distinct first named is_more =
     let number = digits_value 10 (front_digits text) in
     let value : value_in units text ≡ option_map (λ v. number * millis_of unit + v) (value_in later rest) =
@@ -266,12 +300,14 @@ value_in-part units text count symbol rest unit later sum more distinct first na
     ∙ option_map-same (λ v. capped (sum + (number * millis_of unit + v))) (λ v. capped (more + v)) same (value_in later rest)
 
 -- before the first part the sum is 0
-pub value_of_counts-start : (text : List ℕ) → option_map capped (value_of_counts text) ≡ option_map (λ v. capped (0 + v)) (value_in time_units text)
+pub value_of_counts-start : (text : List ℕ)
+    → option_map capped (value_of_counts text) ≡ option_map (λ v. capped (0 + v)) (value_in time_units text)
 unfolding value_of_counts
 value_of_counts-start text = option_map-same capped (λ v. capped (0 + v)) (λ v. omega arith) (value_in time_units text)
 
 -- a text that isn't empty and begins with no digit has no value
-pub value_in-none : (units : List TimeUnit) (text : List ℕ) → (length text == 0) ≡ false → front_digits text ≡ [] → value_in units text ≡ None
+pub value_in-none : (units : List TimeUnit) (text : List ℕ) → (length text == 0) ≡ false → front_digits text ≡ []
+    → value_in units text ≡ None
 value_in-none units [] some uncounted = cc
 value_in-none units (b ∷ bs) some uncounted = value_in-uncounted units b bs uncounted
 
@@ -295,7 +331,8 @@ behind_digits-lt : (text : List ℕ) → front_digits text ≢ [] → length (be
 behind_digits-lt [] some = absurd (some refl)
 behind_digits-lt (b ∷ bs) some = by (is_ascii_digit b) (λ no_digit. some (front_digits-no_digit b bs no_digit)) (behind_digits-le bs)
   where
-    by : (q : Bool) → (q ≡ false → ⊥) → length (behind_digits bs) ≤ length bs → length (cond q (behind_digits bs) (b ∷ bs)) < length (b ∷ bs)
+    by : (q : Bool) → (q ≡ false → ⊥) → length (behind_digits bs) ≤ length bs
+        → length (cond q (behind_digits bs) (b ∷ bs)) < length (b ∷ bs)
     by true digit h = omega arith
     by false digit h = absurd (digit refl)
 
@@ -307,7 +344,8 @@ first_part-shorter text count symbol rest first =
     omega (arith, ap length first.left)
 
 -- at the end the sum is the value
-pub sum-end : (units : List TimeUnit) (text : List ℕ) (sum : ℕ) → sum < 2 ^ 64 → (length text == 0) ≡ true → option_map (λ v. capped (sum + v)) (value_in units text) ≡ Some sum
+pub sum-end : (units : List TimeUnit) (text : List ℕ) (sum : ℕ) → sum < 2 ^ 64 → (length text == 0) ≡ true
+    → option_map (λ v. capped (sum + v)) (value_in units text) ≡ Some sum
 sum-end units [] sum small empty =
     ap (option_map (λ v. capped (sum + v))) (value_in-empty units) ∙ ap Some (omega arith)
 sum-end units (b ∷ bs) sum small empty = absurd (by (length bs) empty)

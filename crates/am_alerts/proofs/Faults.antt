@@ -1,5 +1,6 @@
 -- The first fault of a list, as a loop comes to it.
-use Rattle.std.proofs.Common.{◌≡◌, ℕ, ◌+◌, ◌<◌, ◌≤◌, suc, List, [], ◌∷◌, ◌++◌, length, map, get_or, take, drop, Option, Some, None, Ok, Err, sym, refl, ap, ◌∙◌}
+use Rattle.std.proofs.Common.{◌≡◌, ℕ, ◌+◌, ◌<◌, ◌≤◌, suc, List, [], ◌∷◌, ◌++◌, length, map, get_or, take, drop, Option, Some, None, Ok, Err}
+use Rattle.std.proofs.Common.{sym, refl, ap, ◌∙◌}
 use Rattle.std.specs.Option.{option_or}
 use Rattle.std.proofs.Math.Seq.{drop-cons}
 use Rattle.std.proofs.lemmas.List.{take-append-drop, take_more, take_all}
@@ -25,9 +26,11 @@ option_or_assoc None b c = refl
 option_or_assoc (Some f) b c = refl
 
 module _ {X F : Type 0} (fault_of : X → Option F) where
-  pub first_fault-append : (xs ys : List X) → first_fault fault_of (xs ++ ys) ≡ option_or (first_fault fault_of xs) (first_fault fault_of ys)
+  pub first_fault-append : (xs ys : List X)
+      → first_fault fault_of (xs ++ ys) ≡ option_or (first_fault fault_of xs) (first_fault fault_of ys)
   first_fault-append [] ys = refl
-  first_fault-append (x ∷ xs) ys = ap (option_or (fault_of x)) (first_fault-append xs ys) ∙ sym (option_or_assoc (fault_of x) (first_fault fault_of xs) (first_fault fault_of ys))
+  first_fault-append (x ∷ xs) ys = ap (option_or (fault_of x)) (first_fault-append xs ys)
+      ∙ sym (option_or_assoc (fault_of x) (first_fault fault_of xs) (first_fault fault_of ys))
 
   pub first_fault-map : {Y : Type 0} (f : Y → X) (ys : List Y) → first_fault fault_of (map f ys) ≡ first_fault (λ y. fault_of (f y)) ys
   first_fault-map f [] = refl
@@ -37,11 +40,13 @@ module _ {X F : Type 0} (fault_of : X → Option F) where
   pub first_fault_none : (xs : List X) (i : ℕ) → length xs ≤ i → first_fault fault_of (take i xs) ≡ None → first_fault fault_of xs ≡ None
   first_fault_none xs i past none = sym (ap (first_fault fault_of) (take_all i xs past)) ∙ none
 
-  module _ (xs : List X) (i : ℕ) (x d : X) (within : i < length xs) (here : x ≡ get_or xs i d) (none : first_fault fault_of (take i xs) ≡ None) where
+  module _ (xs : List X) (i : ℕ) (x d : X) (within : i < length xs) (here : x ≡ get_or xs i d)
+      (none : first_fault fault_of (take i xs) ≡ None) where
     -- a fault, after none
     pub first_fault_here : (f : F) → fault_of x ≡ Some f → first_fault fault_of xs ≡ Some f
     first_fault_here f fault =
-        let split : xs ≡ take i xs ++ (x ∷ drop (suc i) xs) = sym (take-append-drop i xs) ∙ ap (λ r. take i xs ++ r) (drop-cons xs i d within ∙ ap (λ y. y ∷ drop (suc i) xs) (sym here)) in
+        let split : xs ≡ take i xs ++ (x ∷ drop (suc i) xs) =
+        sym (take-append-drop i xs) ∙ ap (λ r. take i xs ++ r) (drop-cons xs i d within ∙ ap (λ y. y ∷ drop (suc i) xs) (sym here)) in
         ap (first_fault fault_of) split ∙ first_fault-append (take i xs) (x ∷ drop (suc i) xs)
         ∙ ap (λ o. option_or o (option_or (fault_of x) (first_fault fault_of (drop (suc i) xs)))) none
         ∙ ap (λ o. option_or o (first_fault fault_of (drop (suc i) xs))) fault
@@ -49,6 +54,7 @@ module _ {X F : Type 0} (fault_of : X → Option F) where
     -- one more element with none
     pub first_fault_more : fault_of x ≡ None → first_fault fault_of (take (i + 1) xs) ≡ None
     first_fault_more fine =
-        ap (first_fault fault_of) (take_more xs i d within ∙ ap (λ y. take i xs ++ (y ∷ [])) (sym here)) ∙ first_fault-append (take i xs) (x ∷ [])
+        ap (first_fault fault_of) (take_more xs i d within ∙ ap (λ y. take i xs ++ (y ∷ [])) (sym here))
+        ∙ first_fault-append (take i xs) (x ∷ [])
         ∙ ap (λ o. option_or o (option_or (fault_of x) None)) none
         ∙ ap (λ o. option_or o None) fine

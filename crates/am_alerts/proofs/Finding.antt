@@ -1,16 +1,19 @@
 -- The first element of a list that passes a test, as a loop comes to it.
-use Rattle.std.proofs.Common.{◌≡◌, ℕ, ◌+◌, ◌<◌, ◌≤◌, suc, Bool, true, false, cond, List, [], ◌∷◌, ◌++◌, length, get_or, take, drop, Some, None, find, filter, sym, ap, ◌∙◌}
+use Rattle.std.proofs.Common.{◌≡◌, ℕ, ◌+◌, ◌<◌, ◌≤◌, suc, Bool, true, false, cond, List, [], ◌∷◌, ◌++◌, length, get_or, take, drop, Some}
+use Rattle.std.proofs.Common.{None, find, filter, sym, ap, ◌∙◌}
 use Rattle.std.specs.Option.{option_or}
 use Rattle.std.proofs.Math.Seq.{drop-cons}
 use Rattle.std.proofs.lemmas.List.{take-append-drop, take_more, take_all, append-nil}
 use Rattle.std.proofs.lemmas.List.Elements.{filter-append}
 use Rattle.std.proofs.lemmas.List.Folds.{find-append}
 
-module _ {X : Type 0} (p : X → Bool) (xs : List X) (i : ℕ) (x d : X) (within : i < length xs) (here : x ≡ get_or xs i d) (none : find p (take i xs) ≡ None) where
+module _ {X : Type 0} (p : X → Bool) (xs : List X) (i : ℕ) (x d : X) (within : i < length xs) (here : x ≡ get_or xs i d)
+    (none : find p (take i xs) ≡ None) where
   -- the element that passes, after none that does
   pub find_here : p x ≡ true → find p xs ≡ Some x
   find_here passes =
-      let split : xs ≡ take i xs ++ (x ∷ drop (suc i) xs) = sym (take-append-drop i xs) ∙ ap (λ r. take i xs ++ r) (drop-cons xs i d within ∙ ap (λ y. y ∷ drop (suc i) xs) (sym here)) in
+      let split : xs ≡ take i xs ++ (x ∷ drop (suc i) xs) =
+      sym (take-append-drop i xs) ∙ ap (λ r. take i xs ++ r) (drop-cons xs i d within ∙ ap (λ y. y ∷ drop (suc i) xs) (sym here)) in
       ap (find p) split ∙ find-append p (take i xs) (x ∷ drop (suc i) xs)
       ∙ ap (λ o. option_or o (cond (p x) (Some x) (find p (drop (suc i) xs)))) none
       ∙ ap (λ b. cond b (Some x) (find p (drop (suc i) xs))) passes

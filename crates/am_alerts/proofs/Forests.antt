@@ -1,5 +1,6 @@
 -- Forests of nodes.
-use Rattle.std.proofs.Common.{◌≡◌, ℕ, ◌+◌, ◌-◌, ◌<◌, ◌≤◌, suc, inl, inr, Bool, List, [], ◌∷◌, ◌++◌, length, map, set, get_or, drop, true, false, refl, sym, ap, ◌∙◌, arith}
+use Rattle.std.proofs.Common.{◌≡◌, ℕ, ◌+◌, ◌-◌, ◌<◌, ◌≤◌, suc, inl, inr, Bool, List, [], ◌∷◌, ◌++◌, length, map, set, get_or, drop, true}
+use Rattle.std.proofs.Common.{false, refl, sym, ap, ◌∙◌, arith}
 use Rattle.std.specs.Prelude.{max, nat_le}
 use Rattle.std.proofs.lemmas.Bool.{cases_lt, le-leb, leb-false, leb-true, lt-leb}
 use Rattle.std.proofs.lemmas.List.{append_assoc, at_drop_more, length-append, length-map, map-append, set_at}
@@ -48,16 +49,21 @@ module _ (nodes : List Node) (i : ℕ) (n d : Node) (within : i < length nodes) 
   module _ (levels : ℕ) (whole : Bool) (so_far : nat_le (height (forest (drop i nodes))) levels ≡ whole) where
     pub low-none : levels ≡ 0 → false ≡ whole
     low-none none =
-        sym (ap (λ f. nat_le (height f) levels) forest-drop ∙ ap (λ l. nat_le (max (height (below_of n) + 1) (height (forest (drop (i + 1) nodes)))) l) none ∙ low_none (height (below_of n)) (height (forest (drop (i + 1) nodes))))
+        sym (ap (λ f. nat_le (height f) levels) forest-drop
+        ∙ ap (λ l. nat_le (max (height (below_of n) + 1) (height (forest (drop (i + 1) nodes)))) l) none
+        ∙ low_none (height (below_of n)) (height (forest (drop (i + 1) nodes))))
         ∙ so_far
 
     pub low-under : nat_le (height (below_of n)) (levels - 1) ≡ false → false ≡ whole
     low-under high =
-        sym (ap (λ f. nat_le (height f) levels) forest-drop ∙ low_under (height (below_of n)) (height (forest (drop (i + 1) nodes))) levels high) ∙ so_far
+        sym (ap (λ f. nat_le (height f) levels) forest-drop
+        ∙ low_under (height (below_of n)) (height (forest (drop (i + 1) nodes))) levels high) ∙ so_far
 
-    pub low-on : 0 < levels → nat_le (height (below_of n)) (levels - 1) ≡ true → nat_le (height (forest (drop (i + 1) nodes))) levels ≡ whole
+    pub low-on : 0 < levels → nat_le (height (below_of n)) (levels - 1) ≡ true
+        → nat_le (height (forest (drop (i + 1) nodes))) levels ≡ whole
     low-on some low =
-        sym (ap (λ f. nat_le (height f) levels) forest-drop ∙ low_on (height (below_of n)) (height (forest (drop (i + 1) nodes))) levels some low) ∙ so_far
+        sym (ap (λ f. nat_le (height f) levels) forest-drop
+        ∙ low_on (height (below_of n)) (height (forest (drop (i + 1) nodes))) levels some low) ∙ so_far
 
 -- ---- node after node
 
@@ -67,7 +73,8 @@ beside_forest (n ∷ ns) m =
     forest-cons n (ns ++ m ∷ []) ∙ ap (λ f. grow (rule_of n) (below_of n) f) (beside_forest ns m)
     ∙ ap (λ f. beside f (grow (rule_of m) (below_of m) bare)) (sym (forest-cons n ns))
 
-beside_settled : (above : Route) (f g : Forest RouteSpec) → settled_below above (beside f g) ≡ beside (settled_below above f) (settled_below above g)
+beside_settled : (above : Route) (f g : Forest RouteSpec)
+    → settled_below above (beside f g) ≡ beside (settled_below above f) (settled_below above g)
 beside_settled above bare g = refl
 beside_settled above (grow r below after) g =
     ap (λ h. grow (settled_route above r) (settled_below (settled above r) below) h) (beside_settled above after g)
@@ -76,19 +83,24 @@ module _ {X : Type 0} where
   listed-beside : (f g : Forest X) → listed (beside f g) ≡ listed f ++ listed g
   listed-beside bare g = refl
   listed-beside (grow x below after) g =
-      ap (λ xs. x ∷ (listed below ++ xs)) (listed-beside after g) ∙ ap (λ xs. x ∷ xs) (sym (append_assoc (listed below) (listed after) (listed g)))
+      ap (λ xs. x ∷ (listed below ++ xs)) (listed-beside after g)
+      ∙ ap (λ xs. x ∷ xs) (sym (append_assoc (listed below) (listed after) (listed g)))
 
   laid-beside : (f g : Forest X) → laid (beside f g) ≡ laid f ++ laid g
   laid-beside bare g = refl
   laid-beside (grow x below after) g =
-      ap (λ xs. (x, count below) ∷ (laid below ++ xs)) (laid-beside after g) ∙ ap (λ xs. (x, count below) ∷ xs) (sym (append_assoc (laid below) (laid after) (laid g)))
+      ap (λ xs. (x, count below) ∷ (laid below ++ xs)) (laid-beside after g)
+      ∙ ap (λ xs. (x, count below) ∷ xs) (sym (append_assoc (laid below) (laid after) (laid g)))
 
 module _ (above : Route) (ns : List Node) (m : Node) where
-  settled_more : settled_below above (forest (ns ++ m ∷ [])) ≡ beside (settled_below above (forest ns)) (tree_below above (rule_of m) (below_of m))
+  settled_more : settled_below above (forest (ns ++ m ∷ []))
+      ≡ beside (settled_below above (forest ns)) (tree_below above (rule_of m) (below_of m))
   settled_more = ap (settled_below above) (beside_forest ns m) ∙ beside_settled above (forest ns) (grow (rule_of m) (below_of m) bare)
 
   -- the routes of one more node, and their places
-  pub children_more : (before so_far now : List Child) → so_far ≡ before ++ map (λ r. r.child) (listed (settled_below above (forest ns))) → now ≡ so_far ++ map (λ r. r.child) (listed (tree_below above (rule_of m) (below_of m))) → now ≡ before ++ map (λ r. r.child) (listed (settled_below above (forest (ns ++ m ∷ []))))
+  pub children_more : (before so_far now : List Child) → so_far ≡ before ++ map (λ r. r.child) (listed (settled_below above (forest ns)))
+      → now ≡ so_far ++ map (λ r. r.child) (listed (tree_below above (rule_of m) (below_of m)))
+      → now ≡ before ++ map (λ r. r.child) (listed (settled_below above (forest (ns ++ m ∷ []))))
   children_more before so_far now was added =
       let first = map (λ (r : TreeRoute). r.child) (listed (settled_below above (forest ns))) in
       let more = map (λ (r : TreeRoute). r.child) (listed (tree_below above (rule_of m) (below_of m))) in
@@ -97,7 +109,9 @@ module _ (above : Route) (ns : List Node) (m : Node) where
       ∙ ap (map (λ r. r.child)) (listed-beside (settled_below above (forest ns)) (tree_below above (rule_of m) (below_of m)))
       ∙ map-append (λ r. r.child) (listed (settled_below above (forest ns))) (listed (tree_below above (rule_of m) (below_of m)))))
 
-  pub places_more : (before so_far now : List Place) → so_far ≡ before ++ map place_of (laid (settled_below above (forest ns))) → now ≡ so_far ++ map place_of (laid (tree_below above (rule_of m) (below_of m))) → now ≡ before ++ map place_of (laid (settled_below above (forest (ns ++ m ∷ []))))
+  pub places_more : (before so_far now : List Place) → so_far ≡ before ++ map place_of (laid (settled_below above (forest ns)))
+      → now ≡ so_far ++ map place_of (laid (tree_below above (rule_of m) (below_of m)))
+      → now ≡ before ++ map place_of (laid (settled_below above (forest (ns ++ m ∷ []))))
   places_more before so_far now was added =
       let first = map place_of (laid (settled_below above (forest ns))) in
       let more = map place_of (laid (tree_below above (rule_of m) (below_of m))) in
@@ -107,7 +121,9 @@ module _ (above : Route) (ns : List Node) (m : Node) where
       ∙ map-append place_of (laid (settled_below above (forest ns))) (laid (tree_below above (rule_of m) (below_of m)))))
 
 -- the place of a route is told once those below it are laid out
-pub place_told : (before now : List Place) (x : TreeRoute) (p : Place) (f : Forest TreeRoute) (size : ℕ) → now ≡ (before ++ p ∷ []) ++ map place_of (laid f) → size ≡ length now - length before - 1 → set now (length before) (record { below = size }) ≡ before ++ place_of (x, count f) ∷ map place_of (laid f)
+pub place_told : (before now : List Place) (x : TreeRoute) (p : Place) (f : Forest TreeRoute) (size : ℕ)
+    → now ≡ (before ++ p ∷ []) ++ map place_of (laid f) → size ≡ length now - length before - 1
+    → set now (length before) (record { below = size }) ≡ before ++ place_of (x, count f) ∷ map place_of (laid f)
 place_told before now x p f size was told =
     let others = map place_of (laid f) in
     let flat : now ≡ before ++ p ∷ others = was ∙ append_assoc before (p ∷ []) others in

@@ -7,7 +7,8 @@ use Rattle.am_alerts.specs.Forest.{Forest, bare, grow, count, height, listed, le
 use Rattle.am_alerts.specs.Layout.{laid, planted_of_laid}
 use Rattle.am_alerts.specs.Nested.{nested_of, settled, settled_below}
 use Rattle.am_alerts.specs.Planted.{IsLaid, IsPlanted, paired, place_of, tree_from}
-use Rattle.am_alerts.specs.RoutingTree.{RoutingTree, TreeRoute, children_of, fault_where, is_within, last_of, level_fault, plain, tree_fault, tree_of}
+use Rattle.am_alerts.specs.RoutingTree.{RoutingTree, TreeRoute, children_of, fault_where, is_within, last_of, level_fault, plain}
+use Rattle.am_alerts.specs.RoutingTree.{tree_fault, tree_of}
 use Rattle.am_alerts.specs.declared.limits.TheConstants.{MAX_CHILDREN, MAX_DEPTH, MAX_ROUTES}
 use Rattle.am_alerts.specs.declared.planting.Place.{Place}
 use Rattle.am_alerts.specs.declared.route.Child.{Child}
@@ -44,12 +45,14 @@ within_level root cs =
     and_true false = refl
 
 -- what is checked of a root and its children
-pub level_fault_is : (root : Route) (cs : List Child) → level_fault (tree_of root cs) ≡ fault_where (nat_le (length cs) MAX_CHILDREN) root cs
+pub level_fault_is : (root : Route) (cs : List Child)
+    → level_fault (tree_of root cs) ≡ fault_where (nat_le (length cs) MAX_CHILDREN) root cs
 level_fault_is root cs =
     ap (λ fits. fault_where fits root (children_of (tree_of root cs))) (within_level root cs)
     ∙ ap (λ ds. fault_where (nat_le (length cs) MAX_CHILDREN) root ds) (children_of_level root cs)
 
-fault_none : (fits fits' : Bool) (root : Route) (cs : List Child) → fault_where fits root cs ≡ None → fits' ≡ true → fault_where fits' root cs ≡ None
+fault_none : (fits fits' : Bool) (root : Route) (cs : List Child) → fault_where fits root cs ≡ None → fits' ≡ true
+    → fault_where fits' root cs ≡ None
 fault_none fits fits' root cs none true' =
     ap (λ b. fault_where b root cs) (true' ∙ sym (fits-none fits root cs none)) ∙ none
 
@@ -58,7 +61,8 @@ pub level_fault-tree_fault : (root : Route) (cs : List Child) → level_fault (t
 level_fault-tree_fault root cs none =
     let tree = tree_of root cs in
     let few : nat_le (last_of tree) MAX_CHILDREN ≡ true =
-    (and_parts (nat_le (last_of tree) MAX_CHILDREN) (nat_le (height tree.below) 1) (fits-none (is_within MAX_CHILDREN 1 tree) root (children_of tree) none)).0 in
+    (and_parts (nat_le (last_of tree) MAX_CHILDREN) (nat_le (height tree.below) 1)
+    (fits-none (is_within MAX_CHILDREN 1 tree) root (children_of tree) none)).0 in
     let n : last_of tree ≤ MAX_CHILDREN = leb-true (last_of tree) MAX_CHILDREN few in
     fault_none (is_within MAX_CHILDREN 1 tree) (is_within MAX_ROUTES MAX_DEPTH tree) root (children_of tree) none
     (and_from (nat_le (last_of tree) MAX_ROUTES) (nat_le (height tree.below) MAX_DEPTH)
@@ -68,7 +72,8 @@ level_fault-tree_fault root cs none =
 pub tree_from_level : (root : Route) (cs : List Child) → tree_from root (paired cs []) ≡ tree_of root cs
 tree_from_level root cs = ap (λ f. let t : RoutingTree = record { root = root; below = f } in t) (planted_level cs)
 
-pub is_planted_level : (root : Route) (cs : List Child) → fault_where (nat_le (length cs) MAX_CHILDREN) root cs ≡ None → IsPlanted root (paired cs [])
+pub is_planted_level : (root : Route) (cs : List Child) → fault_where (nat_le (length cs) MAX_CHILDREN) root cs ≡ None
+    → IsPlanted root (paired cs [])
 is_planted_level root cs none = (
   ap laid (planted_level cs) ∙ laid_level cs,
   ap tree_fault (tree_from_level root cs) ∙ level_fault-tree_fault root cs (level_fault_is root cs ∙ none),
@@ -82,16 +87,20 @@ height_settled above (grow r below after) =
     ap (λ n. max (n + 1) (height (settled_below above after))) (height_settled (settled above r) below)
     ∙ ap (λ n. max (height below + 1) n) (height_settled above after)
 
-module _ (root : Route) (f : Forest RouteSpec) (cs : List Child) (ps : List Place) (children : cs ≡ map (λ r. r.child) (listed (settled_below root f))) (places : ps ≡ map place_of (laid (settled_below root f))) where
+module _ (root : Route) (f : Forest RouteSpec) (cs : List Child) (ps : List Place)
+    (children : cs ≡ map (λ r. r.child) (listed (settled_below root f))) (places : ps ≡ map place_of (laid (settled_below root f))) where
   paired_nested : paired cs ps ≡ laid (settled_below root f)
-  paired_nested = ap (λ ds. paired ds ps) children ∙ ap (λ qs. paired (map (λ r. r.child) (listed (settled_below root f))) qs) places ∙ paired_laid (settled_below root f)
+  paired_nested = ap (λ ds. paired ds ps) children ∙ ap (λ qs. paired (map (λ r. r.child) (listed (settled_below root f))) qs) places
+      ∙ paired_laid (settled_below root f)
 
   pub tree_from_nested : tree_from root (paired cs ps) ≡ nested_of root f
   tree_from_nested =
-      ap (λ ts. tree_from root ts) paired_nested ∙ ap (λ g. let t : RoutingTree = record { root = root; below = g } in t) (planted_of_laid (settled_below root f))
+      ap (λ ts. tree_from root ts) paired_nested
+      ∙ ap (λ g. let t : RoutingTree = record { root = root; below = g } in t) (planted_of_laid (settled_below root f))
 
   length_nested : length cs ≡ count (settled_below root f)
-  length_nested = ap length children ∙ length-map (listed (settled_below root f)) (λ (r : TreeRoute). r.child) ∙ length_listed (settled_below root f)
+  length_nested = ap length children ∙ length-map (listed (settled_below root f)) (λ (r : TreeRoute). r.child)
+      ∙ length_listed (settled_below root f)
 
   -- what is checked of what was laid out
   pub fault_nested : fault_where (nat_le (length cs) MAX_ROUTES && nat_le (height f) MAX_DEPTH) root cs ≡ tree_fault (nested_of root f)
@@ -100,7 +109,8 @@ module _ (root : Route) (f : Forest RouteSpec) (cs : List Child) (ps : List Plac
       ∙ ap (λ n. fault_where (nat_le (count (settled_below root f)) MAX_ROUTES && nat_le n MAX_DEPTH) root cs) (sym (height_settled root f))
       ∙ ap (λ ds. fault_where (is_within MAX_ROUTES MAX_DEPTH (nested_of root f)) root ds) children
 
-  pub is_planted_nested : fault_where (nat_le (length cs) MAX_ROUTES && nat_le (height f) MAX_DEPTH) root cs ≡ None → IsPlanted root (paired cs ps)
+  pub is_planted_nested : fault_where (nat_le (length cs) MAX_ROUTES && nat_le (height f) MAX_DEPTH) root cs ≡ None
+      → IsPlanted root (paired cs ps)
   is_planted_nested none = (
     subst (λ ts. IsLaid ts) (sym paired_nested) (ap laid (planted_of_laid (settled_below root f))),
     ap tree_fault tree_from_nested ∙ sym fault_nested ∙ none,

@@ -1,5 +1,6 @@
 -- Label sets: what a filter keeps, and what a sort of labels with different names gives.
-use Rattle.std.proofs.Common.{◌≡◌, ◌≢◌, ℕ, ◌+◌, ◌≤◌, suc, Bool, true, false, cond, ◌&&◌, ◌||◌, List, [], ◌∷◌, length, filter, get_or, count_by, All, None, Ordering, IsPermutation, IsSorted, IsSortedBy, is_none, sym, refl, ap, ◌∙◌, subst, arith}
+use Rattle.std.proofs.Common.{◌≡◌, ◌≢◌, ℕ, ◌+◌, ◌≤◌, suc, Bool, true, false, cond, ◌&&◌, ◌||◌, List, [], ◌∷◌, length, filter, get_or}
+use Rattle.std.proofs.Common.{count_by, All, None, Ordering, IsPermutation, IsSorted, IsSortedBy, is_none, sym, refl, ap, ◌∙◌, subst, arith}
 use Rattle.std.specs.declared.cmp.Ordering.TheVariants.{Less, Equal, Greater}
 use Rattle.std.specs.Ordering.{is_lt, is_eq, ordering_then, ordering_reverse}
 use Rattle.std.specs.List.{list_all}
@@ -8,11 +9,13 @@ use Rattle.std.specs.Cmp.Lexicographic.{nat_list_cmp_total, texts_ties, bytes_de
 use Rattle.std.proofs.lemmas.Bool.{false_from_ne_true, false≢true}
 use Rattle.std.proofs.lemmas.Bool.Decides.{nat_tests}
 use Rattle.std.proofs.lemmas.List.Sorted.{All-permutation, sum_by-IsPermutation, length_permutation, sorted_far, ranks_by}
-use Rattle.std.proofs.lemmas.List.Sums.{sum_by-cons, length-filter, count_by-le-length, get_or-le-sum_by, AllPass-from_list_all, list_all-from_AllPass}
+use Rattle.std.proofs.lemmas.List.Sums.{sum_by-cons, length-filter, count_by-le-length, get_or-le-sum_by, AllPass-from_list_all}
+use Rattle.std.proofs.lemmas.List.Sums.{list_all-from_AllPass}
 use Rattle.am_alerts.specs.declared.labels.Label.{Label}
 use Rattle.am_alerts.specs.Fault.{first_fault}
 use Rattle.am_alerts.specs.LabelOrder.{label_cmp_total, label_set_hash, same_label_set-decides}
-use Rattle.am_alerts.specs.Labels.{has_value, has_text_twice, has_rising_names, names_of, stands_in, with_values, is_label, pair_fault, same_label_set, set_fault, label_cmp, text_cmp, IsLabelSet, IsReadOf}
+use Rattle.am_alerts.specs.Labels.{has_value, has_text_twice, has_rising_names, names_of, stands_in, with_values, is_label, pair_fault}
+use Rattle.am_alerts.specs.Labels.{same_label_set, set_fault, label_cmp, text_cmp, IsLabelSet, IsReadOf}
 use Rattle.am_alerts.specs.declared.limits.TheConstants.{MAX_LABELS}
 use Rattle.am_alerts.proofs.Faults.{none_of_both}
 
@@ -20,7 +23,7 @@ both_true : (a b : Bool) → (a && b) ≡ true → (a ≡ true) × (b ≡ true)
 both_true true b e = (refl, e)
 both_true false b e = absurd (false≢true e)
 
-both_false : (a b : Bool) → (a || b) ≡ false → (a ≡ false) × (b ≡ false)
+pub both_false : (a b : Bool) → (a || b) ≡ false → (a ≡ false) × (b ≡ false)
 both_false true b e = absurd (cc)
 both_false false b e = (refl, e)
 
@@ -28,7 +31,8 @@ both_false false b e = (refl, e)
 
 list_all-filter : {X : Type 0} (q p : X → Bool) (xs : List X) → list_all q xs ≡ true → list_all q (filter p xs) ≡ true
 list_all-filter q p [] h = h
-list_all-filter q p (x ∷ xs) h = by (p x) (both_true (q x) (list_all q xs) h).0 (list_all-filter q p xs (both_true (q x) (list_all q xs) h).1)
+list_all-filter q p (x ∷ xs) h =
+    by (p x) (both_true (q x) (list_all q xs) h).0 (list_all-filter q p xs (both_true (q x) (list_all q xs) h).1)
   where
     by : (b : Bool) → q x ≡ true → list_all q (filter p xs) ≡ true → list_all q (cond b (x ∷ filter p xs) (filter p xs)) ≡ true
     by true e f = ap (λ (r : Bool). r && list_all q (filter p xs)) e ∙ f
@@ -40,7 +44,8 @@ has_rising_names-filter p (l ∷ ls) h =
     let parts = both_true (list_all (λ m. is_lt (text_cmp l.name m.name)) ls) (has_rising_names ls) h in
     by (p l) (list_all-filter (λ m. is_lt (text_cmp l.name m.name)) p ls parts.0) (has_rising_names-filter p ls parts.1)
   where
-    by : (b : Bool) → list_all (λ m. is_lt (text_cmp l.name m.name)) (filter p ls) ≡ true → has_rising_names (filter p ls) ≡ true → has_rising_names (cond b (l ∷ filter p ls) (filter p ls)) ≡ true
+    by : (b : Bool) → list_all (λ m. is_lt (text_cmp l.name m.name)) (filter p ls) ≡ true → has_rising_names (filter p ls) ≡ true
+        → has_rising_names (cond b (l ∷ filter p ls) (filter p ls)) ≡ true
     by true e f = ap (λ (r : Bool). r && has_rising_names (filter p ls)) e ∙ f
     by false e f = f
 
@@ -65,7 +70,8 @@ count_named-none : (name : List ℕ) (ls : List Label) → stands_in name (names
 count_named-none name [] h = refl
 count_named-none name (l ∷ ls) h =
     let parts = both_false (bytes_eq l.name name) (stands_in name (names_of ls)) h in
-    sum_by-cons (λ m. cond (bytes_eq m.name name) 1 0) l ls ∙ ap (λ b. cond b 1 0 + count_named name ls) parts.0 ∙ ap (λ n. 0 + n) (count_named-none name ls parts.1)
+    sum_by-cons (λ m. cond (bytes_eq m.name name) 1 0) l ls ∙ ap (λ b. cond b 1 0 + count_named name ls) parts.0
+    ∙ ap (λ n. 0 + n) (count_named-none name ls parts.1)
 
 -- where no name stands twice, each stands at most once
 count_named-once : (ls : List Label) → has_text_twice (names_of ls) ≡ false → (name : List ℕ) → count_named name ls ≤ 1
@@ -75,7 +81,8 @@ count_named-once (l ∷ ls) h name =
     let step = sum_by-cons (λ m. cond (bytes_eq m.name name) 1 0) l ls in
     by (bytes_eq l.name name) refl step (count_named-none l.name ls parts.0) (count_named-once ls parts.1 name)
   where
-    by : (b : Bool) → bytes_eq l.name name ≡ b → count_named name (l ∷ ls) ≡ cond (bytes_eq l.name name) 1 0 + count_named name ls → count_named l.name ls ≡ 0 → count_named name ls ≤ 1 → count_named name (l ∷ ls) ≤ 1
+    by : (b : Bool) → bytes_eq l.name name ≡ b → count_named name (l ∷ ls) ≡ cond (bytes_eq l.name name) 1 0 + count_named name ls
+        → count_named l.name ls ≡ 0 → count_named name ls ≤ 1 → count_named name (l ∷ ls) ≤ 1
     by true e step none once =
         let same : l.name ≡ name = (bytes_decides l.name name).0 e in
         let gone : count_named name ls ≡ 0 = ap (λ n. count_named n ls) (sym same) ∙ none in
@@ -87,9 +94,13 @@ count_named-once (l ∷ ls) h name =
 
 -- the labels of a list have other names where a name is counted nowhere
 others_named : (name : List ℕ) (ls : List Label) → count_named name ls ≡ 0 → All (λ l. bytes_eq l.name name ≡ false) ls
-others_named name ls none = λ k d within. by k d (bytes_eq (get_or ls k d).name name) refl (get_or-le-sum_by (λ l. cond (bytes_eq l.name name) 1 0) ls k d within) none
+others_named name ls none =
+    λ k d within. by k d (bytes_eq (get_or ls k d).name name) refl (get_or-le-sum_by (λ l. cond (bytes_eq l.name name) 1 0) ls k d within)
+    none
   where
-    by : (k : ℕ) (d : Label) (b : Bool) → bytes_eq (get_or ls k d).name name ≡ b → cond (bytes_eq (get_or ls k d).name name) 1 0 ≤ count_named name ls → count_named name ls ≡ 0 → bytes_eq (get_or ls k d).name name ≡ false
+    by : (k : ℕ) (d : Label) (b : Bool) → bytes_eq (get_or ls k d).name name ≡ b
+        → cond (bytes_eq (get_or ls k d).name name) 1 0 ≤ count_named name ls → count_named name ls ≡ 0
+        → bytes_eq (get_or ls k d).name name ≡ false
     by k d true e low zero = absurd (let one = ap {B = ℕ} (λ b. cond b 1 0) e in omega (arith, one, low, zero))
     by k d false e low zero = e
 
@@ -103,18 +114,24 @@ above y m not_below other = by (text_cmp m.name y.name) refl
     by Greater e = ap is_lt (nat_list_cmp_total.antisymm y.name m.name ∙ ap ordering_reverse e)
 
 -- labels in order whose names stand once rise by name
-rising-sorted : (ls : List Label) → IsSortedBy (λ x y. is_lt (label_cmp x y)) ls → ((name : List ℕ) → count_named name ls ≤ 1) → has_rising_names ls ≡ true
+rising-sorted : (ls : List Label) → IsSortedBy (λ x y. is_lt (label_cmp x y)) ls → ((name : List ℕ) → count_named name ls ≤ 1)
+    → has_rising_names ls ≡ true
 rising-sorted [] sorted once = refl
 rising-sorted (l ∷ ls) sorted once =
     let count = λ (name : List ℕ). sum_by-cons (λ (m : Label). cond (bytes_eq m.name name) 1 0) l ls in
     let own : count_named l.name ls ≡ 0 =
-    (let one = ap (λ b. cond b 1 0 + count_named l.name ls) ((bytes_decides l.name l.name).1 refl) in omega (arith, count l.name, one, once l.name)) in
+    (let one = ap (λ b. cond b 1 0 + count_named l.name ls) ((bytes_decides l.name l.name).1 refl) in
+    omega (arith, count l.name, one, once l.name)) in
     let others = others_named l.name ls own in
     let later : list_all (λ m. is_lt (text_cmp l.name m.name)) ls ≡ true =
     list_all-from_AllPass (λ m. is_lt (text_cmp l.name m.name)) ls (λ k d within.
-    above l (get_or ls k d) (sorted_far (λ x y. is_lt (label_cmp x y)) (ranks_by label_cmp_total (λ x. x)) (l ∷ ls) sorted 0 (suc k) d (omega arith) (omega arith)) (others k d within)) in
+    above l (get_or ls k d)
+    (sorted_far (λ x y. is_lt (label_cmp x y)) (ranks_by label_cmp_total (λ x. x)) (l ∷ ls) sorted 0 (suc k) d (omega arith)
+    (omega arith)) (others k d within)) in
     let rest : has_rising_names ls ≡ true =
-    rising-sorted ls (λ k d low high. let e : suc k + 1 ≡ suc (k + 1) = omega arith in subst (λ j. is_lt (label_cmp (get_or (l ∷ ls) j d) (get_or ls k d)) ≡ false) e (sorted (suc k) d (omega arith) (omega arith))) (λ name. omega (arith, count name, once name)) in
+    rising-sorted ls (λ k d low high. let e : suc k + 1 ≡ suc (k + 1) = omega arith in
+    subst (λ j. is_lt (label_cmp (get_or (l ∷ ls) j d) (get_or ls k d)) ≡ false) e (sorted (suc k) d (omega arith) (omega arith)))
+    (λ name. omega (arith, count name, once name)) in
     ap (λ b. b && has_rising_names ls) later ∙ rest
 
 no_fault_set : (ls : List Label) → set_fault ls ≡ None → (length ls ≤ MAX_LABELS) × (has_text_twice (names_of ls) ≡ false)
@@ -127,20 +144,28 @@ labels-fine (p ∷ ps) none =
     let parts = none_of_both (pair_fault p) (first_fault pair_fault ps) none in
     by (has_value p) refl parts.0 (labels-fine ps parts.1)
   where
-    by : (b : Bool) → has_value p ≡ b → pair_fault p ≡ None → list_all is_label (with_values ps) ≡ true → list_all is_label (cond b (p ∷ with_values ps) (with_values ps)) ≡ true
+    by : (b : Bool) → has_value p ≡ b → pair_fault p ≡ None → list_all is_label (with_values ps) ≡ true
+        → list_all is_label (cond b (p ∷ with_values ps) (with_values ps)) ≡ true
     by true e fine rest = ap (λ (t : Bool). t && list_all is_label (with_values ps)) (ap (λ f. is_none f && has_value p) fine ∙ e) ∙ rest
     by false e fine rest = rest
 
 -- the sorted labels of pairs without a fault are their label set
-pub IsReadOf-sorted : (ps ls : List Label) → first_fault pair_fault ps ≡ None → set_fault (with_values ps) ≡ None → IsPermutation (with_values ps) ls → IsSorted label_cmp ls → IsReadOf ps ls
+pub IsReadOf-sorted : (ps ls : List Label) → first_fault pair_fault ps ≡ None → set_fault (with_values ps) ≡ None
+    → IsPermutation (with_values ps) ls → IsSorted label_cmp ls → IsReadOf ps ls
 IsReadOf-sorted ps ls fine sound moved sorted =
     let set = no_fault_set (with_values ps) sound in
     let once : (name : List ℕ) → count_named name ls ≤ 1 =
-    λ name. omega (arith, sum_by-IsPermutation (λ l. cond (bytes_eq l.name name) 1 0) (with_values ps) ls moved, count_named-once (with_values ps) set.1 name) in
+    λ name. omega (
+      arith,
+      sum_by-IsPermutation (λ l. cond (bytes_eq l.name name) 1 0) (with_values ps) ls moved,
+      count_named-once (with_values ps) set.1 name,
+    ) in
     record {
       label_set = record {
         rising = rising-sorted ls sorted once;
-        labelled = list_all-from_AllPass is_label ls (All-permutation (λ l. is_label l ≡ true) (with_values ps) ls moved (AllPass-from_list_all is_label (with_values ps) (labels-fine ps fine)));
+        labelled = list_all-from_AllPass is_label ls
+            (All-permutation (λ l. is_label l ≡ true) (with_values ps) ls moved
+            (AllPass-from_list_all is_label (with_values ps) (labels-fine ps fine)));
         few = omega (arith, length_permutation (with_values ps) ls moved, set.0);
       };
       pairs_moved = moved;

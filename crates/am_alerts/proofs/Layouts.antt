@@ -1,6 +1,8 @@
 -- Forests and the lists in which they lie.
-use Rattle.std.proofs.Common.{◌≡◌, ℕ, ◌+◌, ◌-◌, ◌<◌, ◌≤◌, zero, suc, List, [], ◌∷◌, ◌++◌, length, map, get_or, take, drop, None, sym, refl, ap, ◌∙◌, subst, arith}
-use Rattle.std.proofs.lemmas.List.{map-append, length-append, length-take-le, length-drop, take_at, drop_at, take-take, drop-take, drop-drop, drop_more, take_all}
+use Rattle.std.proofs.Common.{◌≡◌, ℕ, ◌+◌, ◌-◌, ◌<◌, ◌≤◌, zero, suc, List, [], ◌∷◌, ◌++◌, length, map, get_or, take, drop, None, sym, refl}
+use Rattle.std.proofs.Common.{ap, ◌∙◌, subst, arith}
+use Rattle.std.proofs.lemmas.List.{map-append, length-append, length-take-le, length-drop, take_at, drop_at, take-take, drop-take}
+use Rattle.std.proofs.lemmas.List.{drop-drop, drop_more, take_all}
 use Rattle.am_alerts.specs.Forest.{Forest, bare, grow, count, listed, level}
 use Rattle.am_alerts.specs.Layout.{laid, planted, planted_of_laid, first_trees-none, other_trees, other_trees-none}
 use Rattle.am_alerts.specs.Planted.{IsLaid, IsPlanted, below_in, paired, part, place_of, tree_from}
@@ -43,7 +45,8 @@ children_paired [] ps = refl
 children_paired (c ∷ cs) [] = ap (λ r. c ∷ r) (children_paired cs [])
 children_paired (c ∷ cs) (p ∷ ps) = ap (λ r. c ∷ r) (children_paired cs ps)
 
-pub get_or_paired : (cs : List Child) (ps : List Place) (k : ℕ) (d : Child) (e : TreeRoute × ℕ) → k < length cs → get_or (paired cs ps) k e ≡ (plain (get_or cs k d), below_in ps k)
+pub get_or_paired : (cs : List Child) (ps : List Place) (k : ℕ) (d : Child) (e : TreeRoute × ℕ) → k < length cs
+    → get_or (paired cs ps) k e ≡ (plain (get_or cs k d), below_in ps k)
 get_or_paired [] ps k d e within = absurd (omega arith)
 get_or_paired (c ∷ cs) [] zero d e within = refl
 get_or_paired (c ∷ cs) [] (suc k) d e within = get_or_paired cs [] k d e (omega arith)
@@ -93,8 +96,10 @@ Splits t rest f =
 
 splits-grow : (x : TreeRoute) (below after : Forest TreeRoute) → Splits (x, count below) (laid below ++ laid after) (grow x below after)
 splits-grow x below after =
-    let taken : take (count below) (laid below ++ laid after) ≡ laid below = take_at (laid below) (laid after) (count below) (length_laid below) in
-    let left : drop (count below) (laid below ++ laid after) ≡ laid after = drop_at (laid below) (laid after) (count below) (length_laid below) in (
+    let taken : take (count below) (laid below ++ laid after) ≡ laid below =
+    take_at (laid below) (laid after) (count below) (length_laid below) in
+    let left : drop (count below) (laid below ++ laid after) ≡ laid after =
+    drop_at (laid below) (laid after) (count below) (length_laid below) in (
       omega (arith, length-append (laid below) (laid after), length_laid below),
       subst (λ ts. IsLaid ts) (sym taken) (ap laid (planted_of_laid below)),
       subst (λ ts. IsLaid ts) (sym left) (ap laid (planted_of_laid after)),
@@ -112,7 +117,8 @@ splits (grow x below after) t rest e =
 
 -- ---- parts of a list
 
-part-cons : (ts : List (TreeRoute × ℕ)) (at to : ℕ) (d : TreeRoute × ℕ) → at < to → to ≤ length ts → part at to ts ≡ get_or ts at d ∷ part (at + 1) to ts
+part-cons : (ts : List (TreeRoute × ℕ)) (at to : ℕ) (d : TreeRoute × ℕ) → at < to → to ≤ length ts
+    → part at to ts ≡ get_or ts at d ∷ part (at + 1) to ts
 part-cons ts at to d before within =
     let size : to - at ≡ suc (to - (at + 1)) = omega arith in
     ap (λ us. take (to - at) us) (drop_more ts at d (omega arith)) ∙ ap (λ n. take n (get_or ts at d ∷ drop (at + 1) ts)) size
@@ -146,7 +152,8 @@ pub record IsOpened (ts : List (TreeRoute × ℕ)) (at to end : ℕ) (x : TreeRo
   pub whole : planted (part at to ts) ≡ grow x (planted (part (at + 1) end ts)) (planted (part end to ts))
   pub size : at + 1 + count (planted (part (at + 1) end ts)) ≡ end
 
-pub opened : (ts : List (TreeRoute × ℕ)) (at to : ℕ) (d : TreeRoute × ℕ) → at < to → to ≤ length ts → IsLaid (part at to ts) → IsOpened ts at to (at + 1 + (get_or ts at d).1) (get_or ts at d).0
+pub opened : (ts : List (TreeRoute × ℕ)) (at to : ℕ) (d : TreeRoute × ℕ) → at < to → to ≤ length ts → IsLaid (part at to ts)
+    → IsOpened ts at to (at + 1 + (get_or ts at d).1) (get_or ts at d).0
 opened ts at to d before within is_laid =
     let t = get_or ts at d in
     let rest = part (at + 1) to ts in
@@ -160,8 +167,14 @@ opened ts at to d before within is_laid =
       ends = room;
       below = below;
       after = subst (λ us. IsLaid us) left parts.2;
-      whole = parts.3 ∙ ap (λ us. grow t.0 (planted us) (planted (drop t.1 rest))) taken ∙ ap (λ us. grow t.0 (planted (part (at + 1) (at + 1 + t.1) ts)) (planted us)) left;
-      size = omega (arith, sym (length_laid (planted (part (at + 1) (at + 1 + t.1) ts))) ∙ ap length below, length_part ts (at + 1) (at + 1 + t.1) (omega arith) (omega arith));
+      whole = parts.3 ∙ ap (λ us. grow t.0 (planted us) (planted (drop t.1 rest))) taken
+          ∙ ap (λ us. grow t.0 (planted (part (at + 1) (at + 1 + t.1) ts)) (planted us)) left;
+      size = omega (
+        arith,
+        sym (length_laid (planted (part (at + 1) (at + 1 + t.1) ts)))
+            ∙ ap length below,
+        length_part ts (at + 1) (at + 1 + t.1) (omega arith) (omega arith),
+      );
     }
 
 -- ---- how many stand below a route of a layout: no more than there are
@@ -193,7 +206,8 @@ places_paired (c ∷ cs) (p ∷ ps) (suc k) within = places_paired cs ps k (omeg
 
 -- ---- a routing tree and what it is kept as
 
-module _ (root : Route) (cs : List Child) (ps : List Place) (tree : RoutingTree) (view : tree_from root (paired cs ps) ≡ tree) (kept : IsPlanted root (paired cs ps)) where
+module _ (root : Route) (cs : List Child) (ps : List Place) (tree : RoutingTree) (view : tree_from root (paired cs ps) ≡ tree)
+    (kept : IsPlanted root (paired cs ps)) where
   pub kept_children : cs ≡ children_of tree
   kept_children = sym (children_planted root cs ps kept.0) ∙ ap children_of view
 

@@ -5,10 +5,12 @@ pub mod Faults
 pub mod Finding
 pub mod Forests
 pub mod Kept
+pub mod Joins
 pub mod LabelSets
 pub mod Layouts
 pub mod MetPatterns
 pub mod Names
+pub mod Packing
 pub mod Pairs
 pub mod PatternLaws
 pub mod Patterns

@@ -1,9 +1,11 @@
 -- The patterns of the first of some matchers, from one matcher to the next.
-use Rattle.std.proofs.Common.{◌≡◌, ◌<◌, ◌≤◌, ◌+◌, ◌==◌, ℕ, Bool, true, false, List, [], ◌∷◌, ◌++◌, Option, Some, None, IfSome, is_some, Bor, length, take, drop, get_or, set, refl, sym, ap, ◌∙◌, arith}
+use Rattle.std.proofs.Common.{◌≡◌, ◌<◌, ◌≤◌, ◌+◌, ◌==◌, ℕ, Bool, true, false, List, [], ◌∷◌, ◌++◌, Option, Some, None, IfSome, is_some, Bor}
+use Rattle.std.proofs.Common.{length, take, drop, get_or, set, refl, sym, ap, ◌∙◌, arith}
 use Rattle.std.specs.Option.{option_copied}
 use Rattle.std.proofs.lemmas.Bool.Decides.{nat_tests}
 use Rattle.std.proofs.lemmas.Grind.{common_steps}
-use Rattle.std.proofs.lemmas.List.{append_assoc, take-append-drop, drop_more, get_or-take, get_or_at, take_at, take_more, length-append, append-nil, get_or_push, get_or_read, set-get_or}
+use Rattle.std.proofs.lemmas.List.{append_assoc, take-append-drop, drop_more, get_or-take, get_or_at, take_at, take_more, length-append}
+use Rattle.std.proofs.lemmas.List.{append-nil, get_or_push, get_or_read, set-get_or}
 use Rattle.std.proofs.lemmas.List.Elements.{filter_map-append}
 use Rattle.std.specs.List.{cons_option}
 use Rattle.am_alerts.specs.Matcher.{is_passed, match_all, matches_parts, passes, pattern_in, pattern_of}
@@ -141,7 +143,8 @@ met_value m value p x place old new is required h put read =
 pub met_put : (m : MatcherParts) (p x y : List ℕ) (place : ℕ) (old new : List (List ℕ)) → pattern_of m ≡ Some p →
     new ≡ with_pattern p place old → x ≡ get_or new place x → y ≡ x → set new place y ≡ with_pattern_of (pattern_of m) place old
 met_put m p x y place old new is put read same =
-    ap (λ z. set new place z) (same ∙ read) ∙ set-get_or new place x ∙ put ∙ ap (λ (o : Option (List ℕ)). with_pattern_of o place old) (sym is)
+    ap (λ z. set new place z) (same ∙ read) ∙ set-get_or new place x ∙ put
+    ∙ ap (λ (o : Option (List ℕ)). with_pattern_of o place old) (sym is)
 
 place_of : (ms : List MatcherParts) (i : ℕ) (d : MatcherParts) (count : ℕ) (ps : List (List ℕ)) → i < length ms → AreMet ms i count ps →
     (o : Option (List ℕ)) → pattern_of (get_or ms i d) ≡ o → IfSome o (IsAt count ps)
@@ -165,11 +168,13 @@ pub met_step : (ms : List MatcherParts) (i : ℕ) (m : MatcherParts) (count next
 met_step ms i m count next ps new h read met put counted =
     rw (put, counted) (step_of ms i m count ps h met (pattern_of m) (ap pattern_of (sym read)))
 
-pub past-some : (o : Option (Bor (List ℕ))) (q : Option (List ℕ)) (count : ℕ) → option_copied o ≡ q → is_some o ≡ true → past q count ≡ count + 1
+pub past-some : (o : Option (Bor (List ℕ))) (q : Option (List ℕ)) (count : ℕ) → option_copied o ≡ q → is_some o ≡ true
+    → past q count ≡ count + 1
 past-some None q count is e = cc
 past-some (Some x) q count is e = rw (← is) refl
 
-pub past-none : (o : Option (Bor (List ℕ))) (q : Option (List ℕ)) (count : ℕ) → option_copied o ≡ q → is_some o ≡ false → past q count ≡ count
+pub past-none : (o : Option (Bor (List ℕ))) (q : Option (List ℕ)) (count : ℕ) → option_copied o ≡ q → is_some o ≡ false
+    → past q count ≡ count
 past-none None q count is e = rw (← is) refl
 past-none (Some x) q count is e = cc
 

@@ -21,8 +21,12 @@ HasMatch re text = (i : ℕ) × (j : ℕ) × IsCharBoundary text i × Matches te
 of_found : (re : Re) (text : List ℕ) (m : Match) → find_str re text 0 ≡ Some m → HasMatch re text
 unfolding find_str
 of_found re text m e =
-    let first = IsFirst-of_first_between _ 0 (length text) m e in
-    (m.start, m.trace.end, IsCharBoundary-of_test text m.start first.to (cond_some (is_boundary text m.start) _ m.trace first.here).0, (find_str_sound re text 0 m e).1)
+    let first = IsFirst-of_first_between _ 0 (length text) m e in (
+      m.start,
+      m.trace.end,
+      IsCharBoundary-of_test text m.start first.to (cond_some (is_boundary text m.start) _ m.trace first.here).0,
+      (find_str_sound re text 0 m e).1,
+    )
 
 both : (o : Option (Nested Re × Names)) (text : List ℕ) → (finds o text ≡ true) ↔ MatchesSome o text
 both None text = (λ e. cc, λ m. absurd m)

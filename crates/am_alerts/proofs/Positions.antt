@@ -1,5 +1,6 @@
 -- The positions of a label set's routes: they ascend, and each is of a route.
-use Rattle.std.proofs.Common.{◌≡◌, ℕ, ◌+◌, ◌<◌, ◌≤◌, zero, suc, Bool, true, false, cond, List, [], ◌∷◌, ◌++◌, length, slice_index, All, subst, arith}
+use Rattle.std.proofs.Common.{◌≡◌, ℕ, ◌+◌, ◌<◌, ◌≤◌, zero, suc, Bool, true, false, cond, List, [], ◌∷◌, ◌++◌, length, slice_index, All}
+use Rattle.std.proofs.Common.{subst, arith}
 use Rattle.std.specs.List.Sorted.{IsStrictlyIncreasing}
 use Rattle.std.proofs.lemmas.List.Elements.{All-nil, All-cons}
 use Rattle.am_alerts.specs.declared.labels.Label.{Label}
@@ -31,14 +32,26 @@ matching-ascend p (grow r below after) labels =
     let mid = p + 1 + count below in
     let high = p + (count below + 1 + count after) in
     let e : mid + count after ≡ high = omega arith in
-    let later : Ascend mid high (matching mid after labels) = subst (λ h. Ascend mid h (matching mid after labels)) e (matching-ascend mid after labels) in
-    let reached : Ascend p mid (or_self p (matching (p + 1) below labels)) = ascend-self p mid (matching (p + 1) below labels) (matching-ascend (p + 1) below labels) in
+    let later : Ascend mid high (matching mid after labels) =
+    subst (λ h. Ascend mid h (matching mid after labels)) e (matching-ascend mid after labels) in
+    let reached : Ascend p mid (or_self p (matching (p + 1) below labels)) =
+    ascend-self p mid (matching (p + 1) below labels) (matching-ascend (p + 1) below labels) in
     by (match_all r.child.matchers labels) r.child.goes_on later reached
   where
-    by : (m on : Bool) → Ascend (p + 1 + count below) (p + (count below + 1 + count after)) (matching (p + 1 + count below) after labels) → Ascend p (p + 1 + count below) (or_self p (matching (p + 1) below labels)) → Ascend p (p + (count below + 1 + count after)) (cond m (or_self p (matching (p + 1) below labels) ++ cond on (matching (p + 1 + count below) after labels) []) (matching (p + 1 + count below) after labels))
-    by true true later reached = ascend-append p (p + 1 + count below) (p + (count below + 1 + count after)) (or_self p (matching (p + 1) below labels)) (matching (p + 1 + count below) after labels) reached later
-    by true false later reached = ascend-append p (p + 1 + count below) (p + (count below + 1 + count after)) (or_self p (matching (p + 1) below labels)) [] reached (omega arith)
-    by false on later reached = ascend-lower (p + 1 + count below) p (p + (count below + 1 + count after)) (matching (p + 1 + count below) after labels) (omega arith) later
+    by : (m on : Bool) → Ascend (p + 1 + count below) (p + (count below + 1 + count after)) (matching (p + 1 + count below) after labels)
+        → Ascend p (p + 1 + count below) (or_self p (matching (p + 1) below labels))
+        → Ascend p (p + (count below + 1 + count after))
+        (cond m (or_self p (matching (p + 1) below labels) ++ cond on (matching (p + 1 + count below) after labels) [])
+        (matching (p + 1 + count below) after labels))
+    by true true later reached =
+        ascend-append p (p + 1 + count below) (p + (count below + 1 + count after)) (or_self p (matching (p + 1) below labels))
+        (matching (p + 1 + count below) after labels) reached later
+    by true false later reached =
+        ascend-append p (p + 1 + count below) (p + (count below + 1 + count after)) (or_self p (matching (p + 1) below labels)) [] reached
+        (omega arith)
+    by false on later reached =
+        ascend-lower (p + 1 + count below) p (p + (count below + 1 + count after)) (matching (p + 1 + count below) after labels)
+        (omega arith) later
 
 routes_of-ascend : (tree : RoutingTree) (labels : List Label) → Ascend 0 (1 + last_of tree) (routes_of tree labels)
 routes_of-ascend tree labels = ascend-self 0 (1 + last_of tree) (matching 1 tree.below labels) (matching-ascend 1 tree.below labels)
@@ -57,7 +70,8 @@ rises-ascend low high (x ∷ y ∷ ys) a = rises-cons x y ys a.1.0 (rises-ascend
 
 below-ascend : (low high : ℕ) (xs : List ℕ) → Ascend low (1 + high) xs → All (λ p. p ≤ high) xs
 below-ascend low high [] a = All-nil (λ p. p ≤ high)
-below-ascend low high (x ∷ xs) a = All-cons (λ p. p ≤ high) x xs (omega (arith, last (x + 1) (1 + high) xs a.1)) (below-ascend (x + 1) high xs a.1)
+below-ascend low high (x ∷ xs) a =
+    All-cons (λ p. p ≤ high) x xs (omega (arith, last (x + 1) (1 + high) xs a.1)) (below-ascend (x + 1) high xs a.1)
   where
     last : (low high : ℕ) (xs : List ℕ) → Ascend low high xs → low ≤ high
     last low high [] a = a

@@ -1,5 +1,6 @@
 -- A search among the routes of a tree, step by step.
-use Rattle.std.proofs.Common.{◌≡◌, ℕ, ◌+◌, ◌<◌, ◌≤◌, true, false, cond, List, [], ◌∷◌, ◌++◌, length, get_or, sym, refl, ap, ◌∙◌, subst, arith}
+use Rattle.std.proofs.Common.{◌≡◌, ℕ, ◌+◌, ◌<◌, ◌≤◌, true, false, cond, List, [], ◌∷◌, ◌++◌, length, get_or, sym, refl, ap, ◌∙◌, subst}
+use Rattle.std.proofs.Common.{arith}
 use Rattle.std.proofs.lemmas.List.{append_assoc, append-nil, get_or_default}
 use Rattle.am_alerts.specs.Forest.{count}
 use Rattle.am_alerts.specs.Layout.{planted}
@@ -11,7 +12,8 @@ use Rattle.am_alerts.specs.declared.planting.Place.{Place}
 use Rattle.am_alerts.specs.declared.route.Child.{Child}
 use Rattle.am_alerts.proofs.Layouts.{IsOpened, opened, get_or_paired, length_paired, part-none}
 
-module _ (cs : List Child) (ps : List Place) (at to end : ℕ) (x : Child) (before : at < to) (within : to ≤ length cs) (here : x ≡ get_or cs at x) (end-is : end ≡ at + 1 + below_in ps at) (is_laid : IsLaid (part at to (paired cs ps))) where
+module _ (cs : List Child) (ps : List Place) (at to end : ℕ) (x : Child) (before : at < to) (within : to ≤ length cs)
+    (here : x ≡ get_or cs at x) (end-is : end ≡ at + 1 + below_in ps at) (is_laid : IsLaid (part at to (paired cs ps))) where
   abbrev ts : List (TreeRoute × ℕ)
   ts = paired cs ps
 
@@ -19,7 +21,8 @@ module _ (cs : List Child) (ps : List Place) (at to end : ℕ) (x : Child) (befo
   pub opened_here : IsOpened (paired cs ps) at to end (plain x)
   opened_here =
       let d : TreeRoute × ℕ = (plain x, 0) in
-      let t : get_or (paired cs ps) at d ≡ (plain x, below_in ps at) = get_or_paired cs ps at x d (omega arith) ∙ ap (λ y. (plain y, below_in ps at)) (sym here) in
+      let t : get_or (paired cs ps) at d ≡ (plain x, below_in ps at) =
+      get_or_paired cs ps at x d (omega arith) ∙ ap (λ y. (plain y, below_in ps at)) (sym here) in
       subst (λ e. IsOpened (paired cs ps) at to e (plain x)) (sym end-is)
       (subst (λ u. IsOpened (paired cs ps) at to (at + 1 + u.1) u.0) t
       (opened (paired cs ps) at to d before (omega (arith, length_paired cs ps)) is_laid))
@@ -31,7 +34,8 @@ module _ (cs : List Child) (ps : List Place) (at to end : ℕ) (x : Child) (befo
     abbrev reached : List ℕ
     reached = or_self (at + 1) (matching (at + 2) (planted (part (at + 1) end (paired cs ps))) labels)
 
-    matching-step : matching (at + 1) (planted (part at to (paired cs ps))) labels ≡ cond (match_all x.matchers labels) (reached ++ cond x.goes_on later []) later
+    matching-step : matching (at + 1) (planted (part at to (paired cs ps))) labels
+        ≡ cond (match_all x.matchers labels) (reached ++ cond x.goes_on later []) later
     matching-step =
         let o = opened_here in
         let below = planted (part (at + 1) end (paired cs ps)) in
@@ -39,15 +43,19 @@ module _ (cs : List Child) (ps : List Place) (at to end : ℕ) (x : Child) (befo
         let two : at + 1 + 1 ≡ at + 2 = omega arith in
         let next : at + 1 + 1 + count below ≡ end + 1 = omega (arith, o.size) in
         ap (λ f. matching (at + 1) f labels) o.whole
-        ∙ ap (λ n. cond (match_all x.matchers labels) (or_self (at + 1) (matching n below labels) ++ cond x.goes_on (matching (at + 1 + 1 + count below) after labels) []) (matching (at + 1 + 1 + count below) after labels)) two
-        ∙ ap (λ n. cond (match_all x.matchers labels) (reached ++ cond x.goes_on (matching n after labels) []) (matching n after labels)) next
+        ∙ ap (λ n. cond (match_all x.matchers labels)
+        (or_self (at + 1) (matching n below labels) ++ cond x.goes_on (matching (at + 1 + 1 + count below) after labels) [])
+        (matching (at + 1 + 1 + count below) after labels)) two
+        ∙ ap (λ n. cond (match_all x.matchers labels) (reached ++ cond x.goes_on (matching n after labels) []) (matching n after labels))
+        next
 
     module _ (found whole : List ℕ) (so_far : found ++ matching (at + 1) (planted (part at to (paired cs ps))) labels ≡ whole) where
       -- the route matches and ends the search
       pub matching-ends : match_all x.matchers labels ≡ true → x.goes_on ≡ false → found ++ reached ≡ whole
       matching-ends matches ends =
           sym (sym so_far ∙ ap (λ r. found ++ r) (matching-step
-          ∙ ap (λ b. cond b (reached ++ cond x.goes_on later []) later) matches ∙ ap (λ b. reached ++ cond b later []) ends ∙ append-nil reached))
+          ∙ ap (λ b. cond b (reached ++ cond x.goes_on later []) later) matches ∙ ap (λ b. reached ++ cond b later []) ends
+          ∙ append-nil reached))
 
       -- it matches, and the search goes on
       pub matching-goes_on : match_all x.matchers labels ≡ true → x.goes_on ≡ true → (found ++ reached) ++ later ≡ whole
@@ -61,7 +69,8 @@ module _ (cs : List Child) (ps : List Place) (at to end : ℕ) (x : Child) (befo
           sym (sym so_far ∙ ap (λ r. found ++ r) (matching-step ∙ ap (λ b. cond b (reached ++ cond x.goes_on later []) later) fails))
 
 -- those below a route stand in the part
-pub ends_within : (cs : List Child) (ps : List Place) (at to : ℕ) → at < to → to ≤ length cs → IsLaid (part at to (paired cs ps)) → at + 1 + below_in ps at ≤ to
+pub ends_within : (cs : List Child) (ps : List Place) (at to : ℕ) → at < to → to ≤ length cs → IsLaid (part at to (paired cs ps))
+    → at + 1 + below_in ps at ≤ to
 ends_within [] ps at to before within is_laid = absurd (omega arith)
 ends_within (c ∷ cs) ps at to before within is_laid =
     let x = get_or (c ∷ cs) at c in
@@ -69,7 +78,8 @@ ends_within (c ∷ cs) ps at to before within is_laid =
     (opened_here (c ∷ cs) ps at to (at + 1 + below_in ps at) x before within here refl is_laid).ends
 
 -- no route is left
-pub matching-all : (cs : List Child) (ps : List Place) (at to : ℕ) (labels : List Label) (found whole : List ℕ) → to ≤ at → found ++ matching (at + 1) (planted (part at to (paired cs ps))) labels ≡ whole → found ≡ whole
+pub matching-all : (cs : List Child) (ps : List Place) (at to : ℕ) (labels : List Label) (found whole : List ℕ) → to ≤ at
+    → found ++ matching (at + 1) (planted (part at to (paired cs ps))) labels ≡ whole → found ≡ whole
 matching-all cs ps at to labels found whole past so_far =
     sym (append-nil found) ∙ sym (ap (λ ts. found ++ matching (at + 1) (planted ts) labels) (part-none (paired cs ps) at to past)) ∙ so_far
 

@@ -1,5 +1,6 @@
 -- Laws of routing trees.
-use Rattle.std.proofs.Common.{◌≡◌, ℕ, ◌+◌, ◌-◌, ◌<◌, ◌≤◌, zero, suc, inl, inr, Bool, true, false, cond, not, ◌&&◌, ◌||◌, List, [], ◌∷◌, ◌++◌, Option, map, refl, sym, ap, ◌∙◌, arith}
+use Rattle.std.proofs.Common.{◌≡◌, ℕ, ◌+◌, ◌-◌, ◌<◌, ◌≤◌, zero, suc, inl, inr, Bool, true, false, cond, not, ◌&&◌, ◌||◌, List, [], ◌∷◌}
+use Rattle.std.proofs.Common.{◌++◌, Option, map, refl, sym, ap, ◌∙◌, arith}
 use Rattle.std.specs.Prelude.{nat_eq, nat_le, unwrap_or}
 use Rattle.std.specs.List.{list_any}
 use Rattle.std.proofs.lemmas.Bool.{cases_lt, eq-eqb, le-leb, lt-leb, ne_eqb}
@@ -8,7 +9,8 @@ use Rattle.std.proofs.lemmas.List.Folds.{list_any-append}
 use Rattle.am_alerts.specs.Forest.{Forest, bare, grow, count, level, listed}
 use Rattle.am_alerts.specs.Matcher.{match_all}
 use Rattle.am_alerts.specs.Nested.{nested_of, settled, settled_below, settled_route}
-use Rattle.am_alerts.specs.RoutingTree.{RoutingTree, TreeRoute, children_of, last_of, matching, matching_from, or_root, or_self, plain, routes_of, tree_of}
+use Rattle.am_alerts.specs.RoutingTree.{RoutingTree, TreeRoute, children_of, last_of, matching, matching_from, or_self, plain, routes_of}
+use Rattle.am_alerts.specs.RoutingTree.{tree_of}
 use Rattle.am_alerts.specs.TreeLaws.{IsNearest, any_match, is_reached, nearest, reaches}
 use Rattle.am_alerts.specs.declared.labels.Label.{Label}
 use Rattle.am_alerts.specs.declared.route.Child.{Child}
@@ -25,12 +27,9 @@ matching_level p (c ∷ cs) labels =
     ap (λ later. cond (match_all c.matchers labels) (p ∷ cond c.goes_on later []) later)
     (ap (λ n. matching n (level (map plain cs)) labels) e ∙ matching_level (p + 1) cs labels)
 
-or_self-root : (ps : List ℕ) → or_self 0 ps ≡ or_root ps
-or_self-root [] = refl
-or_self-root (p ∷ ps) = refl
-
-pub tried_in_order : (root : Route) (cs : List Child) (labels : List Label) → routes_of (tree_of root cs) labels ≡ or_root (matching_from 1 cs labels)
-tried_in_order root cs labels = ap (or_self 0) (matching_level 1 cs labels) ∙ or_self-root (matching_from 1 cs labels)
+pub tried_in_order : (root : Route) (cs : List Child) (labels : List Label) →
+    routes_of (tree_of root cs) labels ≡ or_self 0 (matching_from 1 cs labels)
+tried_in_order root cs labels = ap (or_self 0) (matching_level 1 cs labels)
 
 -- ---- options
 
@@ -38,8 +37,10 @@ children_map : {A : Type 0} (g : Child → A) (rs : List TreeRoute) → map g (m
 children_map g [] = refl
 children_map g (r ∷ rs) = ap (λ xs. g r.child ∷ xs) (children_map g rs)
 
-module _ {A : Type 0} (option : Route → A) (said : RouteSpec → Option A) (own : (above : Route) (r : RouteSpec) → option (settled above r) ≡ unwrap_or (said r) (option above)) where
-  nearest-below : (above : Route) (f : Forest RouteSpec) → map (λ r. option r.child.route) (listed (settled_below above f)) ≡ nearest said (option above) f
+module _ {A : Type 0} (option : Route → A) (said : RouteSpec → Option A)
+    (own : (above : Route) (r : RouteSpec) → option (settled above r) ≡ unwrap_or (said r) (option above)) where
+  nearest-below : (above : Route) (f : Forest RouteSpec)
+      → map (λ r. option r.child.route) (listed (settled_below above f)) ≡ nearest said (option above) f
   nearest-below above bare = refl
   nearest-below above (grow r below after) =
       let g = λ (t : TreeRoute). option t.child.route in
@@ -54,7 +55,8 @@ module _ {A : Type 0} (option : Route → A) (said : RouteSpec → Option A) (ow
   is_nearest root rules =
       children_map (λ (c : Child). option c.route) (listed (settled_below root rules)) ∙ nearest-below root rules
 
-module _ {A : Type 0} (of_child : Child → A) (of_rule : RouteSpec → A) (same : (above : Route) (r : RouteSpec) → of_child (settled_route above r).child ≡ of_rule r) where
+module _ {A : Type 0} (of_child : Child → A) (of_rule : RouteSpec → A)
+    (same : (above : Route) (r : RouteSpec) → of_child (settled_route above r).child ≡ of_rule r) where
   own-below : (above : Route) (f : Forest RouteSpec) → map (λ r. of_child r.child) (listed (settled_below above f)) ≡ map of_rule (listed f)
   own-below above bare = refl
   own-below above (grow r below after) =
@@ -105,9 +107,13 @@ none-self s (x ∷ xs) ys = refl
 
 any_match-is : (p : ℕ) (f : Forest TreeRoute) (labels : List Label) → any_match f labels ≡ not (is_none (matching p f labels))
 any_match-is p bare labels = refl
-any_match-is p (grow r below after) labels = by (match_all r.child.matchers labels) r.child.goes_on (any_match-is (p + 1 + count below) after labels)
+any_match-is p (grow r below after) labels =
+    by (match_all r.child.matchers labels) r.child.goes_on (any_match-is (p + 1 + count below) after labels)
   where
-    by : (m on : Bool) → any_match after labels ≡ not (is_none (matching (p + 1 + count below) after labels)) → (m || any_match after labels) ≡ not (is_none (cond m (or_self p (matching (p + 1) below labels) ++ cond on (matching (p + 1 + count below) after labels) []) (matching (p + 1 + count below) after labels)))
+    by : (m on : Bool) → any_match after labels ≡ not (is_none (matching (p + 1 + count below) after labels))
+        → (m || any_match after labels)
+        ≡ not (is_none (cond m (or_self p (matching (p + 1) below labels) ++ cond on (matching (p + 1 + count below) after labels) [])
+        (matching (p + 1 + count below) after labels)))
     by true on h = sym (ap not (none-self p (matching (p + 1) below labels) (cond on (matching (p + 1 + count below) after labels) [])))
     by false on h = h
 
@@ -158,7 +164,8 @@ module _ (r : TreeRoute) (below after : Forest TreeRoute) (labels : List Label) 
   at_self false on = no_later s (omega arith) true
 
   -- one below it
-  at_below : (m on : Bool) (q : ℕ) → s < q → q < s + 1 + count below → has q (cond m (or_self s inner ++ cond on later []) later) ≡ (m && has q inner)
+  at_below : (m on : Bool) (q : ℕ) → s < q → q < s + 1 + count below
+      → has q (cond m (or_self s inner ++ cond on later []) later) ≡ (m && has q inner)
   at_below true on q behind under =
       has-append q (or_self s inner) (cond on later [])
       ∙ ap (λ b. has q (or_self s inner) || b) (no_later q under on)
@@ -167,10 +174,12 @@ module _ (r : TreeRoute) (below after : Forest TreeRoute) (labels : List Label) 
   at_below false on q behind under = no_later q under true
 
   -- one after it
-  at_after : (m on : Bool) (q : ℕ) → s + 1 + count below ≤ q → has q (cond m (or_self s inner ++ cond on later []) later) ≡ (not (m && not on) && has q later)
+  at_after : (m on : Bool) (q : ℕ) → s + 1 + count below ≤ q
+      → has q (cond m (or_self s inner ++ cond on later []) later) ≡ (not (m && not on) && has q later)
   at_after true on q past =
       has-append q (or_self s inner) (cond on later [])
-      ∙ ap (λ b. b || has q (cond on later [])) (has-others s q inner (omega arith) ∙ has-above (s + 1) (s + 1 + count below) q inner past inner-ascend)
+      ∙ ap (λ b. b || has q (cond on later [])) (has-others s q inner (omega arith)
+      ∙ has-above (s + 1) (s + 1 + count below) q inner past inner-ascend)
       ∙ goes on
     where
       goes : (on : Bool) → has q (cond on later []) ≡ (not (not on) && has q later)
@@ -193,18 +202,25 @@ reaches-is s (suc k) (grow r below after) labels =
           at_below r below after labels s m on (s + suc k) (omega arith) (omega arith)
           ∙ ap (λ n. m && has n (matching (s + 1) below labels)) q
           ∙ ap (λ b. m && b) (reaches-is (s + 1) (suc k - 1) below labels)
-          ∙ sym (ap (λ b. cond b (m && reaches (suc k - 1) below labels) (not (m && not on) && reaches (suc k - 1 - count below) after labels)) (le-leb (suc k) (count below) within))
-          ∙ sym (ap (λ b. cond b (m && not (any_match below labels)) (cond (nat_le (suc k) (count below)) (m && reaches (suc k - 1) below labels) (not (m && not on) && reaches (suc k - 1 - count below) after labels))) (ne_eqb (suc k) 0 (λ e. omega arith)))
+          ∙ sym (ap (λ b. cond b (m && reaches (suc k - 1) below labels)
+          (not (m && not on) && reaches (suc k - 1 - count below) after labels)) (le-leb (suc k) (count below) within))
+          ∙ sym (ap (λ b. cond b (m && not (any_match below labels))
+          (cond (nat_le (suc k) (count below)) (m && reaches (suc k - 1) below labels)
+          (not (m && not on) && reaches (suc k - 1 - count below) after labels))) (ne_eqb (suc k) 0 (λ e. omega arith)))
       | inl past ↦
           let q : s + suc k ≡ s + 1 + count below + (suc k - 1 - count below) = omega arith in
           at_after r below after labels s m on (s + suc k) (omega arith)
           ∙ ap (λ n. not (m && not on) && has n (matching (s + 1 + count below) after labels)) q
           ∙ ap (λ b. not (m && not on) && b) (reaches-is (s + 1 + count below) (suc k - 1 - count below) after labels)
-          ∙ sym (ap (λ b. cond b (m && reaches (suc k - 1) below labels) (not (m && not on) && reaches (suc k - 1 - count below) after labels)) (lt-leb (suc k) (count below) past))
-          ∙ sym (ap (λ b. cond b (m && not (any_match below labels)) (cond (nat_le (suc k) (count below)) (m && reaches (suc k - 1) below labels) (not (m && not on) && reaches (suc k - 1 - count below) after labels))) (ne_eqb (suc k) 0 (λ e. omega arith)))
+          ∙ sym (ap (λ b. cond b (m && reaches (suc k - 1) below labels)
+          (not (m && not on) && reaches (suc k - 1 - count below) after labels)) (lt-leb (suc k) (count below) past))
+          ∙ sym (ap (λ b. cond b (m && not (any_match below labels))
+          (cond (nat_le (suc k) (count below)) (m && reaches (suc k - 1) below labels)
+          (not (m && not on) && reaches (suc k - 1 - count below) after labels))) (ne_eqb (suc k) 0 (λ e. omega arith)))
     ]
 
-pub reached_or_not : (tree : RoutingTree) (labels : List Label) (p : ℕ) → p ≤ last_of tree → list_any (λ q. nat_eq q p) (routes_of tree labels) ≡ is_reached tree labels p
+pub reached_or_not : (tree : RoutingTree) (labels : List Label) (p : ℕ) → p ≤ last_of tree
+    → list_any (λ q. nat_eq q p) (routes_of tree labels) ≡ is_reached tree labels p
 reached_or_not tree labels zero within =
     has-self 0 (1 + last_of tree) (matching 1 tree.below labels) (matching-ascend 1 tree.below labels)
     ∙ sym (not-not (is_none (matching 1 tree.below labels))) ∙ sym (ap not (any_match-is 1 tree.below labels))
@@ -212,4 +228,5 @@ reached_or_not tree labels (suc p) within =
     let e : suc p ≡ 1 + (suc p - 1) = omega arith in
     has-others 0 (suc p) (matching 1 tree.below labels) (omega arith)
     ∙ ap (λ q. has q (matching 1 tree.below labels)) e ∙ reaches-is 1 (suc p - 1) tree.below labels
-    ∙ sym (ap (λ b. cond b (not (any_match tree.below labels)) (reaches (suc p - 1) tree.below labels)) (ne_eqb (suc p) 0 (λ e. omega arith)))
+    ∙ sym (ap (λ b. cond b (not (any_match tree.below labels)) (reaches (suc p - 1) tree.below labels))
+    (ne_eqb (suc p) 0 (λ e. omega arith)))

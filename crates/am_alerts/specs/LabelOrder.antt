@@ -1,15 +1,15 @@
 -- The laws of the order of label sets, and what they feed a hasher.
-use Rattle.std.specs.Prelude.{◌≡◌, ℕ, fold, true, List, [], ◌∷◌, ◌++◌, ◌↔◌, Decides, Some, refl}
+use Rattle.std.specs.Prelude.{◌≡◌, ℕ, true, List, [], ◌∷◌, ◌++◌, ◌↔◌, Decides, Some, refl}
 use Rattle.std.specs.declared.cmp.Ordering.TheVariants.{Less, Equal}
 use Rattle.std.specs.Cmp.{IsTotalOrder, IsEquivalence, IsPartialOrder, Equal-is, po, both_tied}
 use Rattle.std.specs.Cmp.Lexicographic.{lists_total, lists_equiv, lists_ties, texts_ties, nat_list_cmp_total, nat_list_eq_equiv}
 use Rattle.std.specs.Cmp.Lexicographic.{pointwise_decides, bytes_decides}
 use Rattle.std.specs.Hash as fed
-use Rattle.std.specs.Hash.FoldHasher.{initial, write, finish}
 use Rattle.std.specs.Ordering.{eq_by_cmp, ordering_then}
 use Rattle.std.proofs.Common.{sym, ap, ◌∙◌, rules}
 use Rattle.std.proofs.lemmas.Cmp.{then_total, on_total, on_equiv, and_equiv, tied_itself}
 use Rattle.am_alerts.specs.declared.labels.Label.{Label}
+use Rattle.am_alerts.specs.Packing.{packed, run_hash}
 use Rattle.am_alerts.specs.Labels.{label_cmp, label_set_cmp, same_label, same_label_set, text_cmp}
 
 -- two label sets tie where they are the same list of labels, and only there
@@ -65,13 +65,9 @@ label_set_cmp-prefix [] l rest = refl
 label_set_cmp-prefix (m ∷ a) l rest =
     ap (λ o. ordering_then o (label_set_cmp a (a ++ l ∷ rest))) (tied_itself label_cmp_total m) ∙ label_set_cmp-prefix a l rest
 
--- what a list of labels feeds a hasher: how many there are, then each one's name and value
-abbrev pub labels_writes : List Label → fed.HashWrites
-labels_writes = fed.slice (λ (l : Label). fed.str l.name ++ fed.str l.value)
-
--- the hash of a label set
+-- the hash of a label set: that of its packed form
 abbrev pub label_set_hash : List Label → ℕ
-label_set_hash labels = finish (fold write initial (labels_writes labels))
+label_set_hash labels = run_hash (packed labels)
 
 -- what a label set feeds a hasher: its own hash
 abbrev pub label_set_writes : List Label → fed.HashWrites

@@ -51,7 +51,8 @@ module _ {X : Type 0} where
   first_trees-beside (grow x below after) g =
       let n = count below + 1 + count after in
       let left : n - (count below + 1) ≡ count after = omega arith in
-      ap (λ b. if b then bare else grow x below (first_trees (n - (count below + 1)) (beside after g))) (le-ltb n (count below + 1) (omega arith))
+      ap (λ b. if b then bare else grow x below (first_trees (n - (count below + 1)) (beside after g)))
+      (le-ltb n (count below + 1) (omega arith))
       ∙ ap (λ k. grow x below (first_trees k (beside after g))) left
       ∙ ap (λ f. grow x below f) (first_trees-beside after g)
 
@@ -60,7 +61,8 @@ module _ {X : Type 0} where
   other_trees-beside (grow x below after) g =
       let n = count below + 1 + count after in
       let left : n - (count below + 1) ≡ count after = omega arith in
-      ap (λ b. if b then grow x below (beside after g) else other_trees (n - (count below + 1)) (beside after g)) (le-ltb n (count below + 1) (omega arith))
+      ap (λ b. if b then grow x below (beside after g) else other_trees (n - (count below + 1)) (beside after g))
+      (le-ltb n (count below + 1) (omega arith))
       ∙ ap (λ k. other_trees k (beside after g)) left
       ∙ other_trees-beside after g
 
@@ -68,9 +70,11 @@ module _ {X : Type 0} where
   planted-beside bare ts = refl
   planted-beside (grow x below after) ts =
       let rest : planted ((laid below ++ laid after) ++ ts) ≡ beside below (beside after (planted ts)) =
-      ap planted (append_assoc (laid below) (laid after) ts) ∙ planted-beside below (laid after ++ ts) ∙ ap (beside below) (planted-beside after ts) in
+      ap planted (append_assoc (laid below) (laid after) ts) ∙ planted-beside below (laid after ++ ts)
+      ∙ ap (beside below) (planted-beside after ts) in
       ap (λ f. grow x (first_trees (count below) f) (other_trees (count below) f)) rest
-      ∙ ap (λ f. grow x f (other_trees (count below) (beside below (beside after (planted ts))))) (first_trees-beside below (beside after (planted ts)))
+      ∙ ap (λ f. grow x f (other_trees (count below) (beside below (beside after (planted ts)))))
+      (first_trees-beside below (beside after (planted ts)))
       ∙ ap (λ f. grow x below f) (other_trees-beside below (beside after (planted ts)))
 
   beside-bare : (f : Forest X) → beside f bare ≡ f

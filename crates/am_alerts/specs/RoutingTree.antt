@@ -1,5 +1,6 @@
 -- The routing tree.
-use Rattle.std.specs.Prelude.{ℕ, ◌+◌, ◌-◌, Bool, not, ◌&&◌, List, [], ◌∷◌, ◌++◌, length, map, slice_index_or, codes, nat_le, Option, Some, None}
+use Rattle.std.specs.Prelude.{ℕ, ◌+◌, ◌-◌, Bool, not, ◌&&◌, List, [], ◌∷◌, ◌++◌, length, map, slice_index_or, codes, nat_le, Option, Some}
+use Rattle.std.specs.Prelude.{None}
 use Rattle.std.specs.Prelude.{if◌then◌else◌}
 use Rattle.std.specs.List.{list_all}
 use Rattle.std.specs.Str.{bytes_eq}
@@ -79,11 +80,6 @@ matching_from position (c ∷ cs) labels =
     if match_all c.matchers labels
     then position ∷ (if c.goes_on then matching_from (position + 1) cs labels else [])
     else matching_from (position + 1) cs labels
-
--- the root alone, where no child matches
-abbrev pub or_root : List ℕ → List ℕ
-or_root [] = 0 ∷ []
-or_root (p ∷ ps) = p ∷ ps
 
 -- whether a child's name and its grouping names are label names
 abbrev pub has_good_child_names : Child → Bool

@@ -1,19 +1,21 @@
 -- Laws of routing trees.
-use Rattle.std.specs.Prelude.{◌≡◌, ℕ, ◌-◌, ◌≤◌, Bool, false, not, ◌&&◌, ◌||◌, List, [], ◌∷◌, ◌++◌, Option, map, nat_eq, nat_le, unwrap_or, if◌then◌else◌}
+use Rattle.std.specs.Prelude.{◌≡◌, ℕ, ◌-◌, ◌≤◌, Bool, false, not, ◌&&◌, ◌||◌, List, [], ◌∷◌, ◌++◌, Option, map, nat_eq, nat_le, unwrap_or}
+use Rattle.std.specs.Prelude.{if◌then◌else◌}
 use Rattle.std.specs.List.{list_any}
 use Rattle.am_alerts.specs.Forest.{Forest, bare, grow, count, listed}
 use Rattle.am_alerts.specs.Matcher.{match_all}
 use Rattle.am_alerts.specs.Nested.{nested_of}
-use Rattle.am_alerts.specs.RoutingTree.{RoutingTree, TreeRoute, children_of, last_of, matching_from, or_root, routes_of, tree_of}
+use Rattle.am_alerts.specs.RoutingTree.{RoutingTree, TreeRoute, children_of, last_of, matching_from, or_self, routes_of, tree_of}
 use Rattle.am_alerts.specs.declared.labels.Label.{Label}
 use Rattle.am_alerts.specs.declared.route.Child.{Child}
 use Rattle.am_alerts.specs.declared.route.Route.{Route}
 use Rattle.am_alerts.specs.declared.tree.RouteSpec.{RouteSpec}
 
--- law: of one level, children are tried in order
+-- law: of one level, children are tried in order; the root is alone where none matches
 abbrev pub OneLevelIsTriedInOrder : Type 0
 OneLevelIsTriedInOrder =
-    (root : Route) (children : List Child) (labels : List Label) → routes_of (tree_of root children) labels ≡ or_root (matching_from 1 children labels)
+    (root : Route) (children : List Child) (labels : List Label) →
+    routes_of (tree_of root children) labels ≡ or_self 0 (matching_from 1 children labels)
 
 -- an option of each route: what it says, or else what the nearest route above it says
 abbrev pub nearest : {A : Type 0} → (RouteSpec → Option A) → A → Forest RouteSpec → List A
@@ -25,7 +27,8 @@ nearest said above (grow r below after) =
 -- law: this option of each route of a tree is the nearest
 abbrev pub IsNearest : {A : Type 0} → (Route → A) → (RouteSpec → Option A) → Type 0
 IsNearest option said =
-    (root : Route) (rules : Forest RouteSpec) → map (λ c. option c.route) (children_of (nested_of root rules)) ≡ nearest said (option root) rules
+    (root : Route) (rules : Forest RouteSpec)
+    → map (λ c. option c.route) (children_of (nested_of root rules)) ≡ nearest said (option root) rules
 
 -- law: each option is the nearest
 abbrev pub OptionsAreTheNearest : Type 0

@@ -6,9 +6,8 @@ ghost use Rattle.std.specs.List.{list_any};
 ghost use Rattle.am_alerts.specs.Fault.{ok_unless, first_fault};
 ghost use Rattle.am_alerts.specs.Labels.{has_value, has_text_twice, names_of, with_values, label_in, labels_in, pair_fault, set_fault};
 
-use crate::labels::{Label, LabelFault, is_label_name};
+use crate::labels::{LabelFault, is_label_name};
 use crate::limits::{MAX_LABEL_BYTES, MAX_LABELS};
-use crate::text::Text;
 use std::alloc::{AllocError, Global};
 
 /// Refuses the first pair that is no label, by `BadName`, then by `TooLong`.
@@ -50,26 +49,20 @@ pub(crate) fn check_set(pairs: &[(&str, &str)]) -> Result<(), LabelFault>
     Ok(())
 }
 
-/// The pairs that have a value, as labels.
-pub(crate) fn with_values(alloc: Global, pairs: &[(&str, &str)]) -> Result<Vec<Label>, AllocError>
-    ensures { IfOk result (λ labels. labels.items ≡ with_values (labels_in pairs.now)) }
+/// The pairs that have a value.
+pub(crate) fn with_values<'a, 'b>(
+    alloc: Global,
+    pairs: &[(&'a str, &'b str)],
+) -> Result<Vec<(&'a str, &'b str)>, AllocError>
+    ensures { IfOk result (λ kept. labels_in kept.items ≡ with_values (labels_in pairs.now)) }
 {
-    let mut labels = Vec::new(alloc);
+    let mut kept = Vec::with_capacity(alloc, pairs.len())?;
     for pair in pairs {
         if has_value(pair) {
-            labels.push(label(alloc, pair)?)?;
+            kept.push(*pair)?;
         }
     }
-    Ok(labels)
-}
-
-fn label(alloc: Global, pair: &(&str, &str)) -> Result<Label, AllocError>
-    ensures { IfOk result (λ label. label ≡ label_in pair.now) }
-{
-    Ok(Label {
-        name: Text::new(alloc, pair.0)?,
-        value: Text::new(alloc, pair.1)?,
-    })
+    Ok(kept)
 }
 
 fn has_value(pair: &(&str, &str)) -> bool

@@ -1,14 +1,15 @@
 //! The text of a label set. `Labels::push_text` calls it.
 ghost use Rattle.std.specs.Prelude.{◌≡◌, ◌++◌, OnOk, OnErr, codes, string_bytes};
-ghost use Rattle.std.specs.List.{flat_map, join_by};
+ghost use Rattle.std.specs.List.{join_by};
 ghost use Rattle.std.specs.Char.{encode_utf8};
+ghost use Rattle.am_alerts.specs.Labels.{label_in};
 ghost use Rattle.am_alerts.specs.LabelText.{escaped, label_text, label_set_text, BeginsWith};
 
-use crate::labels::Label;
+use crate::labels::Labels;
 use std::alloc::AllocError;
 
 /// Appends the text of a label set, or a part of it where memory is refused.
-pub(crate) fn push_label_set(out: &mut String, labels: &[Label]) -> Result<(), AllocError>
+pub(crate) fn push_label_set(out: &mut String, labels: &Labels) -> Result<(), AllocError>
     ensures text { OnOk result
         (string_bytes out.new ≡ string_bytes out.old ++ label_set_text labels.now) }
     ensures begins { BeginsWith (string_bytes out.new) (string_bytes out.old) }
@@ -18,39 +19,28 @@ pub(crate) fn push_label_set(out: &mut String, labels: &[Label]) -> Result<(), A
     out.push_str("}")
 }
 
-fn push_labels(out: &mut String, labels: &[Label]) -> Result<(), AllocError>
+fn push_labels(out: &mut String, labels: &Labels) -> Result<(), AllocError>
     ensures text { OnOk result (string_bytes out.new
         ≡ string_bytes out.old ++ join_by label_text (codes ",") labels.now) }
     ensures begins { BeginsWith (string_bytes out.new) (string_bytes out.old) }
 {
-    match labels {
-        [] => Ok(()),
-        [first, rest @ ..] => {
-            push_label(out, first)?;
-            push_more_labels(out, rest)
+    for i in 0..labels.len() {
+        if i > 0 {
+            out.push_str(",")?;
         }
-    }
-}
-
-fn push_more_labels(out: &mut String, labels: &[Label]) -> Result<(), AllocError>
-    ensures text { OnOk result (string_bytes out.new
-        ≡ string_bytes out.old ++ flat_map (λ l. codes "," ++ label_text l) labels.now) }
-    ensures begins { BeginsWith (string_bytes out.new) (string_bytes out.old) }
-{
-    for label in labels {
-        out.push_str(",")?;
-        push_label(out, label)?;
+        push_label(out, &labels.pair(i))?;
     }
     Ok(())
 }
 
-fn push_label(out: &mut String, label: &Label) -> Result<(), AllocError>
-    ensures text { OnOk result (string_bytes out.new ≡ string_bytes out.old ++ label_text label.now) }
+fn push_label(out: &mut String, label: &(&str, &str)) -> Result<(), AllocError>
+    ensures text { OnOk result (string_bytes out.new
+        ≡ string_bytes out.old ++ label_text (label_in label.now)) }
     ensures begins { BeginsWith (string_bytes out.new) (string_bytes out.old) }
 {
-    out.push_str(label.name.as_str())?;
+    out.push_str(label.0)?;
     out.push_str("=\"")?;
-    push_escaped(out, label.value.as_str())?;
+    push_escaped(out, label.1)?;
     out.push_str("\"")
 }
 

@@ -1,5 +1,10 @@
+-- the bytes that go through a device, by its answers
 pub mod Bytes
+-- what the JSON value of a configuration tells, a line for each member
 pub mod Configured
+-- what a reader is at, and how it refuses
 pub mod Read
+-- a route, from what is read of it
 pub mod Routed
+-- what JSON values tell: texts, numbers, lists, and members with what stands for one that isn't there
 pub mod Decoding

@@ -12,6 +12,7 @@ pub fn make_calls(probe: &Probe, alloc: Global) -> Result<(), AllocError> {
     make_text(probe, String::from_str(alloc, "alertname")?);
     make_lists(probe, alloc, names(alloc, "alertname")?);
     copy_labels(probe, alloc, &labels(alloc, "1")?)?;
+    read_labels(probe, &labels(alloc, "1")?);
     compare(probe, &labels(alloc, "1")?, &labels(alloc, "2")?);
     Ok(())
 }
@@ -47,7 +48,7 @@ fn make_lists(probe: &Probe, alloc: Global, names: Vec<Text>) {
     probe.tell(&vector.len());
 }
 
-/// A copy of a label set shares its list, and a new vector takes memory.
+/// A copy of a label set shares its run, and a new vector takes memory.
 fn copy_labels(probe: &Probe, alloc: Global, labels: &Labels) -> Result<(), AllocError> {
     let mut copies = Vec::new(alloc);
     probe.ask("with memory: Labels::copy into a Vec");
@@ -56,11 +57,23 @@ fn copy_labels(probe: &Probe, alloc: Global, labels: &Labels) -> Result<(), Allo
     Ok(())
 }
 
-/// Looks for a label, and compares two label sets.
-fn compare(probe: &Probe, first: &Labels, second: &Labels) {
+/// Looks for a label, and reads all.
+fn read_labels(probe: &Probe, labels: &Labels) {
     probe.ask("Labels::get");
-    let value = first.get("inst");
+    let value = labels.get("inst");
     probe.tell(&value);
+    for i in 0..labels.len() {
+        probe.ask("Labels::pair");
+        let pair = labels.pair(i);
+        probe.tell(&pair);
+    }
+    probe.ask("Labels::pairs");
+    let count = labels.pairs().len();
+    probe.tell(&count);
+}
+
+/// Compares two label sets.
+fn compare(probe: &Probe, first: &Labels, second: &Labels) {
     probe.ask("Labels::eq");
     let same = *first == *second;
     probe.tell(&same);

@@ -1,20 +1,40 @@
+-- a begin: the flush of the group that was due first
 pub mod Begin
+-- the first cause, except memory, for which a call fails at a state after so many records
 pub mod Causes
+-- which configurations are valid, and the first fault of one that isn't
 pub mod Config
+-- a group's route, receiver and integrations in a configuration
 pub mod Configured
+-- the numbers of faults
 pub mod Faults
+-- a finish: the successes of a flush are logged, and its resolved alerts leave
 pub mod Finish
+-- an insert: an alert goes to the known ones and to the groups of its routes
 pub mod Insert
+-- what is true after every history, and how a history's state goes record by record
 pub mod Laws
+-- operations on the lists of a state, which put, remove, change and order elements
 pub mod Lists
+-- a note: the success of one integration is logged before its flush is finished
 pub mod Note
+-- a notice as contracts see it
 pub mod Notice
+-- the outcomes of a flush's notices, by its finish in the later records
 pub mod Outcomes
+-- the call and the reply that each record keeps
 pub mod Records
+-- the reply that is due to a call, the state after each record, and which histories are legal
 pub mod Replay
+-- what a dispatcher of one thread has, as plain lists in the order of arrival
 pub mod State
+-- a ticket as contracts see it, and the outcomes that it records
 pub mod Ticket
+-- the calls silence and maintain
 pub mod Upkeep
+-- the limits, the default and the faults' numbers, by their values
 pub mod Values
+-- the rows, groups and counts that a board returns of its state
 pub mod Views
+-- what was done and why, computed from a history alone, without a state
 pub mod look_back

@@ -1,5 +1,6 @@
 -- A silence that asks for a label mutes only label sets that have it, so that it is found by one of their labels.
-use Rattle.std.proofs.Common.{◌≡◌, ℕ, suc, ◌<◌, Bool, true, false, true≢false, cond, ◌||◌, List, [], ◌∷◌, length, get_or, take, drop, ◌-◌, find, unwrap_or, Option, Some, None, option_map, is_some, refl, sym, ap, ◌∙◌, subst, arith}
+use Rattle.std.proofs.Common.{◌≡◌, ℕ, suc, ◌<◌, Bool, true, false, true≢false, cond, ◌||◌, List, [], ◌∷◌, length, get_or, take, drop, ◌-◌}
+use Rattle.std.proofs.Common.{find, unwrap_or, Option, Some, None, option_map, is_some, refl, sym, ap, ◌∙◌, subst, arith}
 use Rattle.std.specs.Prelude.{nat_lt}
 use Rattle.std.specs.List.{list_all, list_any}
 use Rattle.std.specs.Str.{bytes_eq}
@@ -34,14 +35,30 @@ pub record HasLabel (name value : List ℕ) (labels : List Label) : Type 0 where
 
 has_later : (name value : List ℕ) (x : Label) (labels : List Label) → HasLabel name value labels → HasLabel name value (x ∷ labels)
 has_later name value x labels has =
-    record { place = suc has.place; label = has.label; at = (omega (arith, has.at.0), has.at.1); name_is = has.name_is; value_is = has.value_is }
+    record {
+      place = suc has.place;
+      label = has.label;
+      at = (omega (arith, has.at.0), has.at.1);
+      name_is = has.name_is;
+      value_is =
+          has.value_is;
+    }
 
 its_value : (name value : List ℕ) (labels : List Label) → value_in name labels ≡ Some value → HasLabel name value labels
 its_value name value [] e = absurd (cc)
 its_value name value (x ∷ labels) e =
-    elim (bytes_eq x.name name) as (λ b. bytes_eq x.name name ≡ b → option_map (λ (l : Label). l.value) (cond b (Some x) (find (λ (l : Label). bytes_eq l.name name) labels)) ≡ Some value → HasLabel name value (x ∷ labels)) [
+    elim (bytes_eq x.name name) as (λ b. bytes_eq x.name name ≡ b
+    → option_map (λ (l : Label). l.value) (cond b (Some x) (find (λ (l : Label). bytes_eq l.name name) labels)) ≡ Some value
+    → HasLabel name value (x ∷ labels)) [
       | true ↦ λ same there.
-          record { place = 0; label = x; at = (omega arith, refl); name_is = (bytes_decides x.name name).0 same; value_is = ap (λ (o : Option (List ℕ)). unwrap_or o []) there }
+          record {
+            place = 0;
+            label = x;
+            at = (omega arith, refl);
+            name_is = (bytes_decides x.name name).0 same;
+            value_is =
+                ap (λ (o : Option (List ℕ)). unwrap_or o []) there;
+          }
       | false ↦ λ other there. has_later name value x labels (its_value name value labels there)
     ] refl e
 
@@ -59,7 +76,8 @@ equal_passes NotLike wanted value is e = absurd (true≢false (sym is))
 pub asked : (m : MatcherParts) (labels : List Label) → asks_label m ≡ true → matches_parts m labels ≡ true → HasLabel m.name m.value labels
 asked m labels asks matches =
     let parts = and_parts (is_equal m.op) (nat_lt 0 (length m.value)) asks in
-    its_value m.name m.value labels (has_value (value_in m.name labels) m.value parts.1 (equal_passes m.op m.value (value_of m.name labels) parts.0 matches))
+    its_value m.name m.value labels
+    (has_value (value_in m.name labels) m.value parts.1 (equal_passes m.op m.value (value_of m.name labels) parts.0 matches))
 
 -- the first that passes a test passes it, and what all pass
 found_both : {X : Type 0} (p q : X → Bool) (xs : List X) (x : X) → list_all q xs ≡ true → find p xs ≡ Some x → (p x ≡ true) × (q x ≡ true)
@@ -76,28 +94,34 @@ found_both p q (y ∷ ys) x all e =
 -- ---- one silence of a list
 
 -- a silence that mutes
-pub one_mutes : (silences : List SilenceData) (labels : List Label) (t i : ℕ) (s : SilenceData) → i < length silences → s ≡ get_or silences i s → silence_mutes s t labels ≡ true
+pub one_mutes : (silences : List SilenceData) (labels : List Label) (t i : ℕ) (s : SilenceData) → i < length silences
+    → s ≡ get_or silences i s → silence_mutes s t labels ≡ true
     → is_silenced labels t silences ≡ true
 one_mutes silences labels t i s within here mutes =
-    list_any_at (λ (x : SilenceData). silence_mutes x t labels) silences i s within (ap (λ (x : SilenceData). silence_mutes x t labels) (sym here) ∙ mutes)
+    list_any_at (λ (x : SilenceData). silence_mutes x t labels) silences i s within
+    (ap (λ (x : SilenceData). silence_mutes x t labels) (sym here) ∙ mutes)
 
 true_of : (b : Bool) → (b ≡ false → ⊥) → b ≡ true
 true_of true h = refl
 true_of false h = absurd (h refl)
 
 -- its matchers compare texts, if those of all do
-pub one_compares : (silences : List SilenceData) (i : ℕ) (s : SilenceData) → i < length silences → s ≡ get_or silences i s → silences_compare_texts silences ≡ true
+pub one_compares : (silences : List SilenceData) (i : ℕ) (s : SilenceData) → i < length silences → s ≡ get_or silences i s
+    → silences_compare_texts silences ≡ true
     → compare_texts s.matchers ≡ true
 one_compares silences i s within here all =
     true_of (compare_texts s.matchers) (λ fails.
-    true≢false (sym all ∙ list_all_at (λ (x : SilenceData). compare_texts x.matchers) silences i s within (ap (λ (x : SilenceData). compare_texts x.matchers) (sym here) ∙ fails)))
+    true≢false (sym all ∙ list_all_at (λ (x : SilenceData). compare_texts x.matchers) silences i s within
+    (ap (λ (x : SilenceData). compare_texts x.matchers) (sym here) ∙ fails)))
 
 -- and so do those of the silences from a place on
-pub rest_compares : (silences : List SilenceData) (n : ℕ) → silences_compare_texts silences ≡ true → silences_compare_texts (take (length silences - n) (drop n silences)) ≡ true
+pub rest_compares : (silences : List SilenceData) (n : ℕ) → silences_compare_texts silences ≡ true
+    → silences_compare_texts (take (length silences - n) (drop n silences)) ≡ true
 rest_compares silences n all =
     let compare = λ (x : SilenceData). compare_texts x.matchers in
     ap (list_all compare) (take_rest silences n)
-    ∙ (and_parts (list_all compare (take n silences)) (list_all compare (drop n silences)) (sym (list_all-append compare (take n silences) (drop n silences)) ∙ (ap (list_all compare) (take-append-drop n silences) ∙ all))).1
+    ∙ (and_parts (list_all compare (take n silences)) (list_all compare (drop n silences))
+    (sym (list_all-append compare (take n silences) (drop n silences)) ∙ (ap (list_all compare) (take-append-drop n silences) ∙ all))).1
 
 -- ---- what the look-ups tell of all silences
 
@@ -105,14 +129,16 @@ module _ (silences : List SilenceData) (index : SilenceIndex) (indexed : IsIndex
     (by_label : (j : ℕ) (l : Label) → IsAt labels j l → AreUnmuted (HasPlace index (label_hash l.name l.value)) labels t silences)
     (others : AreUnmuted (HasPlace index NO_LABEL) labels t silences) where
   -- a silence that is found by something isn't muting, if it matches
-  found_by : (i : ℕ) (s : SilenceData) → IsAt silences i s → i < index.indexed → match_all s.matchers labels ≡ true → silence_mutes s t labels ≡ false
+  found_by : (i : ℕ) (s : SilenceData) → IsAt silences i s → i < index.indexed → match_all s.matchers labels ≡ true
+      → silence_mutes s t labels ≡ false
   found_by i s at less matched =
       elim (find asks_label s.matchers) as (λ o. find asks_label s.matchers ≡ o → silence_mutes s t labels ≡ false) [
         | None ↦ λ e. others i s (subst (λ k. HasPlace index k i) (ap key_by e) (indexed.found i s at less)) at
         | Some m ↦ λ e.
             let both = found_both asks_label (λ (x : MatcherParts). matches_parts x labels) s.matchers m matched e in
             let has = asked m labels both.0 both.1 in
-            let key : key_of s.matchers ≡ label_hash has.label.name has.label.value = ap key_by e ∙ (λ j. label_hash (sym has.name_is j) (sym has.value_is j)) in
+            let key : key_of s.matchers ≡ label_hash has.label.name has.label.value =
+            ap key_by e ∙ (λ j. label_hash (sym has.name_is j) (sym has.value_is j)) in
             by_label has.place has.label has.at i s (subst (λ k. HasPlace index k i) key (indexed.found i s at less)) at
       ] refl
 
@@ -128,5 +154,6 @@ module _ (silences : List SilenceData) (index : SilenceIndex) (indexed : IsIndex
       let mutes = λ (s : SilenceData). silence_mutes s t labels in
       let first : list_any mutes (take index.indexed silences) ≡ false =
       sym (is_some-find mutes (take index.indexed silences)) ∙ ap is_some (none_before mutes silences index.indexed none_mutes) in
-      sym (ap (list_any mutes) (sym (take-append-drop index.indexed silences)) ∙ (list_any-append mutes (take index.indexed silences) (drop index.indexed silences)
+      sym (ap (list_any mutes) (sym (take-append-drop index.indexed silences))
+      ∙ (list_any-append mutes (take index.indexed silences) (drop index.indexed silences)
       ∙ ap (λ b. b || list_any mutes (drop index.indexed silences)) first))

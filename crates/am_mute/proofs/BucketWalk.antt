@@ -1,5 +1,6 @@
 -- A walk over the keys of one bucket: what the first source among their alerts tells of all known alerts.
-use Rattle.std.proofs.Common.{◌≡◌, ℕ, zero, suc, ◌<◌, ◌≤◌, Bool, true, false, true≢false, cond, not, ◌&&◌, ◌||◌, List, [], ◌∷◌, length, get_or, take, filter, find, Some, None, refl, inl, inr, ◌⊎◌, sym, ap, ◌∙◌, arith}
+use Rattle.std.proofs.Common.{◌≡◌, ℕ, zero, suc, ◌<◌, ◌≤◌, Bool, true, false, true≢false, cond, not, ◌&&◌, ◌||◌, List, [], ◌∷◌, length}
+use Rattle.std.proofs.Common.{get_or, take, filter, find, Some, None, refl, inl, inr, ◌⊎◌, sym, ap, ◌∙◌, arith}
 use Rattle.std.specs.Prelude.{All}
 use Rattle.std.specs.List.{AllByRecursion}
 use Rattle.std.specs.List.Sorted.{IsStrictlySortedBy}
@@ -22,7 +23,8 @@ not_true false h = refl
 -- ---- the first element that passes
 
 -- none of the first elements passes
-pub none_before : {X : Type 0} (test : X → Bool) (xs : List X) (n : ℕ) → ((j : ℕ) (x : X) → IsAt xs j x → j < n → test x ≡ false) → find test (take n xs) ≡ None
+pub none_before : {X : Type 0} (test : X → Bool) (xs : List X) (n : ℕ) → ((j : ℕ) (x : X) → IsAt xs j x → j < n → test x ≡ false)
+    → find test (take n xs) ≡ None
 none_before test [] zero h = refl
 none_before test [] (suc n) h = refl
 none_before test (x ∷ xs) zero h = refl
@@ -87,8 +89,10 @@ module _ (number hash : ℕ) where
       let rule : k.rule ≡ number = between number k.rule _ _ low high in
       let tie : nat_cmp number k.rule ≡ Equal = ap (nat_cmp number) rule ∙ tied_number number in
       let tie_too : nat_cmp k.rule number ≡ Equal = ap (λ n. nat_cmp n number) rule ∙ tied_number number in
-      let low_hash : is_gt (ordering_then (nat_cmp hash k.hash) (nat_cmp i k.place)) ≡ false = ap is_gt (sym (after_tie (nat_cmp number k.rule) _ tie)) ∙ low in
-      let high_hash : is_gt (ordering_then (nat_cmp k.hash hash) (nat_cmp k.place j)) ≡ false = ap is_gt (sym (after_tie (nat_cmp k.rule number) _ tie_too)) ∙ high in
+      let low_hash : is_gt (ordering_then (nat_cmp hash k.hash) (nat_cmp i k.place)) ≡ false =
+      ap is_gt (sym (after_tie (nat_cmp number k.rule) _ tie)) ∙ low in
+      let high_hash : is_gt (ordering_then (nat_cmp k.hash hash) (nat_cmp k.place j)) ≡ false =
+      ap is_gt (sym (after_tie (nat_cmp k.rule number) _ tie_too)) ∙ high in
       (rule, between hash k.hash _ _ low_hash high_hash)
 
   low : (o : Ordering) (i : ℕ) → MatchOrdering o (0 < i) (0 ≡ i) (i < 0) → is_le o ≡ true
@@ -102,17 +106,20 @@ module _ (number hash : ℕ) where
   high Greater len i h less = refl
 
   -- the keys of the bucket with places below a length are between its ends
-  pub in_bucket : (len i : ℕ) → i < len → (is_le (key_cmp (at_place 0) (at_place i)) && not (is_le (key_cmp (at_place len) (at_place i)))) ≡ true
+  pub in_bucket : (len i : ℕ) → i < len
+      → (is_le (key_cmp (at_place 0) (at_place i)) && not (is_le (key_cmp (at_place len) (at_place i)))) ≡ true
   in_bucket len i less =
       ap (λ o. is_le o && not (is_le (key_cmp (at_place len) (at_place i)))) (by_place 0 i)
       ∙ (ap (λ b. b && not (is_le (key_cmp (at_place len) (at_place i)))) (low (nat_cmp 0 i) i (ranked 0 i (nat_cmp 0 i) refl))
       ∙ (ap (λ o. not (is_le o)) (by_place len i) ∙ high (nat_cmp len i) len i (ranked len i (nat_cmp len i) refl) less))
 
 -- a key that passes is among those that a filter keeps
-pub kept_key : (test : SourceKey → Bool) (keys : List SourceKey) (q : SourceKey) → test q ≡ true → has_key keys q ≡ true → has_key (filter test keys) q ≡ true
+pub kept_key : (test : SourceKey → Bool) (keys : List SourceKey) (q : SourceKey) → test q ≡ true → has_key keys q ≡ true
+    → has_key (filter test keys) q ≡ true
 kept_key test [] q passes h = h
 kept_key test (k ∷ keys) q passes h =
-    elim (is_eq (key_cmp q k)) as (λ b. is_eq (key_cmp q k) ≡ b → (b || has_key keys q) ≡ true → has_key (cond (test k) (k ∷ filter test keys) (filter test keys)) q ≡ true) [
+    elim (is_eq (key_cmp q k)) as (λ b. is_eq (key_cmp q k) ≡ b → (b || has_key keys q) ≡ true
+    → has_key (cond (test k) (k ∷ filter test keys) (filter test keys)) q ≡ true) [
       | true ↦ λ tied there.
           ap (λ b. has_key (cond b (k ∷ filter test keys) (filter test keys)) q) (ap test (sym (key-is q k tied)) ∙ passes)
           ∙ ap (λ b. b || has_key (filter test keys) q) tied
@@ -130,7 +137,8 @@ kept_key test (k ∷ keys) q passes h =
 -- ---- keys in order
 
 -- a key that is among those behind another is behind it
-behind_key : (k q : SourceKey) (keys : List SourceKey) → AllByRecursion (λ y. key_cmp k y ≡ Less) keys → has_key keys q ≡ true → key_cmp k q ≡ Less
+behind_key : (k q : SourceKey) (keys : List SourceKey) → AllByRecursion (λ y. key_cmp k y ≡ Less) keys → has_key keys q ≡ true
+    → key_cmp k q ≡ Less
 behind_key k q [] h e = absurd (true≢false (sym e))
 behind_key k q (y ∷ ys) h e =
     elim (is_eq (key_cmp q y)) as (λ b. is_eq (key_cmp q y) ≡ b → (b || has_key ys q) ≡ true → key_cmp k q ≡ Less) [
@@ -139,7 +147,8 @@ behind_key k q (y ∷ ys) h e =
     ] refl e
 
 -- a key that is left is the next one or behind it
-next_or_behind : (k : SourceKey) (keys : List SourceKey) → IsStrictlySortedBy key_cmp (k ∷ keys) → (q : SourceKey) → has_key (k ∷ keys) q ≡ true → (q ≡ k) ⊎ (key_cmp k q ≡ Less)
+next_or_behind : (k : SourceKey) (keys : List SourceKey) → IsStrictlySortedBy key_cmp (k ∷ keys) → (q : SourceKey)
+    → has_key (k ∷ keys) q ≡ true → (q ≡ k) ⊎ (key_cmp k q ≡ Less)
 unfolding IsStrictlySortedBy
 next_or_behind k keys sorted q h =
     elim (is_eq (key_cmp q k)) as (λ b. is_eq (key_cmp q k) ≡ b → (b || has_key keys q) ≡ true → (q ≡ k) ⊎ (key_cmp k q ≡ Less)) [
@@ -178,7 +187,9 @@ module _ {X : Type 0} (test : X → Bool) (xs : List X) (n number hash : ℕ) wh
       where
         ahead : IsAhead keys
         ahead i y at less passes =
-            elim (is_eq (key_cmp (at_place number hash i) k)) as (λ b. is_eq (key_cmp (at_place number hash i) k) ≡ b → (b || has_key keys (at_place number hash i)) ≡ true → has_key keys (at_place number hash i) ≡ true) [
+            elim (is_eq (key_cmp (at_place number hash i) k)) as
+            (λ b. is_eq (key_cmp (at_place number hash i) k) ≡ b → (b || has_key keys (at_place number hash i)) ≡ true
+            → has_key keys (at_place number hash i) ≡ true) [
               | true ↦ λ tied there.
                   let place : i ≡ k.place = ap (λ (q : SourceKey). q.place) (key-is (at_place number hash i) k tied) in
                   let same : y ≡ x = at.1 ∙ (ap (λ j. get_or xs j y) place ∙ (get_or_default xs k.place y x near.1 ∙ sym here)) in
@@ -196,7 +207,8 @@ module _ {X : Type 0} (test : X → Bool) (xs : List X) (n number hash : ℕ) wh
             elim (next_or_behind k keys left.sorted (at_place number hash j) (left.ahead j y at (omega (arith, less, near.2)) passes_too)) [
               | inl e ↦ let place : j ≡ k.place = ap (λ (q : SourceKey). q.place) e in omega (arith, place, less)
               | inr e ↦
-                  let after : nat_cmp k.place j ≡ Less = sym (by_place number hash k.place j) ∙ (ap (λ q. key_cmp q (at_place number hash j)) (sym (its number hash k near.0)) ∙ e) in
+                  let after : nat_cmp k.place j ≡ Less = sym (by_place number hash k.place j)
+                  ∙ (ap (λ q. key_cmp q (at_place number hash j)) (sym (its number hash k near.0)) ∙ e) in
                   let up : k.place < j = less_number (nat_cmp k.place j) k.place j (ranked k.place j (nat_cmp k.place j) refl) after in
                   omega (arith, up, less)
             ])

@@ -1,5 +1,6 @@
 -- What was found for a target is what the rule finds.
-use Rattle.std.proofs.Common.{◌≡◌, ℕ, Bool, true, false, Option, Some, None, List, take, drop, find, is_some, option_copied, refl, sym, ap, ◌∙◌, if◌then◌else◌}
+use Rattle.std.proofs.Common.{◌≡◌, ℕ, Bool, true, false, Option, Some, None, List, take, drop, find, is_some, option_copied, refl, sym, ap}
+use Rattle.std.proofs.Common.{◌∙◌, if◌then◌else◌}
 use Rattle.std.specs.Borrow.{Bor}
 use Rattle.std.specs.Option.{option_or}
 use Rattle.std.proofs.lemmas.List.{take-append-drop}
@@ -12,13 +13,16 @@ use Rattle.am_mute.specs.Target.{TargetData, IsTargetOf}
 use Rattle.am_mute.proofs.Firsts.{is_some-source_for}
 
 -- where none of the first elements passes, the first that does is among the others
-pub behind_first : {X : Type 0} (test : X → Bool) (n : ℕ) (xs : List X) (found : Option (Bor X)) → IsFirstOf test n xs (option_copied found) → is_some found ≡ false → find test (drop n xs) ≡ find test xs
+pub behind_first : {X : Type 0} (test : X → Bool) (n : ℕ) (xs : List X) (found : Option (Bor X)) → IsFirstOf test n xs (option_copied found)
+    → is_some found ≡ false → find test (drop n xs) ≡ find test xs
 behind_first test n xs (Some x) first none = absurd (cc)
 behind_first test n xs None first none =
-    sym (ap (find test) (sym (take-append-drop n xs)) ∙ (find-append test (take n xs) (drop n xs) ∙ ap (λ o. option_or o (find test (drop n xs))) first))
+    sym (ap (find test) (sym (take-append-drop n xs))
+    ∙ (find-append test (take n xs) (drop n xs) ∙ ap (λ o. option_or o (find test (drop n xs))) first))
 
 -- what was found among the first elements is the first of the list
-pub of_first : {X : Type 0} (test : X → Bool) (n : ℕ) (xs : List X) (found : Option (Bor X)) → IsFirstOf test n xs (option_copied found) → is_some found ≡ true → option_copied found ≡ find test xs
+pub of_first : {X : Type 0} (test : X → Bool) (n : ℕ) (xs : List X) (found : Option (Bor X)) → IsFirstOf test n xs (option_copied found)
+    → is_some found ≡ true → option_copied found ≡ find test xs
 of_first test n xs None first some = absurd (cc)
 of_first test n xs (Some x) first some = sym first
 
@@ -26,13 +30,16 @@ copied-some : {X : Type 0} (found : Option (Bor X)) → is_some found ≡ is_som
 copied-some None = refl
 copied-some (Some x) = refl
 
-module _ (rule : RuleData) (labels : List Label) (t : ℕ) (known : List AlertData) (target : TargetData) (is : IsTargetOf rule labels t (Some target)) where
+module _ (rule : RuleData) (labels : List Label) (t : ℕ) (known : List AlertData) (target : TargetData)
+    (is : IsTargetOf rule labels t (Some target)) where
   -- the first source for the target is the rule's
-  pub source_is : (found : Option (Bor AlertData)) → option_copied found ≡ find (is_inhibited_by target.rule target.t target.labels) known → option_copied found ≡ source_for rule t known labels
+  pub source_is : (found : Option (Bor AlertData)) → option_copied found ≡ find (is_inhibited_by target.rule target.t target.labels) known
+      → option_copied found ≡ source_for rule t known labels
   source_is found e =
       e ∙ (ap (λ (x : TargetData). find (is_inhibited_by x.rule x.t x.labels) known) is.1
       ∙ sym (ap (λ b. if b then find (is_inhibited_by rule t labels) known else None) is.0))
 
   -- it is there exactly where the rule mutes
-  pub source_is-some : (found : Option (Bor AlertData)) → option_copied found ≡ find (is_inhibited_by target.rule target.t target.labels) known → is_some found ≡ inhibits rule t known labels
+  pub source_is-some : (found : Option (Bor AlertData))
+      → option_copied found ≡ find (is_inhibited_by target.rule target.t target.labels) known → is_some found ≡ inhibits rule t known labels
   source_is-some found e = copied-some found ∙ (ap is_some (source_is found e) ∙ is_some-source_for rule t known labels)

@@ -16,7 +16,8 @@ same_number n =
     ] refl
 
 -- the places under a key are those of silences
-pub are_within : (silences : List SilenceData) (index : SilenceIndex) → ArePlaced silences index → (key : ℕ) → All (λ p. p < length silences) (places_at index key)
+pub are_within : (silences : List SilenceData) (index : SilenceIndex) → ArePlaced silences index → (key : ℕ)
+    → All (λ p. p < length silences) (places_at index key)
 are_within silences index placed key i d less =
     let place = get_or (places_at index key) i d in
     placed key place (list_any_at (λ p. nat_eq p place) (places_at index key) i d less (same_number place))

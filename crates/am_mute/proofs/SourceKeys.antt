@@ -46,10 +46,16 @@ module _ (key : SourceKey) (old new : SourceIndex) (learnt : new.learnt ≡ old.
     (updates : (q : SourceKey) → has_key new.keys q ≡ cond (is_eq (key_cmp key q)) true (has_key old.keys q)) where
   one_more : (k : SourceKey) → HasKey new k → (k.place ≡ key.place) ⊎ HasKey old k
   one_more k had =
-      elim (is_eq (key_cmp key k)) as (λ b. is_eq (key_cmp key k) ≡ b → cond b true (has_key old.keys k) ≡ true → (k.place ≡ key.place) ⊎ HasKey old k) [
+      elim (is_eq (key_cmp key k)) as (λ b. is_eq (key_cmp key k) ≡ b → cond b true (has_key old.keys k) ≡ true → (k.place ≡ key.place)
+      ⊎ HasKey old k) [
         | true ↦ λ tied h. inl (ap (λ (x : SourceKey). x.place) (sym (key-is key k tied)))
         | false ↦ λ tied h. inr h
       ] refl (sym (updates k) ∙ had)
 
   pub grows_by : GrowsAt key.place old new
-  grows_by = record { learnt = learnt; keeps = λ k had. updates k ∙ had_or (is_eq (key_cmp key k)) (has_key old.keys k) had; only = one_more }
+  grows_by = record {
+    learnt = learnt;
+    keeps = λ k had. updates k ∙ had_or (is_eq (key_cmp key k)) (has_key old.keys k) had;
+    only =
+        one_more;
+  }

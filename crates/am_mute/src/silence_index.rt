@@ -119,8 +119,9 @@ impl SilenceIndex {
         if silences.is_empty() {
             return Ok(false);
         }
-        for label in labels.pairs() {
-            let key = label_hash(label.name.as_str(), label.value.as_str());
+        for i in 0..labels.len() {
+            let pair = labels.pair(i);
+            let key = label_hash(pair.0, pair.1);
             if self.is_silenced_by(alloc, key, silences, labels, t)? {
                 return Ok(true);
             }

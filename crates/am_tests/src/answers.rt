@@ -149,16 +149,16 @@ fn push_sets(text: &mut String, sets: &[Labels]) -> Result<(), AllocError> {
 /// A label set as a script has it: pairs joined by commas, of the alertname the value alone.
 fn push_labels(text: &mut String, labels: &Labels) -> Result<(), AllocError> {
     let mut first = true;
-    for label in labels.pairs() {
+    for (name, value) in labels.pairs() {
         if !first {
             text.push_str(",")?;
         }
         first = false;
-        if label.name.as_str() != "alertname" {
-            text.push_str(label.name.as_str())?;
+        if name != "alertname" {
+            text.push_str(name)?;
             text.push_str("=")?;
         }
-        text.push_str(label.value.as_str())?;
+        text.push_str(value)?;
     }
     Ok(())
 }

@@ -3,4 +3,4 @@ use Rattle.am_alerts.specs.Labels.{with_values, labels_in}
 use Rattle.am_alerts.proofs.label_pairs.with_values.Given as goal
 
 abbrev pub invariant-loop-pair : goal.invariant-loop-pair
-invariant-loop-pair l = l.labels.items ≡ with_values (labels_in (take l.pair-index l.pairs))
+invariant-loop-pair l = labels_in l.kept.items ≡ with_values (labels_in (take l.pair-index l.pairs))

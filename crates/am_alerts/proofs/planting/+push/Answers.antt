@@ -11,8 +11,10 @@ use Rattle.am_alerts.proofs.planting.+push.Goals as goal
 
 pub push_nodes-loop-node-preserved : goal.push_nodes-loop-node-preserved
 push_nodes-loop-node-preserved t c = record {
-  children = children_more c.args.above.now c.loop-node.yielded c.in-Some.node c.args.children.now.items c.loop-node.children.items c.push_node.new.children.items c.loop-node.invariant.children c.in_ok-push_node.ensures.children;
-  places = places_more c.args.above.now c.loop-node.yielded c.in-Some.node c.args.places.now.items c.loop-node.places.items c.push_node.new.places.items c.loop-node.invariant.places c.in_ok-push_node.ensures.places;
+  children = children_more c.args.above.now c.loop-node.yielded c.in-Some.node c.args.children.now.items c.loop-node.children.items
+      c.push_node.new.children.items c.loop-node.invariant.children c.in_ok-push_node.ensures.children;
+  places = places_more c.args.above.now c.loop-node.yielded c.in-Some.node c.args.places.now.items c.loop-node.places.items
+      c.push_node.new.places.items c.loop-node.invariant.places c.in_ok-push_node.ensures.places;
 }
 
 pub push_node-returns-clause-places : goal.push_node-returns-clause-places
@@ -30,5 +32,7 @@ push_node-returns-clause-places t c =
     ∙ ap (λ ps. ps ++ map place_of (laid (settled_below c.in_ok-route.route (forest c.args.routes.items)))) c.in_ok-push-4.ensures.items
     ∙ ap (λ r. (before ++ leaf ∷ []) ++ map place_of (laid (settled_below r (forest c.args.routes.items)))) route in
     ap (λ i. set now i (let p : Place = record { below = c.len.result - i - 1 } in p)) at
-    ∙ place_told before now (settled_route c.args.above.now c.args.rule) leaf below (c.len.result - length before - 1) was (ap (λ n. n - length before - 1) all)
-    ∙ ap (λ ts. before ++ place_of (settled_route c.args.above.now c.args.rule, count below) ∷ map place_of ts) (sym (append-nil (laid below)))
+    ∙ place_told before now (settled_route c.args.above.now c.args.rule) leaf below (c.len.result - length before - 1) was
+    (ap (λ n. n - length before - 1) all)
+    ∙ ap (λ ts. before ++ place_of (settled_route c.args.above.now c.args.rule, count below) ∷ map place_of ts)
+    (sym (append-nil (laid below)))

@@ -8,10 +8,12 @@ pub returns-then-has_route : goal.returns-then-has_route
 returns-then-has_route c =
     let twice = has_text_twice (map (λ (d : Child). d.route.name) c.args.children.now) in
     let root = stands_in-children c.args.root.now.name c.args.children.now in
-    c.if-has_route.true ∙ sym (ap (λ (b : Bool). b || twice) (root ∙ sym (rw c.as_str.ensures at c.has_route.ensures) ∙ c.if-has_route.true))
+    c.if-has_route.true
+    ∙ sym (ap (λ (b : Bool). b || twice) (root ∙ sym (rw c.as_str.ensures at c.has_route.ensures) ∙ c.if-has_route.true))
 
 pub returns-else-has_route : goal.returns-else-has_route
 returns-else-has_route c =
     let twice = has_text_twice (map (λ (d : Child). d.route.name) c.args.children.now) in
     let root = stands_in-children c.args.root.now.name c.args.children.now in
-    c.has_child_twice.ensures ∙ sym (ap (λ (b : Bool). b || twice) (root ∙ sym (rw c.as_str.ensures at c.has_route.ensures) ∙ c.if-has_route.false))
+    c.has_child_twice.ensures
+    ∙ sym (ap (λ (b : Bool). b || twice) (root ∙ sym (rw c.as_str.ensures at c.has_route.ensures) ∙ c.if-has_route.false))

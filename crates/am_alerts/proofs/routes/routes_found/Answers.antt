@@ -15,7 +15,8 @@ push_matching-requires-clause-laid c =
 pub returns : goal.returns
 returns c =
     let found : c.push_matching.new.found.items ≡ matching 1 (planted (paired c.args.children.now c.args.places.now)) c.args.labels.now =
-    rw c.new-found.ensures.items at c.in_ok-push_matching.ensures ∙ ap (λ ts. matching 1 (planted ts) c.args.labels.now) (part_paired c.args.children.now c.args.places.now) in
+    rw c.new-found.ensures.items at c.in_ok-push_matching.ensures
+    ∙ ap (λ ts. matching 1 (planted ts) c.args.labels.now) (part_paired c.args.children.now c.args.places.now) in
     rw (← found)
     (elim c.if-is_empty.branch [
       | then-is_empty+in_ok-push w ↦
@@ -24,6 +25,7 @@ returns c =
           or_self-none c.push_matching.new.found.items c.if-is_empty.found.items none (rw w.found-is w.in_ok-push.ensures.items)
       | else-is_empty w ↦
           let size : 0 < length c.push_matching.new.found.items = search rules in
-          let some : c.push_matching.new.found.items ≡ [] → ⊥ = λ e. let z : length c.push_matching.new.found.items ≡ 0 = ap length e in omega arith in
+          let some : c.push_matching.new.found.items ≡ [] → ⊥ = λ e. let z : length c.push_matching.new.found.items ≡ 0 = ap length e in
+          omega arith in
           or_self-some c.push_matching.new.found.items c.if-is_empty.found.items some (rw w.found-is refl)
     ])

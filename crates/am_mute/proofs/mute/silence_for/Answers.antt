@@ -20,7 +20,8 @@ pub returns-then-branch-clause-some : goal.returns-then-branch-clause-some
 returns-then-branch-clause-some c =
     let mutes = λ (s : SilenceData). silence_mutes s c.args.t c.args.labels.now in
     let passes : mutes c.silence-item.result ≡ true = sym c.in_ok-mutes.ensures.value ∙ c.if-branch.true in
-    sym (ap is_some (find_here mutes _ _ c.silence-item.result c.silence-item.result (omega arith) c.silence-item.is c.loop-silence.invariant passes)) ∙ is_some-find mutes c.args.silences.now
+    sym (ap is_some (find_here mutes _ _ c.silence-item.result c.silence-item.result (omega arith) c.silence-item.is
+    c.loop-silence.invariant passes)) ∙ is_some-find mutes c.args.silences.now
 
 pub returns-clause-some : goal.returns-clause-some
 returns-clause-some c =

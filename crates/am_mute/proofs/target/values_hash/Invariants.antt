@@ -6,4 +6,5 @@ use Rattle.am_mute.proofs.target.values_hash.Given as goal
 
 -- the values of the names so far were written
 abbrev pub invariant-loop-name : goal.invariant-loop-name
-invariant-loop-name l = l.hasher ≡ fold (λ hasher name. fold write hasher (str (value_of name l.labels))) initial (take l.name-index l.names)
+invariant-loop-name l = l.hasher ≡ fold (λ hasher name. fold write hasher (str (value_of name l.labels))) initial
+    (take l.name-index l.names)

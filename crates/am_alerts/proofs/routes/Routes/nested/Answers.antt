@@ -14,8 +14,10 @@ invariant_of-result c =
     let rules_below = forest c.args.routes.items in
     let cs = c.push_nodes.new.children.items in
     let ps = c.push_nodes.new.places.items in
-    let children : cs ≡ map (λ r. r.child) (listed (settled_below c.args.root rules_below)) = rw c.new-children.ensures.items at c.in_ok-push_nodes.ensures.children in
-    let places : ps ≡ map place_of (laid (settled_below c.args.root rules_below)) = rw c.new-places.ensures.items at c.in_ok-push_nodes.ensures.places in
+    let children : cs ≡ map (λ r. r.child) (listed (settled_below c.args.root rules_below)) =
+    rw c.new-children.ensures.items at c.in_ok-push_nodes.ensures.children in
+    let places : ps ≡ map place_of (laid (settled_below c.args.root rules_below)) =
+    rw c.new-places.ensures.items at c.in_ok-push_nodes.ensures.places in
     let size : c.len.result ≡ length cs = search rules in
     let low : c.is_low-low.result ≡ nat_le (height rules_below) MAX_DEPTH = rw c.as_slice.ensures.value at c.is_low-low.ensures in
     let fits : c.fit-fits.result ≡ (nat_le (length cs) MAX_ROUTES && nat_le (height rules_below) MAX_DEPTH) =
@@ -29,8 +31,10 @@ returns-in-None-clause-value c =
     let rules_below = forest c.args.routes.items in
     let cs = c.push_nodes.new.children.items in
     let ps = c.push_nodes.new.places.items in
-    let children : cs ≡ map (λ r. r.child) (listed (settled_below c.args.root rules_below)) = rw c.new-children.ensures.items at c.in_ok-push_nodes.ensures.children in
-    let places : ps ≡ map place_of (laid (settled_below c.args.root rules_below)) = rw c.new-places.ensures.items at c.in_ok-push_nodes.ensures.places in
+    let children : cs ≡ map (λ r. r.child) (listed (settled_below c.args.root rules_below)) =
+    rw c.new-children.ensures.items at c.in_ok-push_nodes.ensures.children in
+    let places : ps ≡ map place_of (laid (settled_below c.args.root rules_below)) =
+    rw c.new-places.ensures.items at c.in_ok-push_nodes.ensures.places in
     rw (c.from.ensures, c.from-in-None.ensures) (tree_from_nested c.args.root rules_below cs ps children places)
 
 pub returns-in-Some-clause-refused : goal.returns-in-Some-clause-refused
@@ -38,12 +42,15 @@ returns-in-Some-clause-refused c =
     let rules_below = forest c.args.routes.items in
     let cs = c.push_nodes.new.children.items in
     let ps = c.push_nodes.new.places.items in
-    let children : cs ≡ map (λ r. r.child) (listed (settled_below c.args.root rules_below)) = rw c.new-children.ensures.items at c.in_ok-push_nodes.ensures.children in
-    let places : ps ≡ map place_of (laid (settled_below c.args.root rules_below)) = rw c.new-places.ensures.items at c.in_ok-push_nodes.ensures.places in
+    let children : cs ≡ map (λ r. r.child) (listed (settled_below c.args.root rules_below)) =
+    rw c.new-children.ensures.items at c.in_ok-push_nodes.ensures.children in
+    let places : ps ≡ map place_of (laid (settled_below c.args.root rules_below)) =
+    rw c.new-places.ensures.items at c.in_ok-push_nodes.ensures.places in
     let size : c.len.result ≡ length cs = search rules in
     let low : c.is_low-low.result ≡ nat_le (height rules_below) MAX_DEPTH = rw c.as_slice.ensures.value at c.is_low-low.ensures in
     let fits : c.fit-fits.result ≡ (nat_le (length cs) MAX_ROUTES && nat_le (height rules_below) MAX_DEPTH) =
     c.fit-fits.ensures ∙ ap (λ n. nat_le n MAX_ROUTES && c.is_low-low.result) size ∙ ap (λ b. nat_le (length cs) MAX_ROUTES && b) low in
     let some : tree_fault (nested_of c.args.root rules_below) ≡ Some c.in-Some.fault =
-    sym ((rw c.as_slice-2.ensures.value at c.in-Some.ensures) ∙ ap (λ b. fault_where b c.args.root cs) fits ∙ fault_nested c.args.root rules_below cs ps children places) in
+    sym ((rw c.as_slice-2.ensures.value at c.in-Some.ensures) ∙ ap (λ b. fault_where b c.args.root cs) fits
+    ∙ fault_nested c.args.root rules_below cs ps children places) in
     inr (c.in-Some.fault, refl, some)

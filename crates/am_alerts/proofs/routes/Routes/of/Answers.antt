@@ -11,14 +11,16 @@ use Rattle.am_alerts.proofs.routes.Routes.of.Goals as goal
 pub routes_found-requires-clause-few : goal.routes_found-requires-clause-few
 routes_found-requires-clause-few c =
     let last = kept_last c.self.inside.root c.self.inside.children c.self.inside.places c.args.self.now c.self.view_is c.self.invariant in
-    let few = few_routes c.args.self.now (kept_sound c.self.inside.root c.self.inside.children c.self.inside.places c.args.self.now c.self.view_is c.self.invariant) in
+    let few = few_routes c.args.self.now
+    (kept_sound c.self.inside.root c.self.inside.children c.self.inside.places c.args.self.now c.self.view_is c.self.invariant) in
     rw c.as_slice.ensures (omega (arith, last, few))
 
 pub returns-clause-ascending : goal.returns-clause-ascending
 returns-clause-ascending c =
     let tree = tree_from c.self.inside.root (paired c.self.inside.children c.self.inside.places) in
     let labels = c.args.labels.now in
-    IfOk-weaker c.routes_found.result (λ v. v.items ≡ routes_of tree labels) (λ v. IsStrictlyIncreasing v.items) (λ v e. rw e (routes_of-rises tree labels))
+    IfOk-weaker c.routes_found.result (λ v. v.items ≡ routes_of tree labels) (λ v. IsStrictlyIncreasing v.items)
+    (λ v e. rw e (routes_of-rises tree labels))
     (rw (c.as_slice.ensures, c.as_slice-2.ensures) at c.routes_found.ensures)
 
 pub returns-clause-exist : goal.returns-clause-exist
@@ -26,5 +28,6 @@ returns-clause-exist c =
     let tree = tree_from c.self.inside.root (paired c.self.inside.children c.self.inside.places) in
     let labels = c.args.labels.now in
     rw (← c.self.view_is)
-    (IfOk-weaker c.routes_found.result (λ v. v.items ≡ routes_of tree labels) (λ v. All (λ p. p ≤ last_of tree) v.items) (λ v e. rw e (routes_of-exist tree labels))
+    (IfOk-weaker c.routes_found.result (λ v. v.items ≡ routes_of tree labels) (λ v. All (λ p. p ≤ last_of tree) v.items)
+    (λ v e. rw e (routes_of-exist tree labels))
     (rw (c.as_slice.ensures, c.as_slice-2.ensures) at c.routes_found.ensures))

@@ -14,17 +14,22 @@ bounds-as_slice-position c =
 pub returns-else-position-eq0-clause-route : goal.returns-else-position-eq0-clause-route
 returns-else-position-eq0-clause-route c =
     let last = kept_last c.self.inside.root c.self.inside.children c.self.inside.places c.args.self.now c.self.view_is c.self.invariant in
-    let children = kept_children c.self.inside.root c.self.inside.children c.self.inside.places c.args.self.now c.self.view_is c.self.invariant in
+    let children = kept_children c.self.inside.root c.self.inside.children c.self.inside.places c.args.self.now c.self.view_is
+    c.self.invariant in
     ap (λ cs. (get_or cs (c.args.position - 1) c.index-as_slice-position.result).route) c.as_slice.ensures
-    ∙ child_at c.args.self.now c.self.inside.children c.args.position c.index-as_slice-position.result (sym children) (omega arith) (omega (arith, last, c.requires))
+    ∙ child_at c.args.self.now c.self.inside.children c.args.position c.index-as_slice-position.result (sym children) (omega arith)
+    (omega (arith, last, c.requires))
 
 pub returns-else-position-eq0-clause-intervals : goal.returns-else-position-eq0-clause-intervals
 returns-else-position-eq0-clause-intervals c =
     let last = kept_last c.self.inside.root c.self.inside.children c.self.inside.places c.args.self.now c.self.view_is c.self.invariant in
-    let children = kept_children c.self.inside.root c.self.inside.children c.self.inside.places c.args.self.now c.self.view_is c.self.invariant in
+    let children = kept_children c.self.inside.root c.self.inside.children c.self.inside.places c.args.self.now c.self.view_is
+    c.self.invariant in
     let sound = kept_sound c.self.inside.root c.self.inside.children c.self.inside.places c.args.self.now c.self.view_is c.self.invariant in
-    let same : (get_or c.as_slice.result.now (c.args.position - 1) c.index-as_slice-position.result).route ≡ route_at c.args.self.now c.args.position =
+    let same : (get_or c.as_slice.result.now (c.args.position - 1) c.index-as_slice-position.result).route ≡ route_at c.args.self.now
+    c.args.position =
     ap (λ cs. (get_or cs (c.args.position - 1) c.index-as_slice-position.result).route) c.as_slice.ensures
-    ∙ child_at c.args.self.now c.self.inside.children c.args.position c.index-as_slice-position.result (sym children) (omega arith) (omega (arith, last, c.requires)) in
+    ∙ child_at c.args.self.now c.self.inside.children c.args.position c.index-as_slice-position.result (sym children) (omega arith)
+    (omega (arith, last, c.requires)) in
     let P : Route → Type 0 = λ r. IsTrue (has_good_intervals r) in
     subst P (sym same) (good_intervals-at c.args.self.now c.args.position sound c.requires)

@@ -9,4 +9,5 @@ invariant-loop-key l =
     (goal.iterator-loop-key).can_next l.key-iterator
     × (goal.iterator-loop-key).is_finite l.key-iterator
     × (l.target ≡ l.initial.target)
-    × AreLeft (is_inhibited_by l.initial.target.rule l.initial.target.t l.initial.target.labels) l.known l.self.learnt l.number l.hash l.key-iterator
+    × AreLeft (is_inhibited_by l.initial.target.rule l.initial.target.t l.initial.target.labels) l.known l.self.learnt l.number l.hash
+    l.key-iterator

@@ -23,9 +23,11 @@ pub returns-in_ok-insert-clause-grows : goal.returns-in_ok-insert-clause-grows
 returns-in_ok-insert-clause-grows c =
     let new : SourceIndex = record { keys = c.insert.new.self.keys; learnt = c.self.inside.learnt } in
     subst (λ (s : SourceIndex). GrowsAt s.learnt s new) c.self.view_is
-    (grows_by (key (goal.at.returns-in_ok-insert-clause-grows c).In_ok-insert) (record { keys = c.self.inside.keys.keys; learnt = c.self.inside.learnt }) new refl c.in_ok-insert.ensures.updates.0)
+    (grows_by (key (goal.at.returns-in_ok-insert-clause-grows c).In_ok-insert)
+    (record { keys = c.self.inside.keys.keys; learnt = c.self.inside.learnt }) new refl c.in_ok-insert.ensures.updates.0)
 
 pub returns-in_ok-insert-clause-has : goal.returns-in_ok-insert-clause-has
 returns-in_ok-insert-clause-has c matched =
     let at = (goal.at.returns-in_ok-insert-clause-has c).In_ok-insert in
-    subst (HasKey (record { keys = c.insert.new.self.keys; learnt = c.self.inside.learnt })) (key-is-its at) c.in_ok-insert.ensures.updates.1
+    subst (HasKey (record { keys = c.insert.new.self.keys; learnt = c.self.inside.learnt })) (key-is-its at)
+    c.in_ok-insert.ensures.updates.1

@@ -9,6 +9,8 @@ returns-clause-learnt c =
     let alert = c.index-known-self.result in
     let here : alert ≡ get_or c.args.known.now c.args.self.now.learnt alert =
     c.index-known-self.is ∙ ap (λ (s : SourceIndex). get_or c.args.known.now s.learnt alert) c.self.view_is in
-    subst (λ (s : SourceIndex). AreLearnt c.args.rules.now c.args.known.now (record { keys = s.keys; learnt = s.learnt + 1 })) (sym c.self-2.view_is)
-    (learnt_next c.args.rules.now c.args.known.now c.args.self.now c.loop-number.self c.requires.learnt c.loop-number.invariant.0 c.requires.more alert here c.labels-labels.result.now c.labels-labels.ensures.labels
+    subst (λ (s : SourceIndex). AreLearnt c.args.rules.now c.args.known.now (record { keys = s.keys; learnt = s.learnt + 1 }))
+    (sym c.self-2.view_is)
+    (learnt_next c.args.rules.now c.args.known.now c.args.self.now c.loop-number.self c.requires.learnt c.loop-number.invariant.0
+    c.requires.more alert here c.labels-labels.result.now c.labels-labels.ensures.labels
     (λ number rule at matched. c.loop-number.invariant.1 number rule at (omega (arith, at.0, c.loop-number-test.false)) matched))

@@ -4,7 +4,7 @@ use Rattle.std.specs.List.{AllZip}
 use Rattle.am_model.specs.Notice.{NoticeData}
 use Rattle.am_model.specs.declared.notice.Report.{Report}
 use Rattle.am_scenario.specs.Scripts.{IsAsPlanned}
-use Rattle.am_play.specs.Sendings.{IsSentFrom}
+use Rattle.am_pool.specs.Sendings.{IsSentFrom}
 use Rattle.am_scenario.specs.declared.scenario.script.Script.{Script}
 
 -- law: scripts determine the reports on notices that are sent from one moment on

@@ -1,6 +1,6 @@
 -- What the steps of a phase do to the main thread's pass.
 use Rattle.std.specs.Prelude.{◌≡◌, ◌<◌, ◌≤◌, ◌||◌, ℕ, Bool, false, true, All}
-use Rattle.std.specs.Prelude.{List, [], ◌∷◌, ◌++◌, length, map, slice_get, Option, Some, None}
+use Rattle.std.specs.Prelude.{List, [], ◌∷◌, ◌++◌, length, map, slice_get, Some}
 use Rattle.std.specs.List.{AllZip, filter, flat_map}
 use mathlib.Core.List.{IsPrefix}
 use Rattle.am_model.specs.Finish.{is_delivered}
@@ -15,7 +15,7 @@ use Rattle.am_desk.specs.Known.{Seen}
 use Rattle.am_desk.specs.declared.word.Terms.{Terms}
 use Rattle.am_pool.specs.declared.courier.Tried.{Tried}
 use Rattle.am_pool.specs.declared.worker.Job.{Job}
-use Rattle.am_play.specs.Sendings.{IsSentFrom}
+use Rattle.am_pool.specs.Sendings.{IsSentFrom, end_on, note_at}
 use Rattle.am_play.specs.Turns.{Opened, MainSteps, AreNotesWithRoom, AreAllMainStepsOf, BeginsExhausted, FoundDue, AreMainStepsOf}
 use Rattle.am_play.specs.Turns.{opened_by, outcomes_told, last_end, records_in, report_on, reports_on, to_send}
 use Rattle.am_scenario.specs.declared.scenario.Phase.{Phase}
@@ -61,11 +61,6 @@ pub record Begins (t : Terms) (flush more : Bool) (at : ℕ) (p q : Seen) (ts us
 abbrev pub Grows : Terms → Seen → Seen → Type 0
 Grows t p q = (length p.log < length q.log) × (length q.log ≤ t.config.limits.history)
 
--- when the sending of an integration's notice was over, which began at this moment
-abbrev pub end_on : ℕ → Option Report → ℕ
-end_on at None = at
-end_on at (Some r) = r.ended
-
 -- a ticket in which the reports on it are recorded
 abbrev pub recorded_all : List Report → TicketData → TicketData
 recorded_all reports t = record t { outcomes = t.outcomes ++ outcomes_told (reports_on t.number reports) }
@@ -73,10 +68,6 @@ recorded_all reports t = record t { outcomes = t.outcomes ++ outcomes_told (repo
 -- whether a notice of a ticket succeeded, as is recorded there
 abbrev pub is_recorded_success : TicketData → NoticeData → Bool
 is_recorded_success t n = is_nothing n || is_delivered (outcome_of t.outcomes n.integration)
-
--- the note of a notice of a ticket, at this moment and with what is recorded
-abbrev pub note_at : ℕ → TicketData → NoticeData → Call
-note_at now t n = call.Note now t.number n.integration (outcome_of t.outcomes n.integration)
 
 -- the note of a notice of a ticket, when its sending was over
 abbrev pub note_of : ℕ → List Report → TicketData → NoticeData → Call

@@ -19,7 +19,7 @@ use Rattle.am_desk.specs.Calls.{why_begin}
 use Rattle.am_desk.specs.History.{own}
 use Rattle.am_desk.specs.declared.word.Terms.{Terms}
 use Rattle.am_pool.specs.declared.courier.Tried.{Tried}
-use Rattle.am_play.specs.Sendings.{IsSentFrom}
+use Rattle.am_pool.specs.Sendings.{IsSentFrom}
 use Rattle.am_scenario.specs.declared.scenario.Phase.{Phase}
 
 -- a flush that was begun: its number and its notices

@@ -11,7 +11,7 @@ ghost use Rattle.am_pool.specs.Work.{IsReady};
 ghost use Rattle.am_play.specs.Interleaving.{Meets, MeetsAll};
 ghost use Rattle.am_play.specs.Lanes.{call_at};
 ghost use Rattle.am_play.specs.LaneStates.{AfterLanes, AllRan, MadeCalls, Ran, passes_in};
-ghost use Rattle.am_play.specs.Sendings.{IsSendingOf};
+ghost use Rattle.am_pool.specs.Sendings.{IsSendingOf};
 ghost use Rattle.am_play.specs.Steps.{MadeRecords};
 
 use crate::courier::Answering;

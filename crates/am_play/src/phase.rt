@@ -22,7 +22,7 @@ ghost use Rattle.am_play.specs.LaneStates.{HaveMade, MadeLanes, NoneRefused, pas
 ghost use Rattle.am_play.specs.Steps.{Begins, Finishes, FinishesOne, Grows, Notes, NotesAt, Sends};
 ghost use Rattle.am_play.specs.Steps.{notes_of, notes_of_all, opened_of, recorded_all};
 ghost use Rattle.am_play.specs.PhaseFaults.{HasNoFault};
-ghost use Rattle.am_play.specs.Sendings.{IsNotStarved, IsSentFrom};
+ghost use Rattle.am_pool.specs.Sendings.{IsNotStarved, IsSentFrom};
 ghost use Rattle.am_play.specs.Turns.{to_send};
 
 use crate::courier::Answering;

@@ -15,8 +15,8 @@ ghost use Rattle.am_model.specs.Finish.{is_delivered};
 ghost use Rattle.am_model.specs.Notice.{is_nothing};
 ghost use Rattle.am_pool.specs.Delivery.{is_starved};
 ghost use Rattle.am_pool.specs.Work.{IsReady};
-ghost use Rattle.am_play.specs.Sendings.{IsNotStarved, IsSendingOf};
-ghost use Rattle.am_play.specs.Steps.{StartsAt, end_on, notices_of, opened_of};
+ghost use Rattle.am_pool.specs.Sendings.{IsNotStarved, IsSendingOf, end_on};
+ghost use Rattle.am_play.specs.Steps.{StartsAt, notices_of, opened_of};
 ghost use Rattle.am_play.specs.Turns.{last_end, report_on, reports_on, sendable, to_send};
 
 use crate::courier::Answering;

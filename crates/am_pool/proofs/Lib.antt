@@ -5,3 +5,4 @@ pub mod Working
 pub mod Gatherings
 pub mod Placing
 pub mod Sending
+pub mod Determined

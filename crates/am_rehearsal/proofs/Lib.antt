@@ -1,5 +1,16 @@
+pub mod Beginning
+pub mod Calling
+pub mod Coming
+pub mod Delivered
 pub mod Doing
+pub mod Ends
 pub mod Happening
-pub mod Planning
+pub mod Keeping
+pub mod Listing
+pub mod OnePlay
+pub mod Opened
+pub mod Reporting
+pub mod Scenes
 pub mod Standing
+pub mod Stepping
 pub mod Telling

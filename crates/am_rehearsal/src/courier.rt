@@ -1,73 +1,137 @@
 //! A courier that answers as the outages say. `sending` sends by it.
+//!
+//! The outages and the receiver are named by a type (`Outages`), which a caller picks with `Brand`.
+//! So it is known of each such courier how its attempts are answered, though `deliver` says nothing
+//! else of the courier that it was given.
+ghost use Rattle.std.specs.Prelude.{◌≡◌, All, find, option_copied};
+ghost use Rattle.am_pool.specs.Sendings.{IsAnsweredBy};
+ghost use Rattle.am_rehearsal.specs.Answers.{answer_of, covers, is_for, is_over, sent_by};
+
 use crate::rehearsal::Outage;
-use am_board::config::Config;
+use am_alerts::text::Text;
 use am_board::notice::Notice;
 use am_pool::{AttemptTrace, Courier, Sent, Tried};
 use am_retry::Answer;
 use std::alloc::AllocError;
+use std::marker::{Brand, PhantomData};
 
-/// A courier that answers each attempt by the first outage that covers it, and else done at once.
+/// Names the outages of one rehearsal and a receiver in proofs. It has no functions.
+pub(crate) trait Outages {
+    ghost use Rattle.std.specs.Prelude.{ℕ, List};
+    ghost use Rattle.am_rehearsal.specs.declared.rehearsal.Outage.{Outage};
+
+    ghost outages: { List Outage };
+
+    ghost receiver: { List ℕ };
+}
+
+impl Outages for Brand {
+    ghost use Rattle.std.specs.Prelude.{[]};
+
+    ghost outages = { [] };
+
+    ghost receiver = { [] };
+}
+
+/// A courier for one receiver. It answers each attempt by the first outage that covers it, and else
+/// done at once.
 ///
 /// It never refuses an attempt.
 #[derive(Drop)]
-pub(crate) struct OutageCourier<'o> {
-    config: &'o Config,
+pub(crate) struct OutageCourier<'o, O: Outages> {
     outages: &'o [Outage],
+    receiver: &'o Text,
     trace: AttemptTrace,
+    of: PhantomData<O>,
+    ghost given: { outages.now ≡ O.outages },
+    ghost to: { receiver.now ≡ O.receiver },
+    ghost answered: { All (IsAnsweredBy (answer_of O.outages O.receiver)) trace.tries },
+    ghost willing: { trace.refusals ≡ 0 },
 }
 
-impl<'o> OutageCourier<'o> {
-    pub(crate) fn new(config: &'o Config, outages: &'o [Outage]) -> OutageCourier<'o> {
+impl<'o, O: Outages> OutageCourier<'o, O> {
+    pub(crate) fn new(outages: &'o [Outage], receiver: &'o Text) -> OutageCourier<'o, O>
+        requires outages { outages.now ≡ O.outages }
+        requires receiver { receiver.now ≡ O.receiver }
+    {
         OutageCourier {
-            config,
             outages,
+            receiver,
             trace: AttemptTrace::new(),
+            of: PhantomData,
         }
     }
+}
 
-    /// How the attempt at `at` to send a notice goes.
-    fn answer(&self, notice: &Notice, at: u64) -> Sent {
-        let receiver = self.config.route_of(&notice.group).receiver.as_str();
-        let integration = notice.integration;
-        match self
-            .outages
-            .iter()
-            .find(|outage| outage.holds(receiver, integration, at))
-        {
-            None => Sent {
-                answer: Answer::Done,
-                ended: at,
-            },
-            Some(outage) => Sent {
-                answer: outage.answer,
-                ended: at.saturating_add(outage.takes),
-            },
-        }
+/// How the attempt at `at` for an integration of a receiver goes.
+fn answer(outages: &[Outage], receiver: &Text, integration: u32, at: u64) -> Sent
+    ensures { result ≡ sent_by at (find (covers receiver.now integration at) outages.now) }
+{
+    match first_covering(outages, receiver, integration, at) {
+        None => Sent {
+            answer: Answer::Done,
+            ended: at,
+        },
+        Some(outage) => Sent {
+            answer: outage.answer,
+            ended: at.saturating_add(outage.takes),
+        },
     }
+}
+
+/// The first of these outages that covers an attempt at `at` for an integration of a receiver.
+fn first_covering<'o>(
+    outages: &'o [Outage],
+    receiver: &Text,
+    integration: u32,
+    at: u64,
+) -> Option<&'o Outage>
+    ensures { option_copied result ≡ find (covers receiver.now integration at) outages.now }
+{
+    outages
+        .iter()
+        .find(|outage| outage.covers(receiver, integration, at))
 }
 
 impl Outage {
     /// Returns whether it covers an attempt at `at` for this integration of this receiver.
-    fn holds(&self, receiver: &str, integration: u32, at: u64) -> bool {
-        let is_asked = match self.integration {
-            None => true,
-            Some(position) => position == integration,
-        };
-        let is_over = match self.to {
-            None => false,
-            Some(to) => to <= at,
-        };
-        is_asked && self.from <= at && !is_over && self.receiver.as_str() == receiver
+    fn covers(&self, receiver: &Text, integration: u32, at: u64) -> bool
+        ensures { result ≡ covers receiver.now integration at self.now }
+    {
+        let is_asked = is_for(integration, self.integration);
+        let is_past = is_over(at, self.to);
+        let is_same = self.receiver == *receiver;
+        is_asked && self.from <= at && !is_past && is_same
     }
 }
 
-impl Courier for OutageCourier<'_> {
+/// Returns whether an outage of one integration, or of all, is of this one.
+fn is_for(integration: u32, of: Option<u32>) -> bool
+    ensures { result ≡ is_for integration of }
+{
+    match of {
+        None => true,
+        Some(position) => position == integration,
+    }
+}
+
+/// Returns whether a span that ends at some time, or never, is over.
+fn is_over(at: u64, to: Option<u64>) -> bool
+    ensures { result ≡ is_over at to }
+{
+    match to {
+        None => false,
+        Some(to) => to <= at,
+    }
+}
+
+impl<O: Outages> Courier for OutageCourier<'_, O> {
     ghost tries = { λ c. c.trace.tries };
 
     ghost refusals = { λ c. c.trace.refusals };
 
     fn send(&mut self, notice: &Notice, attempt: u64, at: u64) -> Result<Sent, AllocError> {
-        let sent = self.answer(notice, at);
+        let sent = answer(self.outages, self.receiver, notice.integration, at);
         let tried = Tried::new(notice, attempt, at, &sent);
         self.trace.add_try(&tried);
         Ok(sent)

@@ -1,9 +1,18 @@
-//! The limits of a rehearsal, as a law that verifiers read.
+//! The limits of a rehearsal, and that it has one play, as laws that verifiers read.
 ghost use Rattle.std.specs.Prelude.{◌≡◌};
+ghost use Rattle.am_rehearsal.specs.Laws.{RehearsalsHaveOnePlay};
 ghost use Rattle.am_rehearsal.specs.declared.limits.TheConstants.{BOARD_ID, MAX_UNTIL};
 
 /// States the latest end of a rehearsal, and the id of its board.
 pub fn limits_are()
     ensures until { MAX_UNTIL ≡ 31_622_400_000 }
     ensures id { BOARD_ID ≡ 1 }
+{}
+
+/// States that a rehearsal has one play.
+///
+/// Its configuration, plans, end, time between maintenances and outages determine the board and the
+/// events to which it comes.
+pub fn rehearsals_have_one_play()
+    ensures { RehearsalsHaveOnePlay }
 {}

@@ -8,10 +8,12 @@ mod courier;
 pub mod event;
 mod law;
 mod limits;
+mod next;
 pub mod play;
 mod previewing;
 pub mod rehearsal;
 mod sending;
+mod ticket;
 
-pub use law::limits_are;
+pub use law::{limits_are, rehearsals_have_one_play};
 pub use limits::{BOARD_ID, MAX_UNTIL};

@@ -1,33 +1,44 @@
 //! The clock of a rehearsal. `am_rehearse` calls `play`.
 //!
-//! `run_plans` goes over the planned actions in the order of their times. Before each, `run_before`
-//! does what comes first of: the next end of a sending, the next maintenance, the time at which the
-//! next group is due (`Board::next_due`). At one time the ends of sendings come first, then alerts
-//! and silences, then maintenance, then begins, so a begin sees everything of its time. All of
-//! these are calls of a board: this module decides only when they are made.
+//! A rehearsal goes step by step: `next` says what comes next, `step` does it. A step is the end of
+//! the sending of a notice, the finish of a flush, a planned action, a maintenance or a begin. The
+//! earliest comes first, and of one time in this order, so a begin sees everything of its time. A
+//! begin that took a group is followed by another at once. All steps but the ends of failed
+//! sendings are calls of a board: this module decides only when they are made.
 //!
 //! Answers of outages depend on the time alone. So the notices of a flush are sent by `deliver` as
 //! soon as it is begun, and their reports wait until the clock comes to their ends. When as many
 //! flushes are open as the limit allows, groups stay due, and no begin is tried until a flush is
 //! finished.
-ghost use Rattle.std.specs.Prelude.{◌≡◌, ◌<◌, ◌≤◌, ◌∷◌, [], IfOk, IfSome, IsSome, None, length, vec_len, vec_capacity};
+ghost use Rattle.std.specs.Prelude.{◌≡◌, ◌<◌, ◌≤◌, ◌++◌, IfOk, OnOk, None, Some, if◌then◌else◌, length, slice_get, vec_len, vec_capacity};
 ghost use Rattle.std.specs.List.{range_with_len};
+ghost use Rattle.std.specs.Option.{IsSomeAnd};
 ghost use Rattle.am_alerts.specs.declared.limits.TheConstants.{MAX_MOMENT};
+ghost use Rattle.am_rehearsal.specs.Courses.{scene_in, setting_in};
 ghost use Rattle.am_rehearsal.specs.EventOrder.{begin_indices};
-ghost use Rattle.am_rehearsal.specs.Planned.{inputs_in, call_of, input_trace, no_inputs, planned, with_inputs};
+ghost use Rattle.am_rehearsal.specs.Next.{begins_on, next, next_but_begins, next_begin, next_plan};
+ghost use Rattle.am_rehearsal.specs.Planned.{inputs_in, planned};
+ghost use Rattle.am_rehearsal.specs.Play.{setting_of, PlaysTo, Reaches};
 ghost use Rattle.am_rehearsal.specs.Previews.{previews_of};
+ghost use Rattle.am_rehearsal.specs.Scene.{opening_scene, setting_with};
+ghost use Rattle.am_rehearsal.specs.Steps.{after_plan, is_success, sent_events, with_note, with_report, IsDone, IsSendingAdded, Steps};
 ghost use Rattle.am_rehearsal.specs.declared.limits.TheConstants.{BOARD_ID, MAX_UNTIL};
+ghost use Rattle.am_rehearsal.specs.declared.next.Step.TheVariants as step;
 
-use crate::courier::OutageCourier;
 use crate::event::{Event, PreviewedBegin};
-use crate::previewing::{OwnTicket, PreviewingBoard, Taken};
-use crate::rehearsal::{Action, Outage, Rehearsal, TimedAction};
-use crate::sending::{End, Sending, earlier, ends_of};
+use crate::next::{End, Next, Step, comes_by, earlier, in_time};
+use crate::previewing::PreviewingBoard;
+use crate::rehearsal::{Outage, Rehearsal, TimedAction};
+use crate::sending::{Sending, ends_of, next_end, next_finish};
+use crate::ticket::{OwnTicket, Taken};
 use am_board::board::Board;
-use am_board::config::{Config, MAX_HISTORY};
-use am_board::fault::{BoardFault, Fault, NoteFault};
+use am_board::config::Config;
+use am_board::fault::{BoardFault, Fault};
+use am_board::notice::Report;
 use am_retry::Outcome;
 use std::alloc::{AllocError, Global};
+use std::collections::VecDeque;
+use std::marker::Brand;
 
 /// A rehearsal that ran to its end: its board, the previews of its begins, and its events in order.
 #[derive(Drop)]
@@ -55,7 +66,9 @@ pub enum PlayFault {
 /// Clause `planned`: the inserts and silences of the history are the planned ones, in order and at
 /// their times, up to the first that is after the end. Clause `previews`: the reasons of each begin
 /// are those that the history before it gives. Clause `begun`: the events have each begin that took
-/// a group, once and in order. The board has the id `BOARD_ID`.
+/// a group, once and in order. Clause `played`: board and events are those to which the rehearsal
+/// plays (`PlaysTo`), step by step. `law::rehearsals_have_one_play`: there is only one such pair. The
+/// board has the id `BOARD_ID`.
 ///
 /// # Errors
 ///
@@ -74,6 +87,8 @@ pub fn play(alloc: Global, rehearsal: Rehearsal) -> Result<Played, PlayFault>
     ensures previews { IfOk result (λ played. played.begins.items ≡ previews_of played.board.config played.board.history) }
     ensures begun { IfOk result (λ played.
         begin_indices played.events.items ≡ range_with_len 0 (vec_len played.begins)) }
+    ensures played { IfOk result (λ played.
+        PlaysTo (setting_of rehearsal) rehearsal.config rehearsal.plans.items played.board played.events.items) }
 {
     let Rehearsal {
         config,
@@ -82,25 +97,14 @@ pub fn play(alloc: Global, rehearsal: Rehearsal) -> Result<Played, PlayFault>
         plans,
         outages,
     } = rehearsal;
-    let mut course = Course::open(alloc, config, outages.as_slice(), maintain)?;
-    course.run_plans(plans, until);
-    course.run_before(until + 1);
-    course.end_all();
-    course.close()
-}
-
-/// What comes next, and when.
-#[derive(Clone, Copy)]
-struct Next {
-    at: u64,
-    what: Step,
-}
-
-#[derive(Clone, Copy, PartialEq, Eq)]
-enum Step {
-    Ends,
-    Maintenance,
-    Begins,
+    let mut course = Course::open(alloc, config, until, maintain, plans, outages.as_slice())?;
+    match course.run() {
+        Ok(()) => Ok(course.into_played()),
+        Err(fault) => {
+            course.abandon();
+            Err(fault)
+        }
+    }
 }
 
 /// A rehearsal that is being played.
@@ -108,395 +112,356 @@ struct Course<'o> {
     alloc: Global,
     board: PreviewingBoard,
     outages: &'o [Outage],
+    /// The last time of plans, maintenances and begins.
+    until: u64,
     maintain: u64,
+    /// How many actions were planned.
+    count: usize,
+    /// The planned actions that are still to come.
+    plans: VecDeque<TimedAction>,
     /// In the order of their begins.
     sendings: Vec<Sending>,
     /// The current time.
     clock: u64,
     next_maintenance: u64,
+    /// Whether a begin has just taken a group, so another comes at once.
+    is_beginning: bool,
     /// Whether the limit of open flushes is reached.
     is_blocked: bool,
-    trouble: Option<PlayFault>,
 }
 
 impl<'o> Course<'o> {
+    /// A rehearsal at its start.
     fn open(
         alloc: Global,
         config: Config,
-        outages: &'o [Outage],
+        until: u64,
         maintain: u64,
+        plans: Vec<TimedAction>,
+        outages: &'o [Outage],
     ) -> Result<Course<'o>, PlayFault>
-        ensures { IfOk result (λ course. input_trace course.board.board ≡ no_inputs config) }
+        ensures setting { IfOk result (λ course. setting_in course ≡ setting_with until maintain outages.now) }
+        ensures scene { IfOk result (λ course.
+            scene_in course ≡ opening_scene (setting_with until maintain outages.now) config plans.items) }
     {
         Ok(Course {
             alloc,
             board: PreviewingBoard::new(alloc, config)?,
             outages,
+            until,
             maintain,
+            count: plans.len(),
+            plans: VecDeque::from_vec(plans),
             sendings: Vec::new(alloc),
             clock: 0,
             next_maintenance: maintain,
+            is_beginning: false,
             is_blocked: false,
-            trouble: None,
         })
     }
 
-    /// Does what is planned up to the end, and plays what comes before it.
-    fn run_plans(&mut self, plans: Vec<TimedAction>, until: u64)
-        requires { until ≤ MAX_UNTIL }
-        ensures { self.new.trouble ≡ None → (self.old.trouble ≡ None)
-            × (input_trace self.new.board.board ≡ with_inputs (input_trace self.old.board.board) (planned until plans.items)) }
-    {
-        for (index, plan) in plans.into_iter().enumerate() {
-            if plan.at > until {
-                return;
-            }
-            // Nothing comes between two plans of one moment.
-            if plan.at > self.clock {
-                self.run_before(plan.at);
-            }
-            self.act(index, plan);
-        }
-    }
-
-    /// Does what comes before `at`, and the ends of sendings at that time.
-    fn run_before(&mut self, at: u64)
-        requires { at ≤ MAX_MOMENT }
-        ensures input_trace { input_trace self.new.board.board ≡ input_trace self.old.board.board }
-        ensures trouble { self.new.trouble ≡ None → self.old.trouble ≡ None }
+    /// Plays to the end.
+    fn run(&mut self) -> Result<(), PlayFault>
+        requires { self.old.until ≤ MAX_UNTIL }
+        ensures reached { OnOk result (Reaches (setting_in self.old) (scene_in self.old) (scene_in self.new)) }
+        ensures over { OnOk result (next (setting_in self.old) (scene_in self.new) ≡ None) }
     {
         for _ in 0..u64::MAX {
-            if self.trouble.is_some() {
-                return;
-            }
-            let next = self.next();
-            match next.what {
-                Step::Ends if next.at <= at => self.tell_ends(next.at),
-                Step::Maintenance if next.at < at => self.make_maintenance(next.at),
-                Step::Begins if next.at < at => self.begin_all(next.at),
-                _ => return,
+            match self.next() {
+                None => return Ok(()),
+                Some(next) => self.step(next)?,
             }
         }
+        Err(PlayFault::Full)
     }
 
-    /// Plays the ends of what is being sent, and nothing else.
-    fn end_all(&mut self)
-        ensures input_trace { input_trace self.new.board.board ≡ input_trace self.old.board.board }
-        ensures trouble { self.new.trouble ≡ None → self.old.trouble ≡ None }
+    /// Returns the next step, if there is one.
+    fn next(&self) -> Option<Next>
+        ensures { result ≡ next (setting_in self.now) (scene_in self.now) }
     {
-        for _ in 0..u64::MAX {
-            match first_end(self.sendings.as_slice()) {
-                Some(at) if self.trouble.is_none() => self.tell_ends(at),
-                _ => return,
-            }
+        if self.begins_on() {
+            return Some(Next {
+                at: self.clock,
+                what: Step::Begin,
+            });
+        }
+        let first = self.next_but_begins();
+        // No begin comes before the current time. So none is looked for.
+        if comes_by(self.clock, first) {
+            return first;
+        }
+        earlier(first, self.next_begin())
+    }
+
+    /// Returns whether a begin has just taken a group, and another comes at once.
+    fn begins_on(&self) -> bool
+        ensures { result ≡ begins_on (setting_in self.now) (scene_in self.now) }
+    {
+        self.is_beginning && self.clock <= self.until
+    }
+
+    /// Returns the next step that is no begin, if there is one.
+    fn next_but_begins(&self) -> Option<Next>
+        ensures { result ≡ next_but_begins (setting_in self.now) (scene_in self.now) }
+    {
+        let sendings = self.sendings.as_slice();
+        let over = earlier(next_end(0, sendings), next_finish(self.clock, 0, sendings));
+        let maintenance = in_time(self.until, self.next_maintenance, Step::Maintenance);
+        earlier(over, earlier(self.next_plan(), maintenance))
+    }
+
+    fn next_plan(&self) -> Option<Next>
+        ensures { result ≡ next_plan self.now.until self.now.plans.items }
+    {
+        match self.plans.front() {
+            None => None,
+            Some(plan) => in_time(self.until, plan.at, Step::Plan),
         }
     }
 
-    /// Returns what comes next, and when. At one time ends come first, and begins last.
-    fn next(&self) -> Next {
-        let mut next = Next {
-            at: self.next_maintenance,
-            what: Step::Maintenance,
-        };
-        if let Some(due) = self.next_begins() {
-            if due < next.at {
-                next = Next {
-                    at: due,
-                    what: Step::Begins,
-                };
-            }
-        }
-        match first_end(self.sendings.as_slice()) {
-            Some(at) if at <= next.at => Next {
-                at,
-                what: Step::Ends,
-            },
-            _ => next,
-        }
-    }
-
-    /// When the next group can be begun.
-    fn next_begins(&self) -> Option<u64> {
+    /// Returns the begin of the group that is due next, if no begin waits for a finish.
+    fn next_begin(&self) -> Option<Next>
+        ensures { result ≡ next_begin (setting_in self.now) (scene_in self.now) }
+    {
         if self.is_blocked {
             return None;
         }
         match self.board.next_due() {
             None => None,
-            Some(due) => Some(due.max(self.clock)),
+            Some(due) => in_time(self.until, due.max(self.clock), Step::Begin),
         }
     }
 
-    /// Does what is planned, which is the plan at this place.
-    fn act(&mut self, index: usize, plan: TimedAction)
-        ensures { self.new.trouble ≡ None → (self.old.trouble ≡ None)
-            × (input_trace self.new.board.board ≡ with_inputs (input_trace self.old.board.board) (call_of plan.at plan.act ∷ [])) }
+    /// Does the next step.
+    fn step(&mut self, coming: Next) -> Result<(), PlayFault>
+        requires until { self.old.until ≤ MAX_UNTIL }
+        requires comes { next (setting_in self.old) (scene_in self.old) ≡ Some coming }
+        ensures same { setting_in self.new ≡ setting_in self.old }
+        ensures done { OnOk result (Steps (setting_in self.old) (scene_in self.old) (scene_in self.new)) }
     {
-        if self.trouble.is_some() {
-            return;
+        match coming.what {
+            Step::End(position, index) => self.end(position, index),
+            Step::Finish(position) => {
+                self.finish(position);
+                Ok(())
+            }
+            Step::Plan => match self.plans.pop_front() {
+                None => unreachable!(),
+                Some(plan) => self.act(plan),
+            },
+            Step::Maintenance => self.make_maintenance(coming.at),
+            Step::Begin => self.begin(coming.at),
         }
+    }
+
+    /// Hands the board the end at an index of the flush at a position.
+    fn end(&mut self, position: usize, index: usize) -> Result<(), PlayFault>
+        requires { IsSomeAnd (slice_get self.old.sendings.items position) (λ s. index < length s.ends) }
+        ensures same { setting_in self.new ≡ setting_in self.old }
+        ensures done { OnOk result (IsDone (setting_in self.old) (scene_in self.old) 0 (scene_in self.new) (step.End position index)) }
+    {
+        let sending = &mut self.sendings[position];
+        let end = sending.take_end(index);
+        self.clock = end.at;
+        report_end(self.alloc, &mut self.board, sending, end)?;
+        Ok(())
+    }
+
+    /// Finishes the flush at a position.
+    fn finish(&mut self, position: usize)
+        requires { position < vec_len self.old.sendings }
+        ensures same { setting_in self.new ≡ setting_in self.old }
+        ensures done { IsDone (setting_in self.old) (scene_in self.old) 0 (scene_in self.new) (step.Finish position) }
+        ensures left { vec_len self.new.sendings < vec_len self.old.sendings }
+    {
+        let sending = self.sendings.remove(position);
+        let Sending {
+            own,
+            begin: _,
+            ends: _,
+        } = sending;
+        self.is_blocked = false;
+        self.board.finish(own, self.clock);
+    }
+
+    /// Does what was planned, which is planned no more.
+    fn act(&mut self, plan: TimedAction) -> Result<(), PlayFault>
+        ensures same { setting_in self.new ≡ setting_in self.old }
+        ensures done { OnOk result (scene_in self.new ≡ after_plan (scene_in self.old) plan self.old.plans.items) }
+    {
         let TimedAction { at, act } = plan;
         self.clock = at;
-        let done = match act {
-            Action::Insert(alert) => self.board.insert(self.alloc, at, alert),
-            Action::Silence(silence) => self.board.silence(self.alloc, at, silence),
-        };
-        if let Err(fault) = done {
-            self.refuse(fault, PlayFault::PlanFull(index));
+        match self.board.act(self.alloc, at, act) {
+            Ok(()) => Ok(()),
+            Err(Fault::NoMemory) => Err(PlayFault::NoMemory),
+            Err(_) => {
+                let index = self.count.saturating_sub(self.plans.len() + 1);
+                Err(PlayFault::PlanFull(index))
+            }
         }
     }
 
-    fn make_maintenance(&mut self, at: u64)
-        ensures { input_trace self.new.board.board ≡ input_trace self.old.board.board }
+    fn make_maintenance(&mut self, at: u64) -> Result<(), PlayFault>
+        ensures same { setting_in self.new ≡ setting_in self.old }
+        ensures done { OnOk result (IsDone (setting_in self.old) (scene_in self.old) at (scene_in self.new) step.Maintenance) }
     {
         self.clock = at;
         self.next_maintenance = at.saturating_add(self.maintain);
-        if let Err(fault) = self.board.maintain(self.alloc, at) {
-            self.refuse(fault, PlayFault::Full);
+        match self.board.maintain(self.alloc, at) {
+            Ok(()) => Ok(()),
+            Err(fault) => Err(full_or_memory(fault)),
         }
     }
 
-    /// Ends the rehearsal with want of memory, or with this.
-    fn refuse(&mut self, fault: Fault, otherwise: PlayFault)
-        ensures board { self.new.board ≡ self.old.board }
-        ensures trouble { IsSome self.new.trouble }
-    {
-        self.trouble = Some(match fault {
-            Fault::NoMemory => PlayFault::NoMemory,
-            _ => otherwise,
-        });
-    }
-
-    /// Begins flushes until no group is due, or the limit of open flushes is reached.
-    fn begin_all(&mut self, at: u64)
+    /// Begins a flush.
+    fn begin(&mut self, at: u64) -> Result<(), PlayFault>
         requires { at ≤ MAX_MOMENT }
-        ensures { input_trace self.new.board.board ≡ input_trace self.old.board.board }
+        ensures same { setting_in self.new ≡ setting_in self.old }
+        ensures done { OnOk result (IsDone (setting_in self.old) (scene_in self.old) at (scene_in self.new) step.Begin) }
     {
+        self.sendings.reserve(1)?;
         self.clock = at;
-        // Each begin leaves a record: the history is full before this ends.
-        for _ in 0..MAX_HISTORY + 1 {
-            if !self.begin(at) {
-                return;
-            }
-        }
-    }
-
-    /// Begins a flush. Returns whether a further begin can take a group.
-    fn begin(&mut self, at: u64) -> bool
-        requires { at ≤ MAX_MOMENT }
-        ensures { input_trace self.new.board.board ≡ input_trace self.old.board.board }
-    {
-        if self.sendings.reserve(1).is_err() {
-            self.trouble = Some(PlayFault::NoMemory);
-            return false;
-        }
         let begin = self.board.taken();
         match self.board.begin(self.alloc, at) {
-            Ok(Taken::Nothing) => false,
-            Ok(Taken::Quiet) => true,
+            Ok(Taken::Nothing) => {
+                self.is_beginning = false;
+                Ok(())
+            }
+            Ok(Taken::Quiet) => {
+                self.is_beginning = true;
+                Ok(())
+            }
             Ok(Taken::Flush(own)) => {
-                self.send(begin, own, at);
-                true
+                self.is_beginning = true;
+                self.send(begin, own, at)
             }
             // The groups that are left stay due.
             Err(Fault::TooManyOpen) => {
+                self.is_beginning = false;
                 self.is_blocked = true;
-                false
+                Ok(())
             }
-            Err(fault) => {
-                self.refuse(fault, PlayFault::Full);
-                false
-            }
+            Err(fault) => Err(full_or_memory(fault)),
         }
     }
 
     /// Sends the notices of a flush from `at` on.
-    fn send(&mut self, begin: usize, own: OwnTicket, at: u64)
+    fn send(&mut self, begin: usize, own: OwnTicket, at: u64) -> Result<(), PlayFault>
         requires moment { at ≤ MAX_MOMENT }
         requires room { vec_len self.old.sendings < vec_capacity self.old.sendings }
-        ensures { input_trace self.new.board.board ≡ input_trace self.old.board.board }
+        ensures same { setting_in self.new ≡ setting_in self.old }
+        ensures sent { OnOk result (IsSendingAdded (setting_in self.old) at own.ticket begin (scene_in self.old) (scene_in self.new)) }
     {
-        let mut courier = OutageCourier::new(self.board.config(), self.outages);
-        let ends = match ends_of(self.alloc, &mut courier, own.ticket(), at) {
-            Ok(ends) => ends,
+        let ticket = own.ticket();
+        let receiver = &self.board.config().route_of(ticket.group()).receiver;
+        match ends_of::<Brand>(self.alloc, self.outages, receiver, ticket, at) {
+            Ok(ends) => {
+                self.sendings.push_reserved(Sending { own, begin, ends });
+                Ok(())
+            }
             Err(_) => {
-                self.trouble = Some(PlayFault::NoMemory);
-                Vec::new(self.alloc)
-            }
-        };
-        self.sendings.push_reserved(Sending { own, begin, ends });
-    }
-
-    /// Hands the board the ends of sendings that have come at `at`, and finishes the flushes that
-    /// are over.
-    fn tell_ends(&mut self, at: u64)
-        ensures { input_trace self.new.board.board ≡ input_trace self.old.board.board }
-    {
-        self.clock = at;
-        let answer = tell_all(
-            self.alloc,
-            &mut self.board,
-            self.sendings.as_mut_slice(),
-            at,
-        );
-        if let Err(fault) = answer {
-            self.trouble = Some(fault);
-            return;
-        }
-        self.finish_over(at);
-    }
-
-    /// Finishes the flushes of which all notices have come to their ends.
-    fn finish_over(&mut self, at: u64)
-        ensures { input_trace self.new.board.board ≡ input_trace self.old.board.board }
-    {
-        while let Some(place) = first_over(self.sendings.as_slice()) {
-            let sending = self.sendings.remove(place);
-            self.is_blocked = false;
-            if !finish(&mut self.board, sending, at) {
-                self.trouble = Some(PlayFault::Full);
+                self.board.finish(own, at);
+                Err(PlayFault::NoMemory)
             }
         }
     }
 
-    /// Finishes the flushes that are open, as they are.
-    fn finish_all(&mut self)
-        ensures none { vec_len self.new.sendings ≡ 0 }
-        ensures input_trace { input_trace self.new.board.board ≡ input_trace self.old.board.board }
-        ensures trouble { self.new.trouble ≡ None → self.old.trouble ≡ None }
+    /// What was played to its end.
+    fn into_played(self) -> Played
+        requires { vec_len self.sendings ≡ 0 }
+        ensures board { result.board ≡ self.entry.board.board }
+        ensures events { result.events.items ≡ self.entry.board.events.items }
+        ensures ours { result.board.id ≡ BOARD_ID }
+        ensures previews { result.begins.items ≡ previews_of result.board.config result.board.history }
+        ensures begun { begin_indices result.events.items ≡ range_with_len 0 (vec_len result.begins) }
     {
-        while !self.sendings.is_empty() {
-            let sending = self.sendings.remove(0);
-            if !finish(&mut self.board, sending, self.clock) {
-                self.trouble = Some(PlayFault::Full);
-            }
-        }
-    }
-
-    /// What was played. Where it wasn't played to its end, the flushes that are open are finished as
-    /// they are.
-    fn close(mut self) -> Result<Played, PlayFault>
-        ensures trouble { IfOk result (λ _. self.entry.trouble ≡ None) }
-        ensures input_trace { IfOk result (λ played. input_trace played.board ≡ input_trace self.entry.board.board) }
-        ensures ours { IfOk result (λ played. played.board.id ≡ BOARD_ID) }
-        ensures previews { IfOk result (λ played. played.begins.items ≡ previews_of played.board.config played.board.history) }
-        ensures begun { IfOk result (λ played.
-            begin_indices played.events.items ≡ range_with_len 0 (vec_len played.begins)) }
-    {
-        self.finish_all();
         let Course {
             alloc: _,
             board,
             outages: _,
+            until: _,
             maintain: _,
+            count: _,
+            plans: _,
             sendings,
             clock: _,
             next_maintenance: _,
+            is_beginning: _,
             is_blocked: _,
-            trouble,
         } = self;
         sendings.destroy_empty();
-        match trouble {
-            Some(fault) => Err(fault),
-            None => {
-                let (board, begins, events) = board.into_parts();
-                Ok(Played {
-                    board,
-                    begins,
-                    events,
-                })
-            }
+        let (board, begins, events) = board.into_parts();
+        Played {
+            board,
+            begins,
+            events,
         }
     }
-}
 
-/// Finishes a flush. Answers whether it was open.
-fn finish(board: &mut PreviewingBoard, sending: Sending, at: u64) -> bool
-    ensures { input_trace board.new.board ≡ input_trace board.old.board }
-{
-    let Sending {
-        own,
-        begin: _,
-        ends: _,
-    } = sending;
-    board.finish(own, at)
-}
-
-/// The place of the first flush of which all notices have come to their ends.
-fn first_over(sendings: &[Sending]) -> Option<usize>
-    ensures { IfSome result (λ place. place < length sendings.now) }
-{
-    sendings
-        .iter()
-        .position(|sending| sending.next_end().is_none())
-}
-
-/// Returns the first end of a notice that the board doesn't have, if there is one.
-fn first_end(sendings: &[Sending]) -> Option<u64> {
-    let mut first: Option<u64> = None;
-    for sending in sendings {
-        if let Some(at) = sending.next_end() {
-            first = Some(earlier(at, first));
+    /// Finishes the open flushes as they are, and gives up.
+    fn abandon(mut self) {
+        while !self.sendings.is_empty() {
+            self.finish(0);
         }
+        let _ = self.into_played();
     }
-    first
 }
 
-/// Hands the board the ends of these sendings that have come at `at`.
-fn tell_all(
-    alloc: Global,
-    board: &mut PreviewingBoard,
-    sendings: &mut [Sending],
-    at: u64,
-) -> Result<(), PlayFault>
-    ensures { input_trace board.new.board ≡ input_trace board.old.board }
-{
-    for sending in sendings.iter_mut() {
-        tell_ends_of(alloc, board, sending, at)?;
-    }
-    Ok(())
-}
-
-/// Hands the board the ends of a sending that have come at `at`.
-fn tell_ends_of(
+/// Records the end of a notice of a flush, and notes a success.
+fn report_end(
     alloc: Global,
     board: &mut PreviewingBoard,
     sending: &mut Sending,
-    at: u64,
-) -> Result<(), PlayFault>
-    ensures { input_trace board.new.board ≡ input_trace board.old.board }
-{
-    for place in 0..sending.ends.len() {
-        let end = sending.ends[place];
-        if !end.is_told && end.at <= at {
-            sending.ends[place].is_told = true;
-            tell_end(alloc, board, sending, place, end)?;
-        }
-    }
-    Ok(())
-}
-
-/// Records the end of the notice at a place, and notes a success.
-fn tell_end(
-    alloc: Global,
-    board: &mut PreviewingBoard,
-    sending: &mut Sending,
-    place: usize,
     end: End,
-) -> Result<(), PlayFault>
-    ensures ends { sending.new.ends ≡ sending.old.ends }
-    ensures input_trace { input_trace board.new.board ≡ input_trace board.old.board }
+) -> Result<(), AllocError>
+    ensures sending { OnOk result (sending.new ≡ record (sending.old) { ticket = with_report end.report sending.old.ticket }) }
+    ensures events { OnOk result (board.new.events.items ≡ board.old.events.items ++ sent_events sending.old.begin end.report) }
+    ensures board { OnOk result (board.new.board
+        ≡ (if is_success end.report then with_note end.at (with_report end.report sending.old.ticket) end.place board.old.board
+        else board.old.board)) }
 {
-    if let Some(report) = end.report {
-        board.keep_sent(sending.begin, report)?;
-        sending.own.record(report);
-        if report.outcome != Outcome::Delivered {
-            return Ok(());
+    keep_report(board, sending, end.report)?;
+    if is_success(end.report) {
+        return board.note(alloc, &sending.own, end.place, end.at);
+    }
+    Ok(())
+}
+
+/// Keeps the report on a notice of a flush, if there is one.
+fn keep_report(
+    board: &mut PreviewingBoard,
+    sending: &mut Sending,
+    report: Option<Report>,
+) -> Result<(), AllocError>
+    ensures sending { OnOk result (sending.new ≡ record (sending.old) { ticket = with_report report sending.old.ticket }) }
+    ensures events { OnOk result (board.new.events.items ≡ board.old.events.items ++ sent_events sending.old.begin report) }
+    ensures board { board.new.board ≡ board.old.board }
+{
+    match report {
+        None => Ok(()),
+        Some(report) => {
+            board.keep_sent(sending.begin, report)?;
+            sending.own.record(report);
+            Ok(())
         }
     }
-    match board.note(alloc, &sending.own, place, end.at) {
-        Ok(()) | Err(NoteFault::HistoryFull) => Ok(()),
-        Err(NoteFault::NoMemory) => Err(PlayFault::NoMemory),
-        Err(_) => Err(PlayFault::Full),
+}
+
+/// Whether a sending that came to this end is a success.
+fn is_success(report: Option<Report>) -> bool
+    ensures { result ≡ is_success report }
+{
+    match report {
+        None => true,
+        Some(report) => report.outcome == Outcome::Delivered,
+    }
+}
+
+/// Why a call that isn't planned is refused.
+fn full_or_memory(fault: Fault) -> PlayFault {
+    match fault {
+        Fault::NoMemory => PlayFault::NoMemory,
+        _ => PlayFault::Full,
     }
 }
 

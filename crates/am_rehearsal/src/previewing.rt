@@ -3,18 +3,25 @@
 //! `PreviewingBoard` asks for the preview before it begins. By its invariant the previews are those
 //! that the definitions give for its history (`Previews`). Each of these begins is once among the
 //! events, in order (`EventOrder`).
-ghost use Rattle.std.specs.Prelude.{◌≡◌, ◌≤◌, ◌+◌, ◌++◌, ◌∷◌, [], IfOk, vec_len, vec_capacity};
+ghost use Rattle.std.specs.Prelude.{◌≡◌, ◌≤◌, ◌+◌, ◌++◌, ◌∷◌, [], Some, None, IfOk, IfErr, OnOk, OnErr, length, vec_len, vec_capacity};
 ghost use Rattle.std.specs.List.{range_with_len};
-ghost use Rattle.am_board.specs.History.{reply_of, IsFresh};
+ghost use Rattle.am_board.specs.History.{opening, reply_of, state_at, IsFresh};
+ghost use Rattle.am_model.specs.Begin.{next_due};
 ghost use Rattle.am_model.specs.Records.{call_of_silence};
-ghost use Rattle.am_model.specs.declared.record.Call.TheVariants.{Insert};
+ghost use Rattle.am_model.specs.declared.fault.Fault.TheVariants.{TooManyOpen};
+ghost use Rattle.am_model.specs.declared.record.Call.TheVariants as call;
 ghost use Rattle.am_rehearsal.specs.EventOrder.{begin_indices};
-ghost use Rattle.am_rehearsal.specs.Planned.{input_trace, no_inputs, with_inputs};
+ghost use Rattle.am_rehearsal.specs.Planned.{call_of, input_trace, no_inputs, with_inputs};
 ghost use Rattle.am_rehearsal.specs.Previews.{takes_group, previews_of, preview_where};
+ghost use Rattle.am_rehearsal.specs.Steps.{with_call, with_note};
+ghost use Rattle.am_rehearsal.specs.Taking.{begun_where, why_not, IsOwn, IsTaken};
+ghost use Rattle.am_rehearsal.specs.declared.event.Event.TheVariants.{Sent};
 ghost use Rattle.am_rehearsal.specs.declared.limits.TheConstants.{BOARD_ID};
 
 use crate::event::{Event, PreviewedBegin};
 use crate::limits::BOARD_ID;
+use crate::rehearsal::Action;
+use crate::ticket::{OwnTicket, Taken};
 use am_alerts::alert::Alert;
 use am_board::begin::Begun;
 use am_board::board::Board;
@@ -22,7 +29,6 @@ use am_board::config::Config;
 use am_board::fault::{BoardFault, Fault, FinishFault, NoteFault};
 use am_board::notice::Report;
 use am_board::preview::Preview;
-use am_board::ticket::Ticket;
 use am_mute::silence::Silence;
 use std::alloc::{AllocError, Global};
 
@@ -40,37 +46,12 @@ pub(crate) struct PreviewingBoard {
     ghost begun: { begin_indices events.items ≡ range_with_len 0 (vec_len begins) },
 }
 
-/// A ticket that the board gave.
-pub(crate) struct OwnTicket {
-    ticket: Ticket,
-    ghost ours: { ticket.desk ≡ BOARD_ID },
-}
-
-/// What a begin came to. A ticket must be spent.
-pub(crate) enum Taken {
-    /// No group is due.
-    Nothing,
-    /// A group was taken, and no integration is notified.
-    Quiet,
-    /// A flush was opened.
-    Flush(OwnTicket),
-}
-
-impl OwnTicket {
-    pub(crate) fn ticket(&self) -> &Ticket {
-        &self.ticket
-    }
-
-    /// Records how a notice went. A report on another notice changes nothing, nor does a second one.
-    pub(crate) fn record(&mut self, report: Report) {
-        let _ = self.ticket.record(report);
-    }
-}
-
 impl PreviewingBoard {
     /// A board of this configuration, with nothing in it.
     pub(crate) fn new(alloc: Global, config: Config) -> Result<PreviewingBoard, BoardFault>
-        ensures { IfOk result (λ opened. input_trace opened.board ≡ no_inputs config) }
+        ensures input_trace { IfOk result (λ opened. input_trace opened.board ≡ no_inputs config) }
+        ensures board { IfOk result (λ opened. opened.board ≡ opening config BOARD_ID) }
+        ensures events { IfOk result (λ opened. opened.events.items ≡ []) }
     {
         let board = Board::new(alloc, config, BOARD_ID)?;
         Ok(PreviewingBoard {
@@ -86,6 +67,7 @@ impl PreviewingBoard {
         ensures ours { result.0.id ≡ BOARD_ID }
         ensures previews { result.1.items ≡ previews_of result.0.config result.0.history }
         ensures begun { begin_indices result.2.items ≡ range_with_len 0 (vec_len result.1) }
+        ensures events { result.2.items ≡ self.events.items }
     {
         let PreviewingBoard {
             board,
@@ -95,37 +77,61 @@ impl PreviewingBoard {
         (board, begins, events)
     }
 
-    pub(crate) fn config(&self) -> &Config {
+    pub(crate) fn config(&self) -> &Config
+        ensures { result.now ≡ self.now.board.config }
+    {
         self.board.config()
     }
 
     /// How many begins took a group.
-    pub(crate) fn taken(&self) -> usize {
+    pub(crate) fn taken(&self) -> usize
+        ensures { result ≡ length (begin_indices self.now.events.items) }
+    {
         self.begins.len()
     }
 
     /// When the next group is due that has no open flush, in milliseconds.
-    pub(crate) fn next_due(&self) -> Option<u64> {
+    pub(crate) fn next_due(&self) -> Option<u64>
+        ensures { result ≡ next_due (state_at self.now.board) }
+    {
         self.board.next_due()
     }
 
+    /// Does what is planned.
+    pub(crate) fn act(&mut self, alloc: Global, now: u64, act: Action) -> Result<(), Fault>
+        ensures called { IfOk result (λ _. self.new.board ≡ with_call self.old.board (call_of now act)) }
+        ensures events { self.new.events ≡ self.old.events }
+    {
+        match act {
+            Action::Insert(alert) => self.insert(alloc, now, alert),
+            Action::Silence(silence) => self.silence(alloc, now, silence),
+        }
+    }
+
     pub(crate) fn insert(&mut self, alloc: Global, now: u64, alert: Alert) -> Result<(), Fault>
-        ensures { IfOk result (λ _. input_trace self.new.board ≡ with_inputs (input_trace self.old.board) (Insert now alert ∷ [])) }
+        ensures input_trace { IfOk result (λ _.
+            input_trace self.new.board ≡ with_inputs (input_trace self.old.board) (call.Insert now alert ∷ [])) }
+        ensures called { IfOk result (λ _. self.new.board ≡ with_call self.old.board (call.Insert now alert)) }
+        ensures events { self.new.events ≡ self.old.events }
     {
         let _inserted = self.board.insert(alloc, PASS, now, alert)?;
         Ok(())
     }
 
     pub(crate) fn silence(&mut self, alloc: Global, now: u64, silence: Silence) -> Result<(), Fault>
-        ensures { IfOk result (λ _.
+        ensures input_trace { IfOk result (λ _.
             input_trace self.new.board ≡ with_inputs (input_trace self.old.board) (call_of_silence now silence ∷ [])) }
+        ensures called { IfOk result (λ _. self.new.board ≡ with_call self.old.board (call_of_silence now silence)) }
+        ensures events { self.new.events ≡ self.old.events }
     {
         let _silenced = self.board.silence(alloc, PASS, now, silence)?;
         Ok(())
     }
 
     pub(crate) fn maintain(&mut self, alloc: Global, now: u64) -> Result<(), Fault>
-        ensures { input_trace self.new.board ≡ input_trace self.old.board }
+        ensures input_trace { input_trace self.new.board ≡ input_trace self.old.board }
+        ensures called { IfOk result (λ _. self.new.board ≡ with_call self.old.board (call.Maintain now)) }
+        ensures events { self.new.events ≡ self.old.events }
     {
         let _maintained = self.board.maintain(alloc, PASS, now)?;
         Ok(())
@@ -134,42 +140,55 @@ impl PreviewingBoard {
     /// Keeps that the sending of a notice came to its end, whose flush was opened by the begin at this
     /// place among those that took a group.
     pub(crate) fn keep_sent(&mut self, begin: usize, report: Report) -> Result<(), AllocError>
-        ensures { input_trace self.new.board ≡ input_trace self.old.board }
+        ensures input_trace { input_trace self.new.board ≡ input_trace self.old.board }
+        ensures board { self.new.board ≡ self.old.board }
+        ensures events { IfOk result (λ _. self.new.events.items ≡ self.old.events.items ++ Sent begin report ∷ []) }
     {
         self.events.reserve(1)?;
         self.events.push_reserved(Event::Sent { begin, report });
         Ok(())
     }
 
-    /// Logs the success of the notice at a place of a ticket.
+    /// Logs the success of the notice at a place of a ticket, if the board takes the note.
     pub(crate) fn note(
         &mut self,
         alloc: Global,
         own: &OwnTicket,
         place: usize,
         now: u64,
-    ) -> Result<(), NoteFault>
-        ensures { input_trace self.new.board ≡ input_trace self.old.board }
+    ) -> Result<(), AllocError>
+        ensures input_trace { input_trace self.new.board ≡ input_trace self.old.board }
+        ensures noted { OnOk result (self.new.board ≡ with_note now own.now.ticket place self.old.board) }
+        ensures events { self.new.events ≡ self.old.events }
     {
-        let _noted = self.board.note(alloc, PASS, &own.ticket, place, now)?;
-        Ok(())
+        match self.board.note(alloc, PASS, &own.ticket, place, now) {
+            Ok(_noted) => Ok(()),
+            Err(NoteFault::NoMemory) => Err(AllocError),
+            Err(_) => Ok(()),
+        }
     }
 
-    /// Finishes a flush. Answers whether it was open.
-    pub(crate) fn finish(&mut self, own: OwnTicket, now: u64) -> bool
-        ensures { input_trace self.new.board ≡ input_trace self.old.board }
+    /// Finishes a flush. Does nothing if it isn't open.
+    pub(crate) fn finish(&mut self, own: OwnTicket, now: u64)
+        ensures input_trace { input_trace self.new.board ≡ input_trace self.old.board }
+        ensures called { self.new.board ≡ with_call self.old.board (call.Finish now own.ticket.number own.ticket.outcomes) }
+        ensures events { self.new.events ≡ self.old.events }
     {
         let OwnTicket { ticket } = own;
         match self.board.finish(PASS, ticket, now) {
-            Ok(_finished) => true,
-            Err(FinishFault::NotOpen) => false,
+            Ok(_finished) => {}
+            Err(FinishFault::NotOpen) => {}
             Err(FinishFault::Foreign(_ticket)) => unreachable!(),
         }
     }
 
     /// Takes the group that is due first, and keeps what is to be done with it.
     pub(crate) fn begin(&mut self, alloc: Global, now: u64) -> Result<Taken, Fault>
-        ensures { input_trace self.new.board ≡ input_trace self.old.board }
+        ensures input_trace { input_trace self.new.board ≡ input_trace self.old.board }
+        ensures taken { IfOk result (IsTaken self.old.board self.old.events.items now self.new.board self.new.events.items) }
+        ensures cause { IfErr result (λ fault. fault ≡ TooManyOpen → why_not self.old.board now ≡ Some TooManyOpen) }
+        ensures refused { OnErr result (self.new.board ≡ self.old.board) }
+        ensures events { OnErr result (self.new.events.items ≡ self.old.events.items) }
     {
         self.begins.reserve(1)?;
         self.events.reserve(1)?;
@@ -187,6 +206,7 @@ impl PreviewingBoard {
 /// What a begin of the board came to.
 fn own(begun: Begun) -> Taken
     requires { IsFresh BOARD_ID begun }
+    ensures { IsOwn begun result }
 {
     match begun {
         Begun::NothingDue => Taken::Nothing,
@@ -212,6 +232,7 @@ fn tell(
     requires begun { begin_indices events.old.items ≡ range_with_len 0 (vec_len begins.old) }
     ensures previews { begins.new.items ≡ begins.old.items ++ preview_where (takes_group (reply_of begun.now)) place preview }
     ensures begun { begin_indices events.new.items ≡ range_with_len 0 (vec_len begins.new) }
+    ensures events { events.new.items ≡ events.old.items ++ begun_where preview (takes_group (reply_of begun.now)) (vec_len begins.old) }
 {
     match (begun, preview) {
         (Begun::NothingDue, _) | (_, None) => {}

@@ -1,81 +1,147 @@
 //! The notices in flight. `play` adds a `Sending` for each flush, and reports the ends to the
 //! board.
-ghost use Rattle.std.specs.Prelude.{◌≤◌};
+ghost use Rattle.std.specs.Prelude.{◌≡◌, ◌≤◌, ◌<◌, ◌+◌, ◌^◌, Some, IfOk, length, remove, slice_get};
 ghost use Rattle.am_alerts.specs.declared.limits.TheConstants.{MAX_MOMENT};
+ghost use Rattle.am_rehearsal.specs.Answers.{answer_of, AreEndsOf, IsEndOf};
+ghost use Rattle.am_rehearsal.specs.Next.{next_end, next_end_of, next_finish};
 
-use crate::previewing::OwnTicket;
-use am_board::notice::Report;
+use crate::courier::{OutageCourier, Outages};
+use crate::next::{End, Next, Step, earlier};
+use crate::rehearsal::Outage;
+use crate::ticket::OwnTicket;
+use am_alerts::text::Text;
+use am_board::notice::Notice;
 use am_board::ticket::Ticket;
-use am_pool::{Courier, deliver};
+use am_pool::deliver;
 use std::alloc::{AllocError, Global};
+use std::marker::Model;
 
 /// A flush whose notices are in flight.
 pub(crate) struct Sending {
     pub(crate) own: OwnTicket,
     /// The position of its begin among the previewed begins.
     pub(crate) begin: usize,
-    /// The ends of its notices, by place.
+    /// The ends that are still to come, by place.
     pub(crate) ends: Vec<End>,
 }
 
-/// The end of the sending of a notice.
-#[derive(Clone, Copy, Debug)]
-pub(crate) struct End {
-    /// Its time, in milliseconds.
-    pub(crate) at: u64,
-    /// None where there is nothing to send.
-    pub(crate) report: Option<Report>,
-    /// Whether the board has it.
-    pub(crate) is_told: bool,
+impl Model for Sending {
+    ghost use Rattle.am_rehearsal.specs.Scene.{SendingData};
+
+    ghost Value = { SendingData };
+
+    ghost view = { λ s. record { ticket = s.own.ticket; begin = s.begin; ends = s.ends.items } };
 }
 
 impl Sending {
-    /// Returns the next end that the board doesn't have yet, if there is one.
-    pub(crate) fn next_end(&self) -> Option<u64> {
-        let mut next: Option<u64> = None;
-        for end in self.ends.as_slice() {
-            if !end.is_told {
-                next = Some(earlier(end.at, next));
-            }
-        }
-        next
+    /// Takes out the end at an index.
+    pub(crate) fn take_end(&mut self, index: usize) -> End
+        requires { index < length self.old.ends }
+        ensures end { slice_get self.old.ends index ≡ Some result }
+        ensures left { self.new ≡ record (self.old) { ends = remove self.old.ends index } }
+    {
+        self.ends.remove(index)
     }
 }
 
-/// Returns the earlier of a time and another, if there is another.
-pub(crate) fn earlier(at: u64, other: Option<u64>) -> u64 {
-    match other {
-        None => at,
-        Some(other) => at.min(other),
+/// Returns the first end that is still to come of these flushes, the first of which has this
+/// position. Of one time the first flush comes first, and of one flush the first place.
+pub(crate) fn next_end(position: usize, sendings: &[Sending]) -> Option<Next>
+    requires { position + length sendings.now < 2 ^ 64 }
+    ensures { result ≡ next_end position sendings.now }
+{
+    match sendings.split_first() {
+        None => None,
+        Some((sending, sendings)) => earlier(
+            next_end_of(position, 0, sending.ends.as_slice()),
+            next_end(position + 1, sendings),
+        ),
+    }
+}
+
+/// Returns the first of these ends of the flush at a position, the first of which has this index.
+fn next_end_of(position: usize, index: usize, ends: &[End]) -> Option<Next>
+    requires { index + length ends.now < 2 ^ 64 }
+    ensures { result ≡ next_end_of position index ends.now }
+{
+    match ends.split_first() {
+        None => None,
+        Some((end, ends)) => earlier(
+            Some(Next {
+                at: end.at,
+                what: Step::End(position, index),
+            }),
+            next_end_of(position, index + 1, ends),
+        ),
+    }
+}
+
+/// Returns the finish, now, of the first of these flushes of which no end is to come. The first has
+/// this position.
+pub(crate) fn next_finish(now: u64, position: usize, sendings: &[Sending]) -> Option<Next>
+    requires { position + length sendings.now < 2 ^ 64 }
+    ensures { result ≡ next_finish now position sendings.now }
+{
+    match sendings.split_first() {
+        None => None,
+        Some((sending, sendings)) => {
+            if sending.ends.is_empty() {
+                Some(Next {
+                    at: now,
+                    what: Step::Finish(position),
+                })
+            } else {
+                next_finish(now, position + 1, sendings)
+            }
+        }
     }
 }
 
 /// Sends the notices of a ticket from `start` (milliseconds) on, and returns their ends.
-pub(crate) fn ends_of<C: Courier>(
+///
+/// The outages and the receiver are those that the type names.
+pub(crate) fn ends_of<O: Outages>(
     alloc: Global,
-    courier: &mut C,
+    outages: &[Outage],
+    receiver: &Text,
     ticket: &Ticket,
     start: u64,
 ) -> Result<Vec<End>, AllocError>
-    requires { start ≤ MAX_MOMENT }
+    requires start { start ≤ MAX_MOMENT }
+    requires outages { outages.now ≡ O.outages }
+    requires receiver { receiver.now ≡ O.receiver }
+    ensures { IfOk result (λ ends. AreEndsOf (answer_of O.outages O.receiver) start 0 ticket.now.notices ends.items) }
 {
-    let mut ends = Vec::with_capacity(alloc, ticket.notices().len())?;
-    for notice in ticket.notices() {
-        let end = if notice.nothing() {
-            End {
-                at: start,
-                report: None,
-                is_told: false,
-            }
-        } else {
-            let report = deliver(courier, notice, start);
-            End {
-                at: report.ended,
-                report: Some(report),
-                is_told: false,
-            }
-        };
-        ends.push(end)?;
+    let notices = ticket.notices();
+    let mut courier = OutageCourier::<O>::new(outages, receiver);
+    let mut ends = Vec::with_capacity(alloc, notices.len())?;
+    for (place, notice) in notices.iter().enumerate() {
+        ends.push(end_of(&mut courier, place, notice, start))?;
     }
     Ok(ends)
+}
+
+/// Sends the notice at a place of a ticket from `start` (milliseconds) on, and returns its end.
+fn end_of<O: Outages>(
+    courier: &mut OutageCourier<'_, O>,
+    place: usize,
+    notice: &Notice,
+    start: u64,
+) -> End
+    requires { start ≤ MAX_MOMENT }
+    ensures { IsEndOf (answer_of O.outages O.receiver) start place notice.now result }
+{
+    if notice.nothing() {
+        return End {
+            at: start,
+            place,
+            report: None,
+        };
+    }
+    let report = deliver(courier, notice, start);
+    End {
+        at: report.ended,
+        place,
+        report: Some(report),
+    }
 }

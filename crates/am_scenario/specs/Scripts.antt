@@ -1,7 +1,8 @@
 -- What the scripts of a scenario plan for the attempts of its notices.
-use Rattle.std.specs.Prelude.{◌≡◌, ◌==◌, ◌&&◌, ℕ, ◌+◌, ◌-◌, ◌^◌, Bool, min, List, Option, Some, None, get_or, length}
+use Rattle.std.specs.Prelude.{◌==◌, ◌&&◌, ℕ, ◌-◌, Bool, min, List, Option, Some, None, get_or, length}
 use Rattle.std.specs.List.{find}
 use Rattle.am_retry.specs.declared.outcome.Answer.TheVariants.{Done}
+use Rattle.am_pool.specs.Sendings.{IsAnsweredBy, later}
 use Rattle.am_pool.specs.declared.courier.Sent.{Sent}
 use Rattle.am_pool.specs.declared.courier.Tried.{Tried}
 use Rattle.am_scenario.specs.declared.scenario.script.ScriptedAnswer.{ScriptedAnswer}
@@ -30,12 +31,8 @@ planned_for scripts ticket integration k = answer_by k (find (is_script_for tick
 
 -- how an attempt at this moment goes that is planned so: it ends when it has lasted so long, or at the last moment that 64 bits tell
 abbrev pub sent_at : ℕ → ScriptedAnswer → Sent
-sent_at at planned = record { answer = planned.answer; ended = min (at + planned.takes) (2 ^ 64 - 1) }
-
--- how a try went
-abbrev pub sent_in : Tried → Sent
-sent_in t = record { answer = t.answer; ended = t.ended }
+sent_at at planned = record { answer = planned.answer; ended = later at planned.takes }
 
 -- a try went as these scripts plan
 abbrev pub IsAsPlanned : List Script → Tried → Type 0
-IsAsPlanned scripts t = sent_in t ≡ sent_at t.at (planned_for scripts t.ticket t.integration t.attempt)
+IsAsPlanned scripts t = IsAnsweredBy (λ ticket integration k at. sent_at at (planned_for scripts ticket integration k)) t

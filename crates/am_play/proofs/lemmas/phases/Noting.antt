@@ -25,7 +25,8 @@ use Rattle.am_desk.specs.Known.{Observes, Seen}
 use Rattle.am_desk.specs.declared.word.Terms.{Terms}
 use Rattle.am_desk.proofs.Prefixes.{prefix_self, prefix_trans}
 use Rattle.am_retry.specs.declared.outcome.Outcome.{Outcome}
-use Rattle.am_play.specs.Steps.{Notes, end_on, is_recorded_success, note_at, note_of, notes_of, notes_of_all}
+use Rattle.am_pool.specs.Sendings.{end_on, note_at}
+use Rattle.am_play.specs.Steps.{Notes, is_recorded_success, note_of, notes_of, notes_of_all}
 use Rattle.am_play.specs.Turns.{AreNotesWithRoom, FailsHistoryFull, AtSomePrefix, report_on}
 use Rattle.am_play.proofs.lemmas.phases.Steps.{looked_records, more_records, no_records, one_record}
 

@@ -20,8 +20,8 @@ use Rattle.am_desk.specs.declared.word.Terms.{Terms}
 use Rattle.am_desk.proofs.Prefixes.{prefix_trans}
 use Rattle.am_pool.specs.declared.courier.Tried.{Tried}
 use Rattle.am_play.specs.Interleaving.{RanBefore, RunsPhase}
-use Rattle.am_play.specs.Sendings.{IsSentFrom}
-use Rattle.am_play.specs.Steps.{Begins, Finishes, AfterMainSteps, IsUnrecorded, MadeRecords, Sends, RunsMainSteps, end_on, finish_with, is_recorded_success, note_of, notes_of, notes_of_all, opened_of, recorded_all}
+use Rattle.am_pool.specs.Sendings.{IsSentFrom, end_on}
+use Rattle.am_play.specs.Steps.{Begins, Finishes, AfterMainSteps, IsUnrecorded, MadeRecords, Sends, RunsMainSteps, finish_with, is_recorded_success, note_of, notes_of, notes_of_all, opened_of, recorded_all}
 use Rattle.am_play.specs.Turns.{AreNotesWithRoom, AreTurnsFrom, AreAllMainStepsOf, BeginsExhausted, EndsWithNothingDue, FoundDue, FailsTooManyOpen, AreMainStepsOf, AtSomePrefix, Opened, MainSteps, all_notes_due, finish_of, is_success, last_end, note_on, notes_due, opened_by, outcome_in, outcomes_told, records_in, report_on, reports_on, to_send}
 use Rattle.am_scenario.specs.declared.scenario.Phase.{Phase}
 use Rattle.am_play.proofs.lemmas.phases.Noting.{noted_longer, once_longer}

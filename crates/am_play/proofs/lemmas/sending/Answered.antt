@@ -3,27 +3,17 @@ use Rattle.std.proofs.Common.{◌≡◌, ℕ, zero, suc, ◌<◌, All, IfOk, Res
 use Rattle.std.specs.Prelude.{slice_get}
 use Rattle.std.specs.List.{AllZip}
 use Rattle.std.proofs.lemmas.Bool.Decides.{nat_tests}
-use Rattle.std.proofs.lemmas.List.Elements.{All-cons, All-head, All-nil, All-tail}
+use Rattle.std.proofs.lemmas.List.Elements.{All-head, All-tail}
 use Rattle.std.proofs.lemmas.Option.{slice_get_within}
 use Rattle.am_model.specs.declared.notice.Report.{Report}
 use Rattle.am_retry.specs.Attempts.{tries_of}
+use Rattle.am_pool.proofs.Determined.{all_behind, all_front}
 use Rattle.am_pool.specs.Dealt.{once_below, times}
 use Rattle.am_pool.specs.Sent.{AreReportsOf, AreRuns, AreSent, EachRan, IsRun, times_in}
 use Rattle.am_pool.specs.Tries.{all_tried_for}
 use Rattle.am_pool.specs.declared.courier.Tried.{Tried}
 use Rattle.am_pool.specs.declared.worker.Job.{Job}
-use Rattle.am_play.specs.Sendings.{IsSendingOf}
-
-module _ {X : Type 0} (P : X → Type 0) where
-  -- what holds of all holds of those in front
-  pub all_front : (xs ys : List X) → All P (xs ++ ys) → All P xs
-  all_front [] ys all = All-nil P
-  all_front (x ∷ xs) ys all = All-cons P x xs (All-head P x (xs ++ ys) all) (all_front xs ys (All-tail P x (xs ++ ys) all))
-
-  -- and of those behind
-  pub all_behind : (xs ys : List X) → All P (xs ++ ys) → All P ys
-  all_behind [] ys all = all
-  all_behind (x ∷ xs) ys all = all_behind xs ys (All-tail P x (xs ++ ys) all)
+use Rattle.am_pool.specs.Sendings.{IsSendingOf}
 
 -- what follows from two facts of a success
 pub both_ok : {X Y : Type 0} (r : Result X Y) (P Q R : X → Type 0) → ((x : X) → P x → Q x → R x) → IfOk r P → IfOk r Q → IfOk r R

@@ -5,7 +5,7 @@ use Rattle.std.proofs.lemmas.List.Elements.{All-head, All-rest}
 use Rattle.am_model.specs.declared.notice.Report.{Report}
 use Rattle.am_pool.specs.declared.courier.Tried.{Tried}
 use Rattle.am_pool.specs.declared.worker.Job.{Job}
-use Rattle.am_play.specs.Sendings.{IsNotStarved, IsSending, IsSendingOf, IsSentFrom}
+use Rattle.am_pool.specs.Sendings.{IsNotStarved, IsSending, IsSendingOf, IsSentFrom}
 use Rattle.am_play.specs.Steps.{StartsAt, notices_of}
 
 -- where report k is of job k, the reports are of the notices of the jobs

@@ -1,7 +1,7 @@
 use Rattle.std.proofs.Common.{◌≡◌, ◌∙◌, false, sym, arith}
 use Rattle.std.proofs.lemmas.List.{take_all}
 use Rattle.std.proofs.lemmas.List.Elements.{All-more, All-same}
-use Rattle.am_play.specs.Sendings.{IsNotStarved}
+use Rattle.am_pool.specs.Sendings.{IsNotStarved}
 use Rattle.am_play.proofs.sending.none_starved.Goals as goal
 
 pub loop-report-preserved : goal.loop-report-preserved

@@ -1,5 +1,5 @@
 use Rattle.std.proofs.Common.{All, take}
-use Rattle.am_play.specs.Sendings.{IsNotStarved}
+use Rattle.am_pool.specs.Sendings.{IsNotStarved}
 use Rattle.am_play.proofs.sending.none_starved.Given as goal
 
 abbrev pub invariant-loop-report : goal.invariant-loop-report

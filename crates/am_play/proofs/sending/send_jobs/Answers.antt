@@ -1,6 +1,6 @@
 use Rattle.std.specs.List.{AllZip}
 use Rattle.am_pool.specs.Sent.{AreReportsOf, AreSent}
-use Rattle.am_play.specs.Sendings.{IsSendingOf}
+use Rattle.am_pool.specs.Sendings.{IsSendingOf}
 use Rattle.am_play.proofs.lemmas.sending.Answered.{all_answered, both_ok}
 use Rattle.am_play.proofs.sending.send_jobs.Goals as goal
 

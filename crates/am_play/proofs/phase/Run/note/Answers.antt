@@ -1,7 +1,7 @@
 use Rattle.std.proofs.Common.{subst}
 use Rattle.am_model.specs.Records.{IsNoteOf}
 use Rattle.am_model.specs.Ticket.{TicketData}
-use Rattle.am_play.specs.Steps.{note_at}
+use Rattle.am_pool.specs.Sendings.{note_at}
 use Rattle.am_play.proofs.lemmas.phases.Noting.{note_left, note_made}
 use Rattle.am_play.proofs.phase.Run.note.Goals as goal
 

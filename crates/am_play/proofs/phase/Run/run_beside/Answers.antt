@@ -7,7 +7,7 @@ use Rattle.am_pool.specs.declared.worker.Job.{Job}
 use Rattle.am_play.specs.Interleaving.{RanConcurrently}
 use Rattle.am_play.specs.Runs.{lanes_of}
 use Rattle.am_play.specs.LaneStates.{MadeLanes, passes_in}
-use Rattle.am_play.specs.Sendings.{IsSendingOf, IsSentFrom}
+use Rattle.am_pool.specs.Sendings.{IsSendingOf, IsSentFrom}
 use Rattle.am_play.proofs.lemmas.lanes.Meetings.{between_meetings, ran_beside}
 use Rattle.am_play.proofs.lemmas.sending.Sendings.{sent_each}
 use Rattle.am_play.proofs.phase.Run.run_beside.Goals as goal

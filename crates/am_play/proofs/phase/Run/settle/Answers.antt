@@ -5,7 +5,8 @@ use Rattle.am_model.specs.Finish.{is_delivered}
 use Rattle.am_model.specs.Notice.{NoticeData, is_nothing}
 use Rattle.am_model.specs.Ticket.{TicketData, outcome_of}
 use Rattle.am_desk.specs.Known.{Seen}
-use Rattle.am_play.specs.Steps.{Notes, end_on, is_recorded_success, notes_of}
+use Rattle.am_pool.specs.Sendings.{end_on}
+use Rattle.am_play.specs.Steps.{Notes, is_recorded_success, notes_of}
 use Rattle.am_play.specs.PhaseFaults.{HasNoFault}
 use Rattle.am_play.specs.Turns.{report_on}
 use Rattle.am_play.proofs.lemmas.phases.Noting.{noted_next, passed_next}

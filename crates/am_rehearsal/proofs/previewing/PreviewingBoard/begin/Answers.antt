@@ -1,5 +1,13 @@
-use Rattle.std.proofs.Common.{refl, ap, ◌∙◌, ◌++◌, List, length}
-use Rattle.am_board.specs.History.{reply_of}
+use Rattle.std.proofs.Common.{◌≡◌, ℕ, refl, sym, ap, ◌∙◌, ◌++◌, List, length}
+use Rattle.std.proofs.lemmas.List.FromFn.{length-range_with_len}
+use Rattle.am_board.specs.History.{reply_of, state_at}
+use Rattle.am_model.specs.Begin.{begun}
+use Rattle.am_model.specs.State.{moment}
+use Rattle.am_model.specs.declared.record.Reply.{Reply}
+use Rattle.am_rehearsal.specs.EventOrder.{begin_indices}
+use Rattle.am_rehearsal.specs.Taking.{begun_where, why_not}
+use Rattle.am_rehearsal.specs.declared.event.Event.{Event}
+use Rattle.am_rehearsal.proofs.Calling.{begun_shown, open_cause, taken_by}
 use Rattle.am_model.specs.declared.record.Call.TheVariants.{Begin}
 use Rattle.am_model.specs.declared.record.Record.{Record}
 use Rattle.am_model.specs.Records.{entry}
@@ -24,6 +32,32 @@ invariant_of-self-2 c =
     c.in_ok-preview.ensures c.in-Ok.ensures.recorded c.tell.new.begins.items previews in
     record { ours = stands.0; previews = stands.1; begun = c.tell.ensures.begun }
 
-pub returns : goal.returns
-returns c =
+pub returns-clause-input_trace : goal.returns-clause-input_trace
+returns-clause-input_trace c =
     input_trace-same c.args.self.now.board c.begin.new.self (entry 0 (Begin c.args.now) (reply_of c.in-Ok.begun), refl, c.in-Ok.ensures.recorded)
+
+pub returns-clause-taken : goal.returns-clause-taken
+returns-clause-taken c =
+    let was = c.args.self.now in
+    let told : Reply = reply_of c.in-Ok.begun in
+    let shown = c.in_ok-preview.preview in
+    let count : ℕ = length (begin_indices was.events.items) in
+    let replied : begun was.board.config was.board.id (state_at was.board) (moment (state_at was.board) c.args.now) ≡ told = cc (c.in-Ok.ensures.reply) in
+    let counted : c.reserve.new.self.len ≡ count =
+    c.reserve.new.self.ok.0 ∙ (ap (λ (l : List PreviewedBegin). length l) c.reserve.ensures.items
+    ∙ (sym was.begins.ok.0 ∙ sym (ap (λ (l : List ℕ). length l) was.begun ∙ length-range_with_len 0 was.begins.len)))
+    in
+    taken_by was.board c.begin.new.self was.events.items c.tell.new.events.items c.args.now c.in-Ok.begun c.own.result c.own.ensures c.in-Ok.ensures.fresh
+    (record {
+      allowed = c.in-Ok.ensures.cause;
+      replied = replied;
+      board = c.in-Ok.ensures.recorded;
+      events_are =
+          c.tell.ensures.events
+          ∙ (ap (λ (l : List Event). l ++ begun_where shown (takes_group told) c.reserve.new.self.len) c.reserve-2.ensures.items
+          ∙ (ap (λ (n : ℕ). was.events.items ++ begun_where shown (takes_group told) n) counted
+          ∙ ap (λ (l : List Event). was.events.items ++ l) (begun_shown was.board c.args.now count told shown replied c.in_ok-preview.ensures)));
+    })
+
+pub returns-in-Err-clause-cause : goal.returns-in-Err-clause-cause
+returns-in-Err-clause-cause c = λ is. open_cause (why_not c.args.self.now.board c.args.now) c.in-Err.fault is c.in-Err.ensures.cause

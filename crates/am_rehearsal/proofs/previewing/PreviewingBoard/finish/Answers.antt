@@ -1,9 +1,15 @@
-use Rattle.std.proofs.Common.{refl}
+use Rattle.std.proofs.Common.{Err, refl, ap, subst, sym}
+use Rattle.std.specs.Option.{option_map}
+use Rattle.am_board.specs.History.{IsNotOpen, state_at}
+use Rattle.am_board.specs.declared.fault.FinishFault.{FinishFault}
+use Rattle.am_model.specs.Finish.{finished}
+use Rattle.am_model.specs.State.{FlushState}
 use Rattle.std.proofs.lemmas.Result.{IfOk-weaker}
 use Rattle.am_model.specs.declared.record.Call.TheVariants.{Finish}
 use Rattle.am_model.specs.declared.record.Reply.TheVariants.{Finished}
 use Rattle.am_model.specs.Records.{entry}
 use Rattle.am_rehearsal.specs.declared.limits.TheConstants.{BOARD_ID}
+use Rattle.am_rehearsal.proofs.Calling.{called_is, uncalled_is}
 use Rattle.am_rehearsal.proofs.Standing.{stands_over}
 use Rattle.am_rehearsal.proofs.Doing.{input_trace-same}
 use Rattle.am_rehearsal.proofs.previewing.PreviewingBoard.finish.Goals as goal
@@ -18,7 +24,19 @@ invariant_of-self c =
     c.finish.ensures.refused in
     record { ours = stands.0; previews = stands.1; begun = was.begun }
 
-pub returns-in-Ok : goal.returns-in-Ok
-returns-in-Ok c =
+pub returns-in-Ok-clause-input_trace : goal.returns-in-Ok-clause-input_trace
+returns-in-Ok-clause-input_trace c =
     let ticket = c.args.own.ticket in
     input_trace-same c.args.self.now.board c.finish.new.self (entry 0 (Finish c.args.now ticket.number ticket.outcomes) (Finished c.in-Ok._finished), refl, c.in-Ok.ensures.recorded)
+
+pub returns-in-Ok-clause-called : goal.returns-in-Ok-clause-called
+returns-in-Ok-clause-called c =
+    let ticket = c.args.own.ticket in
+    called_is c.args.self.now.board c.finish.new.self (Finish c.args.now ticket.number ticket.outcomes) (Finished c.in-Ok._finished) c.in-Ok.ensures.reply c.in-Ok.ensures.recorded
+
+pub returns-in-Err-NotOpen-clause-called : goal.returns-in-Err-NotOpen-clause-called
+returns-in-Err-NotOpen-clause-called c =
+    let ticket = c.args.own.ticket in
+    let old = c.args.self.now.board in
+    uncalled_is old c.finish.new.self (Finish c.args.now ticket.number ticket.outcomes)
+    (ap (option_map (λ (f : FlushState). Finished (finished (state_at old) ticket.outcomes f))) (c.in-Err-NotOpen.ensures.not_open.0 (subst (λ (f : FinishFault). IsNotOpen (Err f)) (sym c.in-Err-NotOpen.field-0-is) tt)).1) c.in-Err-NotOpen.ensures.refused

@@ -4,6 +4,7 @@ use Rattle.am_model.specs.declared.record.Call.TheVariants.{Insert}
 use Rattle.am_model.specs.declared.record.Reply.TheVariants.{Inserted}
 use Rattle.am_model.specs.Records.{entry}
 use Rattle.am_rehearsal.specs.declared.limits.TheConstants.{BOARD_ID}
+use Rattle.am_rehearsal.proofs.Calling.{called_is}
 use Rattle.am_rehearsal.proofs.Standing.{stands_over}
 use Rattle.am_rehearsal.proofs.Doing.{input_trace-more}
 use Rattle.am_rehearsal.proofs.previewing.PreviewingBoard.insert.Goals as goal
@@ -17,6 +18,10 @@ invariant_of-self c =
     c.insert.ensures.refused in
     record { ours = stands.0; previews = stands.1; begun = was.begun }
 
-pub returns : goal.returns
-returns c =
+pub returns-clause-input_trace : goal.returns-clause-input_trace
+returns-clause-input_trace c =
     input_trace-more c.args.self.now.board c.insert.new.self (entry 0 (Insert c.args.now c.args.alert) (Inserted c.in_ok-_inserted._inserted)) refl c.in_ok-_inserted.ensures.recorded
+
+pub returns-clause-called : goal.returns-clause-called
+returns-clause-called c =
+    called_is c.args.self.now.board c.insert.new.self (Insert c.args.now c.args.alert) (Inserted c.in_ok-_inserted._inserted) c.in_ok-_inserted.ensures.reply c.in_ok-_inserted.ensures.recorded

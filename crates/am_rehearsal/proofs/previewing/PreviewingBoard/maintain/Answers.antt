@@ -4,6 +4,7 @@ use Rattle.am_model.specs.declared.record.Call.TheVariants.{Maintain}
 use Rattle.am_model.specs.declared.record.Reply.TheVariants.{Maintained}
 use Rattle.am_model.specs.Records.{entry}
 use Rattle.am_rehearsal.specs.declared.limits.TheConstants.{BOARD_ID}
+use Rattle.am_rehearsal.proofs.Calling.{called_is}
 use Rattle.am_rehearsal.proofs.Standing.{stands_over}
 use Rattle.am_rehearsal.proofs.Doing.{input_trace-same}
 use Rattle.am_rehearsal.proofs.previewing.PreviewingBoard.maintain.Goals as goal
@@ -17,6 +18,10 @@ invariant_of-self c =
     c.maintain.ensures.refused in
     record { ours = stands.0; previews = stands.1; begun = was.begun }
 
-pub returns : goal.returns
-returns c =
+pub returns-clause-input_trace : goal.returns-clause-input_trace
+returns-clause-input_trace c =
     input_trace-same c.args.self.now.board c.maintain.new.self (entry 0 (Maintain c.args.now) (Maintained c.in_ok-_maintained._maintained), refl, c.in_ok-_maintained.ensures.recorded)
+
+pub returns-clause-called : goal.returns-clause-called
+returns-clause-called c =
+    called_is c.args.self.now.board c.maintain.new.self (Maintain c.args.now) (Maintained c.in_ok-_maintained._maintained) c.in_ok-_maintained.ensures.reply c.in_ok-_maintained.ensures.recorded

@@ -18,5 +18,8 @@ invariant_of-result c =
       begun = ap begin_indices c.new-3.ensures.items ∙ sym (ap (λ (n : ℕ). range_with_len 0 n) (c.new-2.result.ok.0 ∙ ap length c.new-2.ensures.items));
     }
 
-pub returns : goal.returns
-returns c = ap input_trace (unless_value _ _ _ c.in_ok-board.ensures) ∙ input_trace-opening c.args.config BOARD_ID
+pub returns-clause-input_trace : goal.returns-clause-input_trace
+returns-clause-input_trace c = ap input_trace (unless_value _ _ _ c.in_ok-board.ensures) ∙ input_trace-opening c.args.config BOARD_ID
+
+pub returns-clause-board : goal.returns-clause-board
+returns-clause-board c = unless_value _ _ _ c.in_ok-board.ensures

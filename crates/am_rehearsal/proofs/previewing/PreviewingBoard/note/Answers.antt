@@ -3,6 +3,7 @@ use Rattle.std.proofs.lemmas.Result.{on_ok_weaker}
 use Rattle.am_model.specs.declared.record.Record.{Record}
 use Rattle.am_rehearsal.specs.Previews.{takes_group}
 use Rattle.am_rehearsal.specs.declared.limits.TheConstants.{BOARD_ID}
+use Rattle.am_rehearsal.proofs.Calling.{noted_is}
 use Rattle.am_rehearsal.proofs.Standing.{stands_over}
 use Rattle.am_rehearsal.specs.Planned.{input_of}
 use Rattle.am_rehearsal.proofs.Doing.{input_trace-same}
@@ -17,7 +18,11 @@ invariant_of-self c =
     c.note.ensures.refused in
     record { ours = stands.0; previews = stands.1; begun = was.begun }
 
-pub returns : goal.returns
-returns c =
-    let noted = c.in_ok-_noted.ensures.noted in
+pub returns-in-Ok-clause-input_trace : goal.returns-in-Ok-clause-input_trace
+returns-in-Ok-clause-input_trace c =
+    let noted = c.in-Ok.ensures.noted in
     input_trace-same c.args.self.now.board c.note.new.self (noted.0, ap (λ (r : Record). input_of r.call) noted.1.2, noted.2)
+
+pub returns-in-Ok-clause-noted : goal.returns-in-Ok-clause-noted
+returns-in-Ok-clause-noted c =
+    noted_is c.args.now c.args.own.now.ticket c.args.place c.args.self.now.board c.note.new.self c.in-Ok.ensures.cause c.in-Ok.ensures.noted

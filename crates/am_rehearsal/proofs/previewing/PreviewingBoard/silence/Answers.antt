@@ -3,6 +3,7 @@ use Rattle.std.proofs.lemmas.Result.{IfOk-weaker}
 use Rattle.am_model.specs.declared.record.Reply.TheVariants.{Silenced}
 use Rattle.am_model.specs.Records.{entry, call_of_silence}
 use Rattle.am_rehearsal.specs.declared.limits.TheConstants.{BOARD_ID}
+use Rattle.am_rehearsal.proofs.Calling.{called_is}
 use Rattle.am_rehearsal.proofs.Standing.{stands_over}
 use Rattle.am_rehearsal.proofs.Doing.{input_trace-more}
 use Rattle.am_rehearsal.proofs.previewing.PreviewingBoard.silence.Goals as goal
@@ -16,6 +17,10 @@ invariant_of-self c =
     c.silence.ensures.refused in
     record { ours = stands.0; previews = stands.1; begun = was.begun }
 
-pub returns : goal.returns
-returns c =
+pub returns-clause-input_trace : goal.returns-clause-input_trace
+returns-clause-input_trace c =
     input_trace-more c.args.self.now.board c.silence.new.self (entry 0 (call_of_silence c.args.now c.args.silence) (Silenced c.in_ok-_silenced._silenced)) refl c.in_ok-_silenced.ensures.recorded
+
+pub returns-clause-called : goal.returns-clause-called
+returns-clause-called c =
+    called_is c.args.self.now.board c.silence.new.self (call_of_silence c.args.now c.args.silence) (Silenced c.in_ok-_silenced._silenced) c.in_ok-_silenced.ensures.reply c.in_ok-_silenced.ensures.recorded

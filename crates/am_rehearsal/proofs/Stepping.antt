@@ -1,0 +1,103 @@
+-- The next step, when it is done.
+use Rattle.std.proofs.Common.{◌≡◌, ℕ, ◌<◌, suc, false, length, List, [], ◌∷◌, ◌++◌, Option, Some, None, refl, sym, ap, ◌∙◌, subst}
+use Rattle.std.specs.Prelude.{remove, slice_get, slice_set, if◌then◌else◌}
+use Rattle.std.specs.Option.{IsSomeAnd}
+use Rattle.std.proofs.lemmas.Option.{slice_get_within}
+use Rattle.am_board.specs.History.{BoardData}
+use Rattle.am_model.specs.declared.record.Call.TheVariants as call
+use Rattle.am_model.specs.Ticket.{TicketData}
+use Rattle.am_rehearsal.proofs.Coming.{next_there}
+use Rattle.am_rehearsal.proofs.Scenes.{same_scene, scene_of}
+use Rattle.am_pool.specs.Sendings.{later}
+use Rattle.am_rehearsal.specs.Answers.{AreEndsOf}
+use Rattle.am_rehearsal.specs.Courses.{IsThereFor}
+use Rattle.am_rehearsal.specs.Next.{next}
+use Rattle.am_rehearsal.specs.Planned.{call_of}
+use Rattle.am_rehearsal.specs.Play.{Reaches}
+use Rattle.am_rehearsal.specs.Scene.{Scene, SendingData, Setting}
+use Rattle.am_rehearsal.specs.Steps.{IsDone, IsPlanDone, IsSendingAdded, Steps, after_end, after_end_of, after_finish, after_maintenance, after_plan, answers_for, is_success, sent_events, with_call, with_note, with_report}
+use Rattle.am_rehearsal.specs.declared.event.Event.{Event}
+use Rattle.am_rehearsal.specs.declared.next.End.{End}
+use Rattle.am_rehearsal.specs.declared.next.Next.{Next}
+use Rattle.am_rehearsal.specs.declared.next.Step.{Step}
+use Rattle.am_rehearsal.specs.declared.next.Step.TheVariants as step
+use Rattle.am_rehearsal.specs.declared.rehearsal.TimedAction.{TimedAction}
+
+module _ (r : Setting) (c : Scene) (n : Next) (what : Step) (comes : next r c ≡ Some n) (is : n.what ≡ what) where
+  -- what it is about is there
+  pub there_for : IsThereFor r c n what
+  there_for = subst (IsThereFor r c n) is (next_there r c n comes)
+
+  -- it leads on
+  pub steps_by : (d : Scene) → IsDone r c n.at d what → Steps r c d
+  unfolding Steps
+  steps_by d done =
+      subst (λ (o : Option Next). IsSomeAnd o (λ m. IsDone r c m.at d m.what)) (sym comes) (subst (IsDone r c n.at d) (sym is) done)
+
+-- the first of these plans is done
+pub plan_done : (c d : Scene) (ps rest : List TimedAction) (p : TimedAction) → ps ≡ p ∷ rest → IsPlanDone c d (p ∷ rest) → IsPlanDone c d ps
+plan_done c d ps rest p is done = subst (IsPlanDone c d) (sym is) done
+
+module _ {X : Type 0} (xs : List X) (k : ℕ) (P : X → Type 0) where
+  -- where something is said of an item, it is there
+  pub within_some : IsSomeAnd (slice_get xs k) P → k < length xs
+  within_some said = by (slice_get xs k) refl said
+    where
+      by : (o : Option X) → slice_get xs k ≡ o → IsSomeAnd o P → k < length xs
+      by None is h = absurd h
+      by (Some x) is h = slice_get_within xs k x is
+
+  -- and it is said of that item
+  pub said_of : (x : X) → slice_get xs k ≡ Some x → IsSomeAnd (slice_get xs k) P → P x
+  said_of x is said = subst (λ (o : Option X). IsSomeAnd o P) is said
+
+-- one step more
+pub one_more : (r : Setting) (c d e : Scene) → Reaches r c d → Steps r d e → Reaches r c e
+one_more r c d e reached steps = (suc reached.0, (d, reached.1, steps))
+
+-- the end at an index of the flush at a position has come, whose flush was first `taken` and then `last`
+module _ (r : Setting) (c : Scene) (position index : ℕ) (s taken last : SendingData) (e : End) (b : BoardData) (es : List Event) (ss : List SendingData) where
+  pub end_done : slice_get c.sendings position ≡ Some s → slice_get s.ends index ≡ Some e
+      → taken ≡ record s { ends = remove s.ends index }
+      → last ≡ record taken { ticket = with_report e.report taken.ticket }
+      → ss ≡ slice_set c.sendings position last
+      → b ≡ (if is_success e.report then with_note e.at (with_report e.report taken.ticket) e.place c.board else c.board)
+      → es ≡ c.events ++ sent_events taken.begin e.report
+      → IsDone r c 0 (scene_of b es c.plans ss e.at c.maintenance c.begins c.blocked) (step.End position index)
+  end_done here there took reported sendings board events =
+      let all : last ≡ after_end_of s index e.report =
+      reported ∙ ap (λ (t : SendingData). let u : SendingData = record t { ticket = with_report e.report t.ticket } in u) took
+      in
+      let is : scene_of b es c.plans ss e.at c.maintenance c.begins c.blocked ≡ after_end c position s index e =
+      same_scene c.plans e.at c.maintenance c.begins c.blocked
+      (board ∙ ap (λ (t : SendingData). if is_success e.report then with_note e.at (with_report e.report t.ticket) e.place c.board else c.board) took)
+      (events ∙ ap (λ (t : SendingData). c.events ++ sent_events t.begin e.report) took)
+      (sendings ∙ ap (slice_set c.sendings position) all)
+      in
+      subst (λ (o : Option SendingData). IsSomeAnd o (λ t. IsSomeAnd (slice_get t.ends index) (λ x. scene_of b es c.plans ss e.at c.maintenance c.begins c.blocked ≡ after_end c position t index x))) (sym here)
+      (subst (λ (o : Option End). IsSomeAnd o (λ x. scene_of b es c.plans ss e.at c.maintenance c.begins c.blocked ≡ after_end c position s index x)) (sym there) is)
+
+-- the flush at a position is finished
+pub finish_done : (r : Setting) (c : Scene) (position : ℕ) (s : SendingData) (t : TicketData) (b : BoardData) (es : List Event) (ss : List SendingData)
+    → slice_get c.sendings position ≡ Some s → s.ticket ≡ t → b ≡ with_call c.board (call.Finish c.clock t.number t.outcomes) → es ≡ c.events
+    → ss ≡ remove c.sendings position
+    → IsDone r c 0 (scene_of b es c.plans ss c.clock c.maintenance c.begins false) (step.Finish position)
+finish_done r c position s t b es ss here ticket board events sendings =
+    subst (λ (o : Option SendingData). IsSomeAnd o (λ x. scene_of b es c.plans ss c.clock c.maintenance c.begins false ≡ after_finish c position x)) (sym here)
+    (same_scene c.plans c.clock c.maintenance c.begins false
+    (board ∙ ap (λ (u : TicketData). with_call c.board (call.Finish c.clock u.number u.outcomes)) (sym ticket)) events sendings)
+
+-- a planned action is done
+pub plan_is : (c : Scene) (p : TimedAction) (ps : List TimedAction) (b : BoardData) (es : List Event) → b ≡ with_call c.board (call_of p.at p.act) → es ≡ c.events
+    → scene_of b es ps c.sendings p.at c.maintenance c.begins c.blocked ≡ after_plan c p ps
+plan_is c p ps b es board events = same_scene ps p.at c.maintenance c.begins c.blocked board events refl
+
+-- maintenance is made
+pub maintenance_is : (r : Setting) (c : Scene) (at next : ℕ) (b : BoardData) (es : List Event) → b ≡ with_call c.board (call.Maintain at) → es ≡ c.events
+    → next ≡ later at r.maintain → scene_of b es c.plans c.sendings at next c.begins c.blocked ≡ after_maintenance r c at
+maintenance_is r c at next b es board events due = λ i. scene_of (board i) (events i) c.plans c.sendings at (due i) c.begins c.blocked
+
+-- a flush is one more in flight
+pub sending_added : (r : Setting) (c : Scene) (at : ℕ) (s : SendingData) (ss : List SendingData) → AreEndsOf (answers_for r c.board s.ticket.group) at 0 s.ticket.notices s.ends
+    → ss ≡ c.sendings ++ s ∷ [] → IsSendingAdded r at s.ticket s.begin c (scene_of c.board c.events c.plans ss c.clock c.maintenance c.begins c.blocked)
+sending_added r c at s ss ends sendings = (s, refl, refl, ends, same_scene c.plans c.clock c.maintenance c.begins c.blocked refl refl sendings)

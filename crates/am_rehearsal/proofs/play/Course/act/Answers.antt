@@ -1,0 +1,9 @@
+use Rattle.std.proofs.Common.{ap}
+use Rattle.am_rehearsal.specs.Courses.{scene_in}
+use Rattle.am_rehearsal.proofs.Stepping.{plan_is}
+use Rattle.am_rehearsal.proofs.play.Course.act.Goals as goal
+
+pub returns-in-Ok-clause-done : goal.returns-in-Ok-clause-done
+returns-in-Ok-clause-done c =
+    let was = c.args.self.now in
+    plan_is (scene_in was) c.args.plan was.plans.items c.act.new.self.board c.act.new.self.events.items c.in-Ok.ensures.called (ap (λ es. es.items) c.act.ensures.events)

@@ -1,0 +1,31 @@
+use Rattle.std.proofs.lemmas.Result.{on_ok_weaker}
+use Rattle.am_rehearsal.specs.Courses.{scene_in, setting_in}
+use Rattle.am_rehearsal.proofs.Beginning.{begin_flush, begin_nothing, begin_quiet, begin_refused}
+use Rattle.am_rehearsal.proofs.play.Course.begin.Goals as goal
+
+pub returns-in-Ok-Nothing-clause-done : goal.returns-in-Ok-Nothing-clause-done
+returns-in-Ok-Nothing-clause-done c =
+    let was = c.args.self.now in
+    begin_nothing (setting_in was) (scene_in was) c.args.at c.begin.new.self.board c.begin.new.self.events.items c.reserve.new.self.items c.reserve.ensures.items
+    (rw c.in-Ok-Nothing.field-0-is at c.in-Ok-Nothing.ensures.taken)
+
+pub returns-in-Ok-Quiet-clause-done : goal.returns-in-Ok-Quiet-clause-done
+returns-in-Ok-Quiet-clause-done c =
+    let was = c.args.self.now in
+    begin_quiet (setting_in was) (scene_in was) c.args.at c.begin.new.self.board c.begin.new.self.events.items c.reserve.new.self.items c.reserve.ensures.items
+    (rw c.in-Ok-Quiet.field-0-is at c.in-Ok-Quiet.ensures.taken)
+
+pub returns-in-Ok-Flush-clause-done : goal.returns-in-Ok-Flush-clause-done
+returns-in-Ok-Flush-clause-done c =
+    let was = c.args.self.now in
+    let taken = rw c.in-Ok-Flush.field-0-is at c.in-Ok-Flush.ensures.taken in
+    on_ok_weaker c.send.result
+    (begin_flush (setting_in was) (scene_in was) c.args.at c.begin.new.self.board c.begin.new.self.events.items c.reserve.new.self.items c.reserve.ensures.items c.in-Ok-Flush.own
+    c.taken-begin.result (scene_in c.send.new.self) taken c.taken-begin.ensures)
+    c.send.ensures.sent
+
+pub returns-in-Err-TooManyOpen-clause-done : goal.returns-in-Err-TooManyOpen-clause-done
+returns-in-Err-TooManyOpen-clause-done c =
+    let was = c.args.self.now in
+    begin_refused (setting_in was) (scene_in was) c.args.at c.begin.new.self.board c.begin.new.self.events.items c.reserve.new.self.items c.reserve.ensures.items
+    (c.in-Err-TooManyOpen.ensures.cause c.in-Err-TooManyOpen.field-0-is) c.in-Err-TooManyOpen.ensures.refused c.in-Err-TooManyOpen.ensures.events

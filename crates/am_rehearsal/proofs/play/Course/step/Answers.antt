@@ -1,0 +1,59 @@
+use Rattle.std.proofs.Common.{◌<◌, ◌≤◌, arith, length}
+use Rattle.std.proofs.lemmas.Result.{on_ok_weaker}
+use Rattle.am_rehearsal.specs.Courses.{scene_in, setting_in}
+use Rattle.am_rehearsal.specs.declared.next.Step.TheVariants.{Begin, End, Finish, Maintenance, Plan}
+use Rattle.am_rehearsal.specs.declared.rehearsal.TimedAction.{TimedAction}
+use Rattle.am_rehearsal.proofs.Stepping.{plan_done, steps_by, there_for, within_some}
+use Rattle.am_rehearsal.proofs.play.Course.step.Goals as goal
+
+pub end-requires : goal.end-requires
+end-requires c =
+    let was = c.args.self.now in
+    there_for (setting_in was) (scene_in was) c.args.coming (End c.in-End.position c.in-End.index) c.requires.comes c.in-End.is
+
+pub finish-requires : goal.finish-requires
+finish-requires c =
+    let was = c.args.self.now in
+    omega (arith, was.sendings.ok.0, there_for (setting_in was) (scene_in was) c.args.coming (Finish c.in-Finish.position) c.requires.comes c.in-Finish.is)
+
+pub begin-requires : goal.begin-requires
+begin-requires c =
+    let was = c.args.self.now in
+    omega (arith, c.requires.until, there_for (setting_in was) (scene_in was) c.args.coming Begin c.requires.comes c.in-Begin.is)
+
+pub unreachable-requires : goal.unreachable-requires
+unreachable-requires c =
+    let was = c.args.self.now in
+    let there : 0 < length was.plans.items =
+    within_some was.plans.items 0 (λ (p : TimedAction). p.at ≤ was.until) (there_for (setting_in was) (scene_in was) c.args.coming Plan c.requires.comes c.in-Plan.is)
+    in
+    absurd (omega (arith, was.plans.ok.0, c.in-None.ensures.cases.0, there))
+
+pub returns-in-End-clause-done : goal.returns-in-End-clause-done
+returns-in-End-clause-done c =
+    let was = c.args.self.now in
+    on_ok_weaker c.end.result (steps_by (setting_in was) (scene_in was) c.args.coming (End c.in-End.position c.in-End.index) c.requires.comes c.in-End.is (scene_in c.end.new.self)) c.end.ensures.done
+
+pub returns-in-Finish-clause-done : goal.returns-in-Finish-clause-done
+returns-in-Finish-clause-done c =
+    let was = c.args.self.now in
+    steps_by (setting_in was) (scene_in was) c.args.coming (Finish c.in-Finish.position) c.requires.comes c.in-Finish.is (scene_in c.finish.new.self) c.finish.ensures.done
+
+pub returns-in-Some-clause-done : goal.returns-in-Some-clause-done
+returns-in-Some-clause-done c =
+    let was = c.args.self.now in
+    let d = scene_in c.act.new.self in
+    on_ok_weaker c.act.result
+    (λ done. steps_by (setting_in was) (scene_in was) c.args.coming Plan c.requires.comes c.in-Plan.is d
+    (plan_done (scene_in was) d was.plans.items c.pop_front.new.self.items c.in-Some.plan c.in-Some.ensures.items done))
+    c.act.ensures.done
+
+pub returns-in-Maintenance-clause-done : goal.returns-in-Maintenance-clause-done
+returns-in-Maintenance-clause-done c =
+    let was = c.args.self.now in
+    on_ok_weaker c.make_maintenance.result (steps_by (setting_in was) (scene_in was) c.args.coming Maintenance c.requires.comes c.in-Maintenance.is (scene_in c.make_maintenance.new.self)) c.make_maintenance.ensures.done
+
+pub returns-in-Begin-clause-done : goal.returns-in-Begin-clause-done
+returns-in-Begin-clause-done c =
+    let was = c.args.self.now in
+    on_ok_weaker c.begin.result (steps_by (setting_in was) (scene_in was) c.args.coming Begin c.requires.comes c.in-Begin.is (scene_in c.begin.new.self)) c.begin.ensures.done

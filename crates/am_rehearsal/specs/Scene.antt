@@ -1,0 +1,52 @@
+-- Scene: how far a rehearsal has come.
+use Rattle.std.specs.Prelude.{ℕ, Bool, false, List, []}
+use Rattle.am_model.specs.declared.config.Config.{Config}
+use Rattle.am_model.specs.Ticket.{TicketData}
+use Rattle.am_board.specs.History.{BoardData, opening}
+use Rattle.am_rehearsal.specs.declared.event.Event.{Event}
+use Rattle.am_rehearsal.specs.declared.limits.TheConstants.{BOARD_ID}
+use Rattle.am_rehearsal.specs.declared.next.End.{End}
+use Rattle.am_rehearsal.specs.declared.rehearsal.Outage.{Outage}
+use Rattle.am_rehearsal.specs.declared.rehearsal.TimedAction.{TimedAction}
+
+-- what doesn't change in a rehearsal: its end, the time between two maintenances, and its outages
+pub record Setting : Type 0 where
+  pub until : ℕ
+  pub maintain : ℕ
+  pub outages : List Outage
+
+-- the setting with this end, this time between two maintenances and these outages
+abbrev pub setting_with : ℕ → ℕ → List Outage → Setting
+setting_with until maintain outages = record { until = until; maintain = maintain; outages = outages }
+
+-- a flush whose notices are in flight: its ticket, which of the begins that took a group opened it, and the ends still to come, by place
+pub record SendingData : Type 0 where
+  pub ticket : TicketData
+  pub begin : ℕ
+  pub ends : List End
+
+-- the board, the events so far, the plans still to come, the flushes in flight in the order of their begins, the time, the time of the
+-- next maintenance, whether a begin has just taken a group, and whether begins wait for a finish
+pub record Scene : Type 0 where
+  pub board : BoardData
+  pub events : List Event
+  pub plans : List TimedAction
+  pub sendings : List SendingData
+  pub clock : ℕ
+  pub maintenance : ℕ
+  pub begins : Bool
+  pub blocked : Bool
+
+-- the scene at the start, with these plans
+abbrev pub opening_scene : Setting → Config → List TimedAction → Scene
+opening_scene r config plans =
+    record {
+      board = opening config BOARD_ID;
+      events = [];
+      plans = plans;
+      sendings = [];
+      clock = 0;
+      maintenance = r.maintain;
+      begins = false;
+      blocked = false;
+    }

@@ -1,4 +1,4 @@
-//! A program that embeds a board: an alert comes, and its notice is sent when it is due.
+//! A program that embeds a board: alerts come, and their notices are sent when they are due.
 #![tactic(auto)]
 
 mod config;
@@ -7,40 +7,119 @@ mod pager;
 
 use am_alerts::alert::Alert;
 use am_alerts::labels::Labels;
-use am_board::fault::Fault;
+use am_board::fault::{BoardFault, Fault};
+use am_pool::PoolFault;
 use config::base;
-use dispatcher::Dispatcher;
+use dispatcher::{Dispatcher, RoundFault};
 use pager::Pager;
 use std::alloc::{AllocError, Global};
+use std::io;
 use std::process::ExitCode;
+use std::sync::Wait;
+use std::thread::Threads;
 
-fn main(rt: HostRuntime) -> ExitCode {
-    match run(rt.alloc()) {
-        Ok((logged, entries)) => {
-            if println!(rt; "logged {logged}, entries {entries}").is_ok() {
-                ExitCode::SUCCESS
-            } else {
-                ExitCode::from(4)
-            }
-        }
-        Err(_) => ExitCode::from(3),
+/// How many rounds of flushes the program makes.
+const ROUNDS: usize = 4;
+
+/// Why the program ends early.
+enum Trouble {
+    NoMemory,
+    /// The configuration or an alert is rejected, or a limit is reached.
+    Rejected,
+    /// The output isn't taken.
+    Unwritable,
+}
+
+impl From<AllocError> for Trouble {
+    fn from(_: AllocError) -> Trouble {
+        Trouble::NoMemory
     }
 }
 
-/// How many successes the flush at 30 seconds logged, and how many entries the log has.
-fn run(alloc: Global) -> Result<(usize, usize), Fault> {
-    let Ok(mut dispatcher) = Dispatcher::open(alloc, base(alloc)?) else {
-        return Err(Fault::NoMemory);
-    };
-    dispatcher.insert(alloc, 0, first_alert(alloc)?)?;
-    let logged = dispatcher.send_due(alloc, &mut Pager::new(), 30_000)?;
-    Ok((logged, dispatcher.summary().entries))
+impl From<BoardFault> for Trouble {
+    fn from(fault: BoardFault) -> Trouble {
+        match fault {
+            BoardFault::NoMemory => Trouble::NoMemory,
+            BoardFault::BadConfig(_) => Trouble::Rejected,
+        }
+    }
 }
 
-/// An alert named A, which fires from 0 on.
-fn first_alert(alloc: Global) -> Result<Alert, AllocError> {
-    match Labels::read(alloc, &[("alertname", "A")]) {
-        Ok(labels) => Alert::new(labels, 0, None).map_err(|_| AllocError),
-        Err(_) => Err(AllocError),
+impl From<Fault> for Trouble {
+    fn from(fault: Fault) -> Trouble {
+        match fault {
+            Fault::NoMemory => Trouble::NoMemory,
+            _ => Trouble::Rejected,
+        }
+    }
+}
+
+impl From<RoundFault> for Trouble {
+    fn from(fault: RoundFault) -> Trouble {
+        match fault {
+            RoundFault::Begin(fault) => Trouble::from(fault),
+            RoundFault::Send(PoolFault::NoMemory) => Trouble::NoMemory,
+            RoundFault::Send(_) => Trouble::Rejected,
+        }
+    }
+}
+
+fn main(rt: HostRuntime) -> ExitCode {
+    match run(&rt) {
+        Ok(()) => ExitCode::SUCCESS,
+        Err(Trouble::Rejected) => ExitCode::from(2),
+        Err(Trouble::NoMemory) => ExitCode::from(3),
+        Err(Trouble::Unwritable) => ExitCode::from(4),
+    }
+}
+
+fn run<R: Threads + Wait + Sync + Print + AllocGlobal>(rt: &R) -> Result<(), Trouble> {
+    let mut dispatcher = Dispatcher::open(rt.alloc(), base(rt.alloc())?)?;
+    insert(&mut dispatcher, rt.alloc(), "A", 0)?;
+    insert(&mut dispatcher, rt.alloc(), "B", 20_000)?;
+    make_rounds(rt, &mut dispatcher, 20_000)?;
+    let entries = dispatcher.summary().entries;
+    print(println!(rt; "entries {entries}"))
+}
+
+/// Inserts an alert of this name, which fires from now on.
+fn insert(dispatcher: &mut Dispatcher, alloc: Global, name: &str, now: u64) -> Result<(), Trouble> {
+    let alert = alert(alloc, name, now)?;
+    let _ = dispatcher.insert(alloc, now, alert)?;
+    Ok(())
+}
+
+/// Makes the rounds, from a time on. A program with a clock sleeps until `next_due`, and takes alerts meanwhile; the time
+/// of this one goes there at once.
+fn make_rounds<R: Threads + Wait + Sync + Print + AllocGlobal>(
+    rt: &R,
+    dispatcher: &mut Dispatcher,
+    start: u64,
+) -> Result<(), Trouble> {
+    let mut couriers = [Pager::new(), Pager::new()];
+    let mut now = start;
+    for _ in 0..ROUNDS {
+        if let Some(due) = dispatcher.next_due() {
+            now = due.max(now);
+            let round = dispatcher.send_due(rt, rt.alloc(), &mut couriers, now)?;
+            let (flushed, quiet, logged) = (round.flushed, round.quiet, round.logged);
+            print(println!(rt; "{now}: flushed {flushed}, quiet {quiet}, logged {logged}"))?;
+        }
+    }
+    Ok(())
+}
+
+fn print(printed: io::Result<()>) -> Result<(), Trouble> {
+    printed.map_err(|_| Trouble::Unwritable)
+}
+
+/// Returns an alert of this name, which fires from a time on.
+fn alert(alloc: Global, name: &str, starts: u64) -> Result<Alert, Trouble> {
+    let Ok(labels) = Labels::read(alloc, &[("alertname", name)]) else {
+        return Err(Trouble::NoMemory);
+    };
+    match Alert::new(labels, starts, None) {
+        Ok(alert) => Ok(alert),
+        Err(_) => Err(Trouble::Rejected),
     }
 }

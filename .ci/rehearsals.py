@@ -58,6 +58,41 @@ def stored(name):
 
 # The stored outputs.
 
+def folded(full, objects):
+    """A full timeline, whose lines are these objects too, with one line for each run: flushes of a group that follow each
+    other, send nothing and have the same lines."""
+    lines, flushes = full.splitlines(), {}
+    for place, it in enumerate(objects):
+        begun = it["since"] if "since" in it else it["at"]
+        flush = flushes.setdefault((it["route"], json.dumps(it["group"])), {}).setdefault(begun, {"sends": False, "places": []})
+        flush["sends"] |= "since" in it
+        if "since" not in it:
+            flush["places"].append(place)
+    for of_group in flushes.values():
+        run = None
+        for begun in sorted(of_group):
+            flush = of_group[begun]
+            texts = None if flush["sends"] else [lines[place].split(maxsplit=1)[1] for place in flush["places"]]
+            if run and texts and run["texts"] == texts:
+                run["count"], run["until"] = run["count"] + 1, lines[flush["places"][0]].split(maxsplit=1)[0]
+                for place, first in zip(flush["places"], run["places"]):
+                    objects[place] = None
+                    objects[first] = f"; {run['count']} flushes until {run['until']}"
+            else:
+                run = {"texts": texts, "count": 1, "places": flush["places"]}
+    ends = [it if isinstance(it, str) or it is None else "" for it in objects]
+    kept = [line + end for line, end in zip(lines, ends) if end is not None]
+    return "".join(f"{line}\n" for line in kept + lines[len(objects):])
+
+
+def check_folds(name):
+    """The stored text is the full timeline with one line for each run."""
+    file = str(forms(name)[-1])
+    full, objects = run("", "play", file, "--all"), run("", "play", file, "--output", "json")
+    wanted = folded(full[1], [json.loads(it) for it in objects[1].splitlines()])
+    tell(f"{name}, folded", (REHEARSALS / f"{name}.txt").read_text() == wanted)
+
+
 def check_output(name):
     """A rehearsal has its stored text and status, in each of its forms and as JSON on standard input; `--output notices`
     prints the text's notices alone."""
@@ -72,10 +107,14 @@ def check_output(name):
         tell(f"{file.name}, its value", json.loads(as_json(file)) == stored(name))
     if stored(name).get("output", "timeline") != "timeline":
         return
+    check_folds(name)
     lines = wanted.splitlines(keepends=True)
-    notices = "".join(line for line in lines if line[14:22] == "notice  ")
+    notices = "".join(line for line in lines if line[14:22] in ("notice  ", "failed  "))
+    delivered = "".join(line for line in lines if line[14:22] == "notice  ")
     got = run("", "play", str(forms(name)[-1]), "--output", "notices")
     tell(f"{name}, notices", got[:2] == (status, notices), f"status {got[0]} {got[2]}")
+    got = run("", "play", str(forms(name)[-1]), "--output", "notices", "--no-failures")
+    tell(f"{name}, delivered notices", got[:2] == (status, delivered), f"status {got[0]} {got[2]}")
     got = run(json.dumps({**stored(name), "output": "notices"}))
     tell(f"{name}, notices by its own output", got[:2] == (status, notices), f"status {got[0]} {got[2]}")
 
@@ -95,7 +134,8 @@ REPORTED = re.compile(
     rf"notice \d+ (\w+):({LABELS}) (\w+/\d+) (\w+) attempts=(\d+) firing=\[(.*)\] resolved=\[(.*)\]"
 )
 DELIVERED = re.compile(
-    rf".{{12}}  notice  (\w+)({LABELS}) -> \S+ (\w+/\d+) delivered(?: after (\d+) attempts since [^ ]+)?: "
+    rf".{{12}}  notice  (\w+)({LABELS}) -> \S+ (\w+/\d+) delivered(?: after (\d+) attempts since [^ ,]+)?"
+    r"(?:, past its deadline [^ ]+, at which Alertmanager cuts it off)?: "
     rf"[^;]*(?:; firing (.*?))?(?:; resolved (.*))?"
 )
 LOST = re.compile(

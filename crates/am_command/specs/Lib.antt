@@ -1,1 +1,2 @@
+-- what a command line asks for
 pub mod Request

@@ -1,8 +1,8 @@
 -- What a command line asks for.
-use Rattle.std.specs.Prelude.{◌≡◌, None, codes}
+use Rattle.std.specs.Prelude.{◌≡◌, false, None, codes}
 use Rattle.am_command.specs.declared.request.PlayRequest.{PlayRequest}
 use Rattle.am_command.specs.declared.request.Request.{Request}
-use Rattle.am_command.specs.declared.request.Request.TheVariants.{Play, Check, Routes, Json, Manual, Completions}
+use Rattle.am_command.specs.declared.request.Request.TheVariants.{Play, Compare, Story, Check, Routes, Json, Manual, Completions}
 
 -- to play the story on standard input, as it is
 pub record IsPlain (play : PlayRequest) : Type 0 where
@@ -10,10 +10,14 @@ pub record IsPlain (play : PlayRequest) : Type 0 where
   pub config : play.config ≡ None
   pub output : play.output ≡ None
   pub until : play.until ≡ None
+  pub no_failures : play.no_failures ≡ false
+  pub all : play.all ≡ false
 
 -- the request is to play the story on standard input, as it is
 abbrev pub IsPlainPlay : Request → Type 0
 IsPlainPlay (Play play) = IsPlain play
+IsPlainPlay (Compare request) = ⊥
+IsPlainPlay (Story request) = ⊥
 IsPlainPlay (Check files style) = ⊥
 IsPlainPlay (Routes file labels verify style) = ⊥
 IsPlainPlay (Json files style) = ⊥

@@ -3,7 +3,7 @@ use clap::{Arg, ArgAction, Command};
 use std::alloc::{AllocError, Global};
 
 /// What `--output` takes.
-pub const OUTPUTS: [&str; 3] = ["timeline", "notices", "json"];
+pub const OUTPUTS: [&str; 4] = ["timeline", "notices", "json", "html"];
 
 /// What `--color` takes.
 pub const COLORS: [&str; 3] = ["auto", "always", "never"];
@@ -21,6 +21,11 @@ const CHECK_HELP: &str = "Checks configurations, and prints what they hold or ev
 
 const ROUTES_HELP: &str = "Prints the routing tree, or the routes that a label set reaches";
 
+const COMPARE_HELP: &str =
+    "Simulates a story under two configurations, and prints which notifications differ";
+
+const STORY_HELP: &str = "Makes a story of what Prometheus or Alertmanager answers";
+
 const JSON_HELP: &str = "Prints files as the JSON that the program reads in them, one a line";
 
 const MAN_HELP: &str = "Prints the manual page, in troff";
@@ -29,7 +34,7 @@ const COMPLETIONS_HELP: &str = "Prints the completions for bash";
 
 const STATUSES: &str = "\
 Statuses: 0 done; 1 a file isn't readable; 2 a file or the command line is rejected; 3 out of memory; \
-4 the output isn't writable; 5 an expectation isn't met; 6 --verify differs.";
+4 the output isn't writable; 5 an expectation isn't met; 6 --verify differs, or --exit-code and a notification differs.";
 
 /// Returns the command line. Without any word the program reads a story from standard input.
 pub fn command<'a>(alloc: Global) -> Result<Command<'a>, AllocError> {
@@ -39,6 +44,8 @@ pub fn command<'a>(alloc: Global) -> Result<Command<'a>, AllocError> {
         .about("Rehearses an alertmanager.yml: simulates alerts, silences and outages on a clock")
         .after_help(STATUSES)
         .subcommand(play(alloc)?)?
+        .subcommand(compare(alloc)?)?
+        .subcommand(story(alloc)?)?
         .subcommand(check(alloc)?)?
         .subcommand(routes(alloc)?)?
         .subcommand(json(alloc)?)?
@@ -59,17 +66,77 @@ fn play<'a>(alloc: Global) -> Result<Command<'a>, AllocError> {
         .value_name("OUTPUT")
         .value_parser(OUTPUTS.as_slice())
         .help("What to print, in place of the story's own output");
-    let until = Arg::new(alloc, "until")
-        .long("until")
-        .value_name("DURATION")
-        .help("When the story ends, such as 5h, in place of its own until");
+    let no_failures = Arg::new(alloc, "no-failures")
+        .long("no-failures")
+        .action(ArgAction::SetTrue)
+        .help("With --output notices, leaves out those that failed");
+    let all = Arg::new(alloc, "all")
+        .long("all")
+        .action(ArgAction::SetTrue)
+        .help(
+            "Prints the timeline with a line for each flush, also where like flushes follow each other",
+        );
     let play = Command::new(alloc, "play")
         .about(PLAY_HELP)
         .arg(story)?
         .arg(config)?
         .arg(output)?
-        .arg(until)?;
+        .arg(until(alloc))?
+        .arg(no_failures)?
+        .arg(all)?;
     play.arg(color(alloc))?.arg(format(alloc))
+}
+
+fn compare<'a>(alloc: Global) -> Result<Command<'a>, AllocError> {
+    let old = Arg::new(alloc, "OLD")
+        .help("An alertmanager.yml, or a config of our own; - is standard input")
+        .required(true);
+    let new = Arg::new(alloc, "NEW")
+        .help("The configuration that is compared with it")
+        .required(true);
+    let story = Arg::new(alloc, "STORY")
+        .help("A file in YAML or JSON with what happens")
+        .required(true);
+    let exit_code = Arg::new(alloc, "exit-code")
+        .long("exit-code")
+        .action(ArgAction::SetTrue)
+        .help("Ends with status 6 if a notification differs");
+    let compare = Command::new(alloc, "compare")
+        .about(COMPARE_HELP)
+        .arg(old)?
+        .arg(new)?
+        .arg(story)?
+        .arg(until(alloc))?
+        .arg(exit_code)?;
+    compare.arg(color(alloc))?.arg(format(alloc))
+}
+
+fn story<'a>(alloc: Global) -> Result<Command<'a>, AllocError> {
+    let prometheus = Arg::new(alloc, "prometheus")
+        .long("prometheus")
+        .value_name("FILE")
+        .help("The answer to a range query of ALERTS{alertstate=\"firing\"}; - is standard input");
+    let gap = Arg::new(alloc, "gap")
+        .long("gap")
+        .value_name("DURATION")
+        .help(
+            "Samples farther apart belong to different spans of an alert; two steps of the query if not given",
+        );
+    let alertmanager = Arg::new(alloc, "alertmanager")
+        .long("alertmanager")
+        .value_name("FILE")
+        .help("The answer of /api/v2/alerts, in place of --prometheus");
+    let silences = Arg::new(alloc, "silences")
+        .long("silences")
+        .value_name("FILE")
+        .help("The answer of Alertmanager's /api/v2/silences");
+    let story = Command::new(alloc, "story")
+        .about(STORY_HELP)
+        .arg(prometheus)?
+        .arg(gap)?
+        .arg(alertmanager)?
+        .arg(silences)?;
+    story.arg(color(alloc))?.arg(format(alloc))
 }
 
 fn check<'a>(alloc: Global) -> Result<Command<'a>, AllocError> {
@@ -110,6 +177,13 @@ fn json<'a>(alloc: Global) -> Result<Command<'a>, AllocError> {
         .num_args(1..);
     let json = Command::new(alloc, "json").about(JSON_HELP).arg(files)?;
     json.arg(color(alloc))?.arg(format(alloc))
+}
+
+fn until<'a>(alloc: Global) -> Arg<'a> {
+    Arg::new(alloc, "until")
+        .long("until")
+        .value_name("DURATION")
+        .help("When the story ends, such as 5h, in place of its own until")
 }
 
 fn color<'a>(alloc: Global) -> Arg<'a> {

@@ -271,7 +271,9 @@ fn bad_text(
     match name {
         "receiver" => no_receiver(alloc, top, pointer, text),
         "start" => format!(in alloc; "`{text}` is no time of RFC 3339; write 2026-11-23T08:00:00Z"),
-        "output" => format!(in alloc; "`{text}` is no output; write timeline, notices or json"),
+        "output" => format!(in alloc;
+            "`{text}` is no output; write timeline, notices, json or html"
+        ),
         "answer" => format!(in alloc; "`{text}` is no answer; write done, again or never"),
         "name" if text.is_empty() => format!(in alloc; "the name is empty"),
         "name" => format!(in alloc;

@@ -38,6 +38,32 @@ pub struct PlayRequest<'a> {
     pub config: Option<&'a str>,
     pub output: Option<&'a str>,
     pub until: Option<&'a str>,
+    /// Whether failures are left out of the notices.
+    pub no_failures: bool,
+    /// Whether the timeline has a line for each flush.
+    pub all: bool,
+    pub style: Style,
+}
+
+/// A story that is simulated under two configurations.
+#[derive(Clone, Copy, Debug, PartialEq, Eq)]
+pub struct CompareRequest<'a> {
+    pub old: &'a str,
+    pub new: &'a str,
+    pub story: &'a str,
+    pub until: Option<&'a str>,
+    /// Whether the status tells whether something differs.
+    pub exit_code: bool,
+    pub style: Style,
+}
+
+/// Answers of which a story is made.
+#[derive(Clone, Copy, Debug, PartialEq, Eq)]
+pub struct StoryRequest<'a> {
+    pub prometheus: Option<&'a str>,
+    pub gap: Option<&'a str>,
+    pub alertmanager: Option<&'a str>,
+    pub silences: Option<&'a str>,
     pub style: Style,
 }
 
@@ -45,6 +71,8 @@ pub struct PlayRequest<'a> {
 #[derive(Drop)]
 pub enum Request<'a> {
     Play(PlayRequest<'a>),
+    Compare(CompareRequest<'a>),
+    Story(StoryRequest<'a>),
     Check {
         files: Vec<&'a str>,
         style: Style,
@@ -81,6 +109,8 @@ pub fn read_request<'a>(alloc: Global, words: &'a [String]) -> Result<Request<'a
             config: None,
             output: None,
             until: None,
+            no_failures: false,
+            all: false,
             style: PLAIN,
         }));
     }
@@ -97,6 +127,8 @@ fn request_of<'a>(alloc: Global, matches: &ArgMatches<'a>) -> Result<Request<'a>
     };
     Ok(match name {
         "play" => Request::Play(play_request(matches)),
+        "compare" => Request::Compare(compare_request(matches)),
+        "story" => Request::Story(story_request(matches)),
         "check" => Request::Check {
             files: all_of(alloc, matches, "FILE")?,
             style: style_of(matches),
@@ -122,6 +154,29 @@ fn play_request<'a>(matches: &ArgMatches<'a>) -> PlayRequest<'a> {
         config: matches.get_str("config"),
         output: matches.get_str("output"),
         until: matches.get_str("until"),
+        no_failures: matches.get_flag("no-failures"),
+        all: matches.get_flag("all"),
+        style: style_of(matches),
+    }
+}
+
+fn compare_request<'a>(matches: &ArgMatches<'a>) -> CompareRequest<'a> {
+    CompareRequest {
+        old: text_of(matches, "OLD"),
+        new: text_of(matches, "NEW"),
+        story: text_of(matches, "STORY"),
+        until: matches.get_str("until"),
+        exit_code: matches.get_flag("exit-code"),
+        style: style_of(matches),
+    }
+}
+
+fn story_request<'a>(matches: &ArgMatches<'a>) -> StoryRequest<'a> {
+    StoryRequest {
+        prometheus: matches.get_str("prometheus"),
+        gap: matches.get_str("gap"),
+        alertmanager: matches.get_str("alertmanager"),
+        silences: matches.get_str("silences"),
         style: style_of(matches),
     }
 }

@@ -10,6 +10,7 @@ use Rattle.am_rehearsal.specs.Previews.{previews_of}
 use Rattle.am_rehearsal.specs.declared.event.Event.{Event}
 use Rattle.am_rehearsal.specs.declared.event.PreviewedBegin.{PreviewedBegin}
 use Rattle.am_rehearsal.specs.declared.limits.TheConstants.{BOARD_ID}
+use Rattle.am_rehearsal.specs.declared.rehearsal.Rehearsal.{Rehearsal}
 use Rattle.am_timeline.specs.declared.expectation.Expectation.{Expectation}
 use Rattle.am_timeline.specs.UtcDates.{StartData}
 use Rattle.am_timeline.specs.Expectation.{is_met}
@@ -18,23 +19,20 @@ use Rattle.am_timeline.specs.TimeFormatData.{TimeFormatData}
 use Rattle.am_rehearse.specs.Request.{IsRequestIn, times_from}
 use Rattle.am_rehearse.specs.declared.input.Output.{Output}
 use Rattle.am_rehearse.specs.declared.input.Overrides.{Overrides}
-use Rattle.am_rehearse.specs.Printed.{WritesOutput, IsPrinted, IsOutputOfRun, IsOutputFor, playback_of}
+use Rattle.am_rehearse.specs.Printed.{WritesOutput, IsPrinted, IsOutputOf, IsOutputOfRun, IsOutputFor, playback_of}
 
 -- the playback of a board, with these begins
 abbrev pub playback_with : BoardData → List Event → List PreviewedBegin → PlaybackData
 playback_with board events begins = record { config = board.config; history = board.history; begins = begins; events = events }
 
-pub output_of_run-board : (output : Output) (met : Bool) (text : List ℕ) (board : BoardData) (begins : List PreviewedBegin) (events : List Event) (playback : PlaybackData) (times : TimeFormatData) (expectations : List Expectation)
+pub output_of-board : (output : Output) (met : Bool) (text : List ℕ) (board : BoardData) (begins : List PreviewedBegin) (events : List Event) (playback : PlaybackData) (times : TimeFormatData) (expectations : List Expectation)
     → board.id ≡ BOARD_ID → begins ≡ previews_of board.config board.history → IsLegal board.config board.id board.history
     → begin_indices events ≡ range_with_len 0 (length begins)
     → playback ≡ playback_with board events begins → met ≡ list_all (is_met playback) expectations → IsPrinted output playback times expectations text
-    → IsOutputOfRun output times expectations met text
-output_of_run-board output met text board begins events playback times expectations ours is_told legal is_begun is_playback judges is =
+    → IsOutputOf board events output times expectations met text
+output_of-board output met text board begins events playback times expectations ours is_told legal is_begun is_playback judges is =
     let same : playback ≡ playback_of board.config board.history events = is_playback ∙ ap (playback_with board events) is_told in
     record {
-      config = board.config;
-      history = board.history;
-      events = events;
       legal = subst (λ (id : ℕ). IsLegal board.config id board.history) ours legal;
       begun = is_begun ∙ ap (λ (l : List PreviewedBegin). range_with_len 0 (length l)) is_told;
       judges = sym (subst (λ (s : PlaybackData). met ≡ list_all (is_met s) expectations) same judges);
@@ -54,14 +52,15 @@ answered overrides met is_met given_before given taken_before taken input text g
     }
 
 -- what is told of a text, by what the value asks for that it is read as
-pub told_by : (overrides : Overrides) (input : List ℕ) (value : Data) (output : Output) (start : Option StartData) (expectations : List Expectation) (met : Bool) (text : List ℕ)
-    → IsReadAs input value → IsRequestIn overrides value output start expectations → IsOutputOfRun output (times_from start) expectations met text
-    → IsOutputFor overrides input met text
-told_by overrides input value output start expectations met text reads asked tale =
+pub told_by : (overrides : Overrides) (input : List ℕ) (value : Data) (output : Output) (start : Option StartData) (expectations : List Expectation) (rehearsal : Rehearsal) (met : Bool) (text : List ℕ)
+    → IsReadAs input value → IsRequestIn overrides value output start expectations rehearsal
+    → IsOutputOfRun rehearsal output (times_from start) expectations met text → IsOutputFor overrides input met text
+told_by overrides input value output start expectations rehearsal met text reads asked tale =
     record {
       output = output;
       start = start;
       expectations = expectations;
+      rehearsal = rehearsal;
       asked = (value, reads, asked);
       tale = tale;
     }

@@ -1,19 +1,23 @@
 -- Printed: what is printed of a rehearsal that ran.
-use Rattle.std.specs.Prelude.{◌≡◌, ◌==◌, ℕ, Bool, List, [], ◌++◌, codes, length, Option, if◌then◌else◌}
+use Rattle.std.specs.Prelude.{◌≡◌, ◌==◌, ℕ, Bool, true, false, List, [], ◌++◌, codes, length, Option, if◌then◌else◌}
 use Rattle.std.specs.List.{list_all, range_with_len}
 use Rattle.am_model.specs.declared.config.Config.{Config}
 use Rattle.am_model.specs.declared.record.Record.{Record}
 use Rattle.am_model.specs.Replay.{IsLegal}
+use Rattle.am_board.specs.History.{BoardData}
 use Rattle.am_rehearsal.specs.EventOrder.{begin_indices}
+use Rattle.am_rehearsal.specs.Play.{PlaysTo, setting_of}
 use Rattle.am_rehearsal.specs.Previews.{previews_of}
 use Rattle.am_rehearsal.specs.declared.event.Event.{Event}
 use Rattle.am_rehearsal.specs.declared.limits.TheConstants.{BOARD_ID}
+use Rattle.am_rehearsal.specs.declared.rehearsal.Rehearsal.{Rehearsal}
 use Rattle.am_timeline.specs.declared.expectation.Expectation.{Expectation}
 use Rattle.am_timeline.specs.UtcDates.{StartData}
 use Rattle.am_timeline.specs.Expectation.{is_met}
 use Rattle.am_timeline.specs.ExpectationReport.{expectations_text}
 use Rattle.am_timeline.specs.Notices.{notices_text}
 use Rattle.am_timeline.specs.Playback.{PlaybackData}
+use Rattle.am_timeline.specs.Runs.{short_timeline_text}
 use Rattle.am_timeline.specs.Table.{table_text}
 use Rattle.am_timeline.specs.Timeline.{timeline_text}
 use Rattle.am_timeline.specs.TimeFormatData.{TimeFormatData}
@@ -21,47 +25,60 @@ use Rattle.am_timeline.specs.Undelivered.{undelivered_text}
 use Rattle.am_rehearse.specs.Request.{IsRequestBy, times_from}
 use Rattle.am_rehearse.specs.declared.input.Output.{Output}
 use Rattle.am_rehearse.specs.declared.input.Overrides.{Overrides}
-use Rattle.am_rehearse.specs.declared.input.Output.TheVariants.{Timeline, Notices, Json}
+use Rattle.am_rehearse.specs.declared.input.Output.TheVariants.{Timeline, Full, Notices, Delivered, Json, Html}
 
 -- what became of expectations, behind an empty line, if there are any
 abbrev pub expectations_section : PlaybackData → TimeFormatData → List Expectation → List ℕ
 expectations_section playback times expectations =
     if length expectations == 0 then [] else codes "\n" ++ expectations_text playback times 0 expectations
 
--- the text is this output of a playback: the timeline, the table, the alerts that no delivered notice has and what became of the
--- expectations, or the notices alone. Of the JSON nothing is said
+-- what is below a timeline: the table, the alerts that no delivered notice has and what became of the expectations
+abbrev pub summary : PlaybackData → TimeFormatData → List Expectation → List ℕ
+summary playback times expectations =
+    table_text playback times ++ undelivered_text playback times ++ expectations_section playback times expectations
+
+-- the text is this output of a playback: the short timeline or the full one with what is below it, or the notices alone, with those that
+-- failed or without. Of the JSON and the page nothing is said
 abbrev pub IsPrinted : Output → PlaybackData → TimeFormatData → List Expectation → List ℕ → Type 0
 IsPrinted Timeline playback times expectations text =
-    text
-    ≡ timeline_text playback times ++ table_text playback times ++ undelivered_text playback times
-    ++ expectations_section playback times expectations
-IsPrinted Notices playback times expectations text = text ≡ notices_text playback times
+    text ≡ short_timeline_text playback times ++ summary playback times expectations
+IsPrinted Full playback times expectations text = text ≡ timeline_text playback times ++ summary playback times expectations
+IsPrinted Notices playback times expectations text = text ≡ notices_text true playback times
+IsPrinted Delivered playback times expectations text = text ≡ notices_text false playback times
 IsPrinted Json playback times expectations text = Unit {0}
+IsPrinted Html playback times expectations text = Unit {0}
 
 -- a rehearsal that was played, with what its begins were to do
 abbrev pub playback_of : Config → List Record → List Event → PlaybackData
 playback_of config history events =
     record { config = config; history = history; begins = previews_of config history; events = events }
 
--- the text is this output of a rehearsal that was played, of which the history is legal, and of which each begin that took a group is told
+-- the text is this output of a board and these events, of which the history is legal, and of which each begin that took a group is told
 -- of once, in their order; `met` is whether it came as each of these expectations says
-pub record IsOutputOfRun (output : Output) (times : TimeFormatData) (expectations : List Expectation) (met : Bool)
-    (text : List ℕ) : Type 0 where
-  pub config : Config
-  pub history : List Record
-  pub events : List Event
-  pub legal : IsLegal config BOARD_ID history
-  pub begun : begin_indices events ≡ range_with_len 0 (length (previews_of config history))
-  pub judges : list_all (is_met (playback_of config history events)) expectations ≡ met
-  pub is : IsPrinted output (playback_of config history events) times expectations text
+pub record IsOutputOf (board : BoardData) (events : List Event) (output : Output) (times : TimeFormatData)
+    (expectations : List Expectation) (met : Bool) (text : List ℕ) : Type 0 where
+  pub legal : IsLegal board.config BOARD_ID board.history
+  pub begun : begin_indices events ≡ range_with_len 0 (length (previews_of board.config board.history))
+  pub judges : list_all (is_met (playback_of board.config board.history events)) expectations ≡ met
+  pub is : IsPrinted output (playback_of board.config board.history events) times expectations text
 
--- the text is the output that these bytes ask for, of a rehearsal that was played, by the moments and the expectations that they ask for
+-- the text is this output of what a rehearsal plays to
+pub record IsOutputOfRun (rehearsal : Rehearsal) (output : Output) (times : TimeFormatData) (expectations : List Expectation)
+    (met : Bool) (text : List ℕ) : Type 0 where
+  pub board : BoardData
+  pub events : List Event
+  pub played : PlaysTo (setting_of rehearsal) rehearsal.config rehearsal.plans.items board events
+  pub tale : IsOutputOf board events output times expectations met text
+
+-- the text is the output that these bytes ask for, of a rehearsal with the end and the maintenance that they ask for, by the moments and
+-- the expectations that they ask for
 pub record IsOutputFor (overrides : Overrides) (input : List ℕ) (met : Bool) (text : List ℕ) : Type 0 where
   pub output : Output
   pub start : Option StartData
   pub expectations : List Expectation
-  pub asked : IsRequestBy overrides input output start expectations
-  pub tale : IsOutputOfRun output (times_from start) expectations met text
+  pub rehearsal : Rehearsal
+  pub asked : IsRequestBy overrides input output start expectations rehearsal
+  pub tale : IsOutputOfRun rehearsal output (times_from start) expectations met text
 
 -- of bytes that were given before and now, and of bytes that were taken before and now: what was taken since is the output that those that
 -- were given since ask for

@@ -1,8 +1,11 @@
 //! The commands.
 pub mod check;
+pub mod compare;
 mod config;
+mod faults;
 pub mod json;
 pub mod play;
 pub mod routes;
+pub mod story;
 mod tree;
 mod warnings;

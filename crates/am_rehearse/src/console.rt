@@ -7,6 +7,7 @@ use am_cli::transfer::write_all;
 use am_command::complaint::Complaint;
 use am_command::explain::{Wrong, explain};
 use am_command::request::{FaultFormat, STANDARD_INPUT};
+use am_config::dropped::IgnoredSettings;
 use am_config::faults::{Faults, Refusal};
 use am_yaml::document::{DocumentFault, read_document};
 use am_yaml::fault::YamlFault;
@@ -24,6 +25,9 @@ pub const NO_MEMORY: u8 = 3;
 
 /// The status where the output wasn't taken.
 pub const UNWRITABLE: u8 = 4;
+
+/// The status where the routes don't have the receivers that are verified, or, if it is asked for, where a notice differs.
+pub const DIFFERS: u8 = 6;
 
 /// How many bytes of text are gone over to find where faults stand. The whole text is, for each fault, so of a long file
 /// with many faults only the first ones get a line and a column.
@@ -53,6 +57,14 @@ pub fn shown(path: &str) -> &str {
         "<stdin>"
     } else {
         path
+    }
+}
+
+/// Says what of a configuration is ignored, if something is.
+pub fn say_ignored<R: Eprint>(rt: &R, path: &str, ignored: IgnoredSettings) {
+    if ignored.is_something() {
+        let file = shown(path);
+        let _ = eprintln!(rt; "{file}: ignored: {ignored}");
     }
 }
 

@@ -6,13 +6,14 @@
 //! its end at that time, as Prometheus sends them. The configuration is `am_cli`'s, or
 //! Alertmanager's own (`configured`), whose faults are all reported; of the rest the first fault
 //! is. Contracts say by definitions over the JSON value's fields what was read for `output`,
-//! `start` and `expect` (`Request`, `Expected`).
-ghost use Rattle.std.specs.Prelude.{◌≡◌, ◌≤◌, IfOk, Some, codes};
+//! `start`, `until`, `maintain` and `expect` (`Request`, `Expected`).
+ghost use Rattle.std.specs.Prelude.{◌≡◌, ◌≤◌, ◌<◌, IfOk, Some, codes};
 ghost use Rattle.std.specs.Result.{result_ok};
 ghost use Rattle.serde_json.specs.Find.{get_member};
 ghost use Rattle.serde_json.specs.View.{members_view, view};
 ghost use Rattle.am_rehearsal.specs.declared.limits.TheConstants.{MAX_UNTIL};
-ghost use Rattle.am_rehearse.specs.Request.{Requests, IsRequestIn, end_for, output_for};
+ghost use Rattle.am_rehearse.specs.Expected.{AreExpectedIn};
+ghost use Rattle.am_rehearse.specs.Request.{DecodesToStart, Requests, IsRequestIn, end_for, maintain_in, output_for};
 
 use crate::input::alert::AlertItem;
 use crate::input::expectation::read_expectations;
@@ -20,14 +21,14 @@ use crate::input::outage::OutageItem;
 use crate::input::silence::SilenceItem;
 use crate::input::target::check;
 use am_board::config::Config;
-use am_cli::duration::{duration, interval_or};
+use am_cli::duration::{duration, interval};
 use am_cli::fault::{FaultKind, InputFault};
 use am_cli::place::JsonPointer;
 use am_cli::reader::{Object, Reader};
 use am_config::dropped::IgnoredSettings;
 use am_config::faults::Refusal;
 use am_rehearsal::MAX_UNTIL;
-use am_rehearsal::rehearsal::{Outage, Rehearsal};
+use am_rehearsal::rehearsal::{Outage, Rehearsal, TimedAction};
 use am_timeline::dated::UtcDates;
 use am_timeline::expectation::Expectation;
 use serde_json::Value;
@@ -50,7 +51,7 @@ pub use faults::{ReceiversOf, story_faults};
 pub use origin::Origin;
 
 /// How often maintenance is made, where the rehearsal doesn't say: every 15 minutes, in milliseconds.
-const MAINTAIN: u64 = 900_000;
+pub const MAINTAIN: u64 = 900_000;
 
 /// The members of a rehearsal.
 const MEMBERS: [&str; 10] = [
@@ -80,15 +81,29 @@ pub struct Input {
     pub dropped: IgnoredSettings,
 }
 
+/// What a story asks for besides what happens in it.
+#[derive(Drop)]
+struct Asked {
+    start: Option<UtcDates>,
+    expectations: Vec<Expectation>,
+    output: Output,
+}
+
 /// What is printed.
 #[derive(Clone, Copy, Debug, PartialEq, Eq)]
 pub enum Output {
-    /// A line for each event, a table and the expectations.
+    /// A line for each event, but one for a run of like flushes, a table and the expectations.
     Timeline,
-    /// The lines on delivered notices alone.
+    /// A line for each event, a table and the expectations. Only the command line asks for it.
+    Full,
+    /// The lines on notices alone.
     Notices,
+    /// The lines on delivered notices alone. Only the command line asks for it.
+    Delivered,
     /// A JSON object on each line.
     Json,
+    /// A page with a picture.
+    Html,
 }
 
 /// What the command line says in place of a story's own output and end.
@@ -108,7 +123,8 @@ pub struct Changes {
 /// Reads a whole rehearsal. The first fault in the order of reading is answered; of Alertmanager's
 /// configuration all faults.
 pub fn read_input(alloc: Global, value: &Value, changes: Changes) -> Result<Input, Refusal>
-    ensures { IfOk result (λ input. IsRequestIn changes.overrides (view value.now) input.output input.start input.expectations.items) }
+    ensures { IfOk result (λ input. IsRequestIn changes.overrides (view value.now) input.output input.start
+        input.expectations.items input.rehearsal) }
 {
     let reader = Reader::strict(alloc, value);
     let top = reader.object()?;
@@ -125,25 +141,17 @@ fn read_planned(
     overrides: Overrides,
 ) -> Result<Input, InputFault>
     ensures { IfOk result (λ input.
-        Requests overrides (members_view top.now.members) input.output input.start input.expectations.items) }
+        Requests overrides (members_view top.now.members) input.output input.start input.expectations.items input.rehearsal) }
 {
     let Configured { config, ignored } = configured;
-    let start = moment::start(top)?;
     let until = read_until(top, overrides.until)?;
-    let alerts = top.list_or_none::<AlertItem>("alerts")?;
-    let silences = top.list_or_none::<SilenceItem>("silences")?;
-    let maintain = interval_or(top, "maintain", MAINTAIN)?;
-    let outages = read_outages(top, &config)?;
-    let expectations = read_expectations(top, &config, until)?;
-    let output = read_output(top, overrides.output)?;
-    let (plans, origins) = planned::in_order(top.alloc(), alerts, silences)?;
-    let rehearsal = Rehearsal {
-        config,
-        until,
-        maintain,
-        plans,
-        outages,
-    };
+    let asked = read_asked(top, &config, until, overrides.output)?;
+    let (rehearsal, origins) = read_rehearsal(top, config, until)?;
+    let Asked {
+        start,
+        expectations,
+        output,
+    } = asked;
     Ok(Input {
         rehearsal,
         origins,
@@ -152,6 +160,71 @@ fn read_planned(
         output,
         dropped: ignored,
     })
+}
+
+/// Reads how the output of a rehearsal that ends at `until` shows times, what is expected of it and what is printed.
+fn read_asked(
+    top: &Object<'_, '_>,
+    config: &Config,
+    until: u64,
+    output: Option<Output>,
+) -> Result<Asked, InputFault>
+    ensures output { IfOk result (λ asked.
+        output_for output (get_member (codes "output") (members_view top.now.members)) ≡ Some asked.output) }
+    ensures start { IfOk result (λ asked. DecodesToStart (get_member (codes "start") (members_view top.now.members)) asked.start) }
+    ensures expectations { IfOk result (λ asked.
+        AreExpectedIn until (get_member (codes "expect") (members_view top.now.members)) asked.expectations.items) }
+{
+    let start = moment::start(top)?;
+    let output = read_output(top, output)?;
+    let expectations = read_expectations(top, config, until)?;
+    Ok(Asked {
+        start,
+        expectations,
+        output,
+    })
+}
+
+/// Reads what happens until `until` under a configuration, and where the planned actions are in the input.
+fn read_rehearsal(
+    top: &Object<'_, '_>,
+    config: Config,
+    until: u64,
+) -> Result<(Rehearsal, Vec<Origin>), InputFault>
+    requires { until ≤ MAX_UNTIL }
+    ensures until { IfOk result (λ read. read.0.until ≡ until) }
+    ensures maintain { IfOk result (λ read.
+        maintain_in (get_member (codes "maintain") (members_view top.now.members)) ≡ Some read.0.maintain) }
+{
+    let maintain = read_maintain(top)?;
+    let outages = read_outages(top, &config)?;
+    let (plans, origins) = read_plans(top)?;
+    let rehearsal = Rehearsal {
+        config,
+        until,
+        maintain,
+        plans,
+        outages,
+    };
+    Ok((rehearsal, origins))
+}
+
+/// Reads the planned actions, in the order of their times, and where each is in the input.
+fn read_plans(top: &Object<'_, '_>) -> Result<(Vec<TimedAction>, Vec<Origin>), InputFault> {
+    let alerts = top.list_or_none::<AlertItem>("alerts")?;
+    let silences = top.list_or_none::<SilenceItem>("silences")?;
+    planned::in_order(top.alloc(), alerts, silences)
+}
+
+/// The time between two maintenances, in milliseconds.
+fn read_maintain(top: &Object<'_, '_>) -> Result<u64, InputFault>
+    ensures value { result_ok result ≡ maintain_in (get_member (codes "maintain") (members_view top.now.members)) }
+    ensures some { IfOk result (λ interval. 0 < interval) }
+{
+    match top.optional("maintain") {
+        None => Ok(MAINTAIN),
+        Some(member) => interval(&member),
+    }
 }
 
 /// The last moment, as the command line says it, or else the member; `Value` above `MAX_UNTIL`.
@@ -215,6 +288,7 @@ fn read_output(top: &Object<'_, '_>, asked: Option<Output>) -> Result<Output, In
         "timeline" => Ok(Output::Timeline),
         "notices" => Ok(Output::Notices),
         "json" => Ok(Output::Json),
+        "html" => Ok(Output::Html),
         _ => Err(member.refuse(FaultKind::BadValue)),
     }
 }

@@ -16,12 +16,16 @@ mod run;
 use am_cli::device::{StandardInput, StandardOutput};
 use am_command::completions::completions;
 use am_command::manual::manual;
-use am_command::request::{Color, FaultFormat, PlayRequest, Request, Style, read_request};
+use am_command::request::{
+    Color, CompareRequest, FaultFormat, PlayRequest, Request, StoryRequest, Style, read_request,
+};
 use clap::error::ErrorKind;
 use commands::check::check;
+use commands::compare::compare;
 use commands::json::json;
 use commands::play::play;
 use commands::routes::{RoutesRequest, routes};
+use commands::story::story;
 use console::{Console, NO_MEMORY, REJECTED};
 use files::PaintedOutput;
 use std::alloc::AllocError;
@@ -64,17 +68,14 @@ fn words_of(rt: &HostRuntime) -> io::Result<Vec<String>> {
     Ok(env::args(rt)?.collect(rt.alloc())?)
 }
 
-/// Does what is asked for, and returns the status.
+/// Does what is asked for, and returns the status. Each command makes its console, so that no function lets go of several
+/// values at each of its ends: such a one is very dear to prove.
 fn answer(rt: &HostRuntime, request: Request<'_>) -> u8 {
     match request {
-        Request::Play(request) => {
-            let is_timeline = matches!(request.output, None | Some("timeline" | "notices"));
-            let mut console = console_for(rt, request.style, is_timeline);
-            play(rt, &mut console, request)
-        }
-        Request::Check { files, style } => {
-            check(rt, &mut console_for(rt, style, false), files.as_slice())
-        }
+        Request::Play(request) => answer_play(rt, request),
+        Request::Compare(request) => answer_compare(rt, request),
+        Request::Story(request) => answer_story(rt, request),
+        Request::Check { files, style } => answer_check(rt, files.as_slice(), style),
         Request::Routes {
             file,
             labels,
@@ -86,14 +87,43 @@ fn answer(rt: &HostRuntime, request: Request<'_>) -> u8 {
                 labels: labels.as_slice(),
                 verify,
             };
-            routes(rt, &mut console_for(rt, style, false), request)
+            answer_routes(rt, request, style)
         }
-        Request::Json { files, style } => {
-            json(rt, &mut console_for(rt, style, false), files.as_slice())
-        }
+        Request::Json { files, style } => answer_json(rt, files.as_slice(), style),
         Request::Manual => print(rt, manual(rt.alloc())),
         Request::Completions => print(rt, completions(rt.alloc())),
     }
+}
+
+fn answer_play(rt: &HostRuntime, request: PlayRequest<'_>) -> u8 {
+    let is_timeline = matches!(request.output, None | Some("timeline" | "notices"));
+    let mut console = console_for(rt, request.style, is_timeline);
+    play(rt, &mut console, request)
+}
+
+fn answer_compare(rt: &HostRuntime, request: CompareRequest<'_>) -> u8 {
+    let mut console = console_for(rt, request.style, false);
+    compare(rt, &mut console, request)
+}
+
+fn answer_story(rt: &HostRuntime, request: StoryRequest<'_>) -> u8 {
+    let mut console = console_for(rt, request.style, false);
+    story(rt, &mut console, request)
+}
+
+fn answer_check(rt: &HostRuntime, files: &[&str], style: Style) -> u8 {
+    let mut console = console_for(rt, style, false);
+    check(rt, &mut console, files)
+}
+
+fn answer_routes(rt: &HostRuntime, request: RoutesRequest<'_, '_>, style: Style) -> u8 {
+    let mut console = console_for(rt, style, false);
+    routes(rt, &mut console, request)
+}
+
+fn answer_json(rt: &HostRuntime, files: &[&str], style: Style) -> u8 {
+    let mut console = console_for(rt, style, false);
+    json(rt, &mut console, files)
 }
 
 /// Prints a text that was made, and returns the status.

@@ -3,3 +3,4 @@ pub mod Rows
 pub mod Days
 pub mod Known
 pub mod Tables
+pub mod Folds

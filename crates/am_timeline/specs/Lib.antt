@@ -2,6 +2,7 @@ pub mod TimeFormatData
 pub mod Shown
 pub mod Playback
 pub mod Timeline
+pub mod Runs
 pub mod Notices
 pub mod Table
 pub mod Expectation

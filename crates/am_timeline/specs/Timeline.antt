@@ -1,6 +1,6 @@
 -- Timeline: what happened in a rehearsal, a line for each event.
 use Rattle.std.specs.Prelude.{ℕ, ◌+◌, Bool, true, false, not, ◌&&◌, ◌==◌, List, [], ◌∷◌, ◌++◌, length, codes, decimal}
-use Rattle.std.specs.Prelude.{slice_get, if◌then◌else◌}
+use Rattle.std.specs.Prelude.{nat_lt, slice_get, if◌then◌else◌}
 use Rattle.std.specs.List.{flat_map, join_by, list_all}
 use Rattle.std.specs.Option.{option_map_or}
 use Rattle.am_alerts.specs.AlertData.{AlertData}
@@ -93,42 +93,51 @@ abbrev pub alerts_text : List ℕ → List AlertData → List ℕ
 alerts_text word [] = []
 alerts_text word (a ∷ alerts) = word ++ sets_shown labels_of (a ∷ alerts)
 
+-- whether the sending of a notice ended after the deadline of its flush
+abbrev pub is_late : SentData → Bool
+is_late s = nat_lt s.notice.deadline s.report.ended
+
+-- that a sending ended after this deadline, at which Alertmanager would have cut it off
+abbrev pub past_text : TimeFormatData → ℕ → List ℕ
+past_text times deadline = codes ", past its deadline " ++ times.text deadline ++ codes ", at which Alertmanager cuts it off"
+
+-- that a sending ended after the deadline of its flush, if it did
+abbrev pub late_text : TimeFormatData → SentData → List ℕ
+late_text times s = if is_late s then past_text times s.notice.deadline else []
+
 -- that a notice was delivered
 abbrev pub delivered_text : Config → TimeFormatData → SentData → List ℕ
 delivered_text config times s =
     time_text times s.report.ended (codes "notice  ") ++ target_shown config s.notice.group s.notice.integration
-    ++ codes " delivered" ++ retries_text times s.report.attempts s.begin.preview.moment
+    ++ codes " delivered" ++ retries_text times s.report.attempts s.begin.preview.moment ++ late_text times s
 
--- why a notice was sent, and what it told
+-- that a notice wasn't delivered, and what it came to
+abbrev pub failed_text : Config → TimeFormatData → SentData → List ℕ → List ℕ
+failed_text config times s word =
+    time_text times s.report.ended (codes "failed  ") ++ target_shown config s.notice.group s.notice.integration
+    ++ word ++ attempts_text times s.report.attempts s.begin.preview.moment ++ late_text times s
+
+-- what a notice came to
+abbrev pub outcome_text : Outcome → Config → TimeFormatData → SentData → List ℕ
+outcome_text Delivered config times s = delivered_text config times s
+outcome_text Refused config times s = failed_text config times s (codes " refused")
+outcome_text Expired config times s = failed_text config times s (codes " expired")
+outcome_text Starved config times s = failed_text config times s (codes " starved")
+
+-- why a notice was sent, and the alerts that it has
 abbrev pub content_text : TimeFormatData → Reason → NoticeData → List ℕ
 content_text times reason n =
     codes ": " ++ reason_text times reason ++ alerts_text (codes "; firing ") n.firing ++ alerts_text (codes "; resolved ") n.resolved
     ++ codes "\n"
 
--- a delivered notice
-abbrev pub delivered_line : Config → TimeFormatData → SentData → Reason → List ℕ
-delivered_line config times s reason = delivered_text config times s ++ content_text times reason s.notice
+-- a notice that was sent for a reason
+abbrev pub line_for : Config → TimeFormatData → SentData → Reason → List ℕ
+line_for config times s reason = outcome_text s.outcome config times s ++ content_text times reason s.notice
 
--- a notice that wasn't delivered: what it came to
-abbrev pub failed_line : Config → TimeFormatData → SentData → List ℕ → List ℕ
-failed_line config times s word =
-    time_text times s.report.ended (codes "failed  ") ++ target_shown config s.notice.group s.notice.integration
-    ++ word ++ attempts_text times s.report.attempts s.begin.preview.moment ++ codes "\n"
-
--- a notice that was delivered, with the reason that was told of its integration; nothing where none was
-abbrev pub notice_line : Config → TimeFormatData → SentData → List ℕ
-notice_line config times s =
-    option_map_or (delivered_line config times s) (slice_get s.begin.preview.reasons s.notice.integration) []
-
--- a notice whose sending came to its end
-abbrev pub sent_line_by : Outcome → Config → TimeFormatData → SentData → List ℕ
-sent_line_by Delivered config times s = notice_line config times s
-sent_line_by Refused config times s = failed_line config times s (codes " refused")
-sent_line_by Expired config times s = failed_line config times s (codes " expired")
-sent_line_by Starved config times s = failed_line config times s (codes " starved")
-
+-- a notice whose sending came to its end, with the reason that was told of its integration; nothing where none was
 abbrev pub sent_line : Config → TimeFormatData → SentData → List ℕ
-sent_line config times s = sent_line_by s.outcome config times s
+sent_line config times s =
+    option_map_or (line_for config times s) (slice_get s.begin.preview.reasons s.notice.integration) []
 
 -- how an alert is muted
 abbrev pub cause_words : MuteCause → List ℕ
@@ -152,52 +161,63 @@ muted_alert_text times m = set_shown m.labels ++ cause_text times m.cause
 abbrev pub muted_text : TimeFormatData → List MutedAlert → List ℕ
 muted_text times muted = join_by (muted_alert_text times) (codes "; ") muted
 
+-- how a line on a begin is framed: the time at its front, and what ends it
+pub record FrameData : Type 0 where
+  pub moment : ℕ
+  pub ending : List ℕ
+
+-- the frame of a line of its own: the time of its begin, and a line feed
+abbrev pub own_frame : Preview → FrameData
+own_frame o = record { moment = o.moment; ending = codes "\n" }
+
 -- a begin that some alerts of its group are muted at
-abbrev pub muted_line : Config → TimeFormatData → Preview → List ℕ
-muted_line config times o =
+abbrev pub muted_line : Config → TimeFormatData → FrameData → Preview → List ℕ
+muted_line config times frame o =
     if length o.muted == 0 then []
-    else time_text times o.moment (codes "muted   ") ++ group_shown config o.group ++ codes ": " ++ muted_text times o.muted ++ codes "\n"
+    else time_text times frame.moment (codes "muted   ") ++ group_shown config o.group ++ codes ": " ++ muted_text times o.muted
+    ++ frame.ending
 
 -- what is left of a group: no alerts, or muted ones
 abbrev pub nothing_left_text : TimeFormatData → List MutedAlert → List ℕ
 nothing_left_text times muted = if length muted == 0 then codes "no alerts" else muted_text times muted
 
 -- a begin at which nothing is left of its group
-abbrev pub nothing_left_line : Config → TimeFormatData → Preview → List ℕ
-nothing_left_line config times o =
-    time_text times o.moment (codes "quiet   ") ++ group_shown config o.group ++ codes ": " ++ nothing_left_text times o.muted ++ codes "\n"
+abbrev pub nothing_left_line : Config → TimeFormatData → FrameData → Preview → List ℕ
+nothing_left_line config times frame o =
+    time_text times frame.moment (codes "quiet   ") ++ group_shown config o.group ++ codes ": " ++ nothing_left_text times o.muted
+    ++ frame.ending
 
 -- a group's receiver that is told nothing, and why
-abbrev pub no_integrations_line : Config → TimeFormatData → Preview → List ℕ → List ℕ
-no_integrations_line config times o why =
-    time_text times o.moment (codes "quiet   ") ++ group_receiver_text config o.group ++ codes ": " ++ why ++ codes "\n"
+abbrev pub no_integrations_line : Config → TimeFormatData → FrameData → Preview → List ℕ → List ℕ
+no_integrations_line config times frame o why =
+    time_text times frame.moment (codes "quiet   ") ++ group_receiver_text config o.group ++ codes ": " ++ why ++ frame.ending
 
 -- an integration that is told nothing
-abbrev pub not_sent_text : Config → TimeFormatData → Preview → ℕ → List ℕ
-not_sent_text config times o position =
-    time_text times o.moment (codes "quiet   ") ++ target_shown config o.group position ++ codes ": "
+abbrev pub not_sent_text : Config → TimeFormatData → FrameData → Preview → ℕ → List ℕ
+not_sent_text config times frame o position =
+    time_text times frame.moment (codes "quiet   ") ++ target_shown config o.group position ++ codes ": "
 
 -- the same, and why
-abbrev pub not_sent_line : Config → TimeFormatData → Preview → ℕ → List ℕ → List ℕ
-not_sent_line config times o position why = not_sent_text config times o position ++ why ++ codes "\n"
+abbrev pub not_sent_line : Config → TimeFormatData → FrameData → Preview → ℕ → List ℕ → List ℕ
+not_sent_line config times frame o position why = not_sent_text config times frame o position ++ why ++ frame.ending
 
 -- whether an integration is asked though there is nothing to send
 abbrev pub is_sent_nothing : List NoticeData → ℕ → Bool
 is_sent_nothing notices position = option_map_or is_nothing (notice_for position notices) false
 
 -- an integration at a begin: nothing where there is something to send
-abbrev pub quiet_line : Config → TimeFormatData → Preview → List NoticeData → ℕ → Reason → List ℕ
-quiet_line config times o notices position reason =
+abbrev pub quiet_line : Config → TimeFormatData → FrameData → Preview → List NoticeData → ℕ → Reason → List ℕ
+quiet_line config times frame o notices position reason =
     if asks reason
     then (if is_sent_nothing notices position
-    then not_sent_line config times o position (codes "all resolved, which it isn't sent") else [])
-    else not_sent_line config times o position (reason_text times reason)
+    then not_sent_line config times frame o position (codes "all resolved, which it isn't sent") else [])
+    else not_sent_line config times frame o position (reason_text times reason)
 
 -- the integrations from a position on, at a begin
-abbrev pub quiet_lines : Config → TimeFormatData → Preview → List NoticeData → ℕ → List Reason → List ℕ
-quiet_lines config times o notices position [] = []
-quiet_lines config times o notices position (reason ∷ reasons) =
-    quiet_line config times o notices position reason ++ quiet_lines config times o notices (position + 1) reasons
+abbrev pub quiet_lines : Config → TimeFormatData → FrameData → Preview → List NoticeData → ℕ → List Reason → List ℕ
+quiet_lines config times frame o notices position [] = []
+quiet_lines config times frame o notices position (reason ∷ reasons) =
+    quiet_line config times frame o notices position reason ++ quiet_lines config times frame o notices (position + 1) reasons
 
 -- whether a reason is that nothing is left
 abbrev pub is_left : Reason → Bool
@@ -215,21 +235,25 @@ abbrev pub nothing_left : List Reason → Bool
 nothing_left reasons = not (length reasons == 0) && list_all is_left reasons
 
 -- the integrations at a begin at which something is left, or of which there is none
-abbrev pub asked_lines : Config → TimeFormatData → Preview → List NoticeData → List ℕ
-asked_lines config times o notices =
-    if length o.reasons == 0 then no_integrations_line config times o (codes "no integrations")
-    else quiet_lines config times o notices 0 o.reasons
+abbrev pub asked_lines : Config → TimeFormatData → FrameData → Preview → List NoticeData → List ℕ
+asked_lines config times frame o notices =
+    if length o.reasons == 0 then no_integrations_line config times frame o (codes "no integrations")
+    else quiet_lines config times frame o notices 0 o.reasons
 
 -- a begin: which alerts are muted, and who is told nothing
-abbrev pub begun_lines : PlaybackData → TimeFormatData → PreviewedBegin → List ℕ
-begun_lines playback times begin =
-    if nothing_left begin.preview.reasons then nothing_left_line playback.config times begin.preview
-    else muted_line playback.config times begin.preview
-    ++ asked_lines playback.config times begin.preview (notices_at playback.history begin.place)
+abbrev pub begun_lines : PlaybackData → TimeFormatData → FrameData → PreviewedBegin → List ℕ
+begun_lines playback times frame begin =
+    if nothing_left begin.preview.reasons then nothing_left_line playback.config times frame begin.preview
+    else muted_line playback.config times frame begin.preview
+    ++ asked_lines playback.config times frame begin.preview (notices_at playback.history begin.place)
+
+-- the lines on a begin, each with its own time
+abbrev pub own_lines : PlaybackData → TimeFormatData → PreviewedBegin → List ℕ
+own_lines playback times begin = begun_lines playback times (own_frame begin.preview) begin
 
 -- the lines on an event
 abbrev pub event_lines : PlaybackData → TimeFormatData → Event → List ℕ
-event_lines playback times (Begun begin) = option_map_or (begun_lines playback times) (slice_get playback.begins begin) []
+event_lines playback times (Begun begin) = option_map_or (own_lines playback times) (slice_get playback.begins begin) []
 event_lines playback times (Sent begin report) =
     option_map_or (sent_line playback.config times) (sent_of playback (Sent begin report)) []
 

@@ -109,6 +109,11 @@ abbrev pub fired_text : TimeFormatData → ℕ → ℕ → Option ℕ → List �
 fired_text times total starts None = codes "fires since " ++ times.text starts ++ before_text total
 fired_text times total starts (Some end) = codes "fired for " ++ counted_text total ++ codes " until " ++ times.text end
 
+-- that each notice of an alert that has this end failed
+abbrev pub failed_each_text : Option ℕ → List ℕ
+failed_each_text None = codes "every notice failed"
+failed_each_text (Some end) = codes "every notice failed; resolved unseen"
+
 -- why no begin sent an alert that has this end, where none muted it
 abbrev pub unseen_text : Option ℕ → List ℕ
 unseen_text None = codes "no flush of its group since"
@@ -128,7 +133,7 @@ unsent_text times (Some cause) ends = muted_each_text times cause
 abbrev pub undelivered_cause : Config → TimeFormatData → FindingsData → AlertData → List ℕ
 undelivered_cause config times found a =
     if has_no_integrations config a.labels then codes "no integrations"
-    else (if has_set found.sent a.labels then codes "every notice failed"
+    else (if has_set found.sent a.labels then failed_each_text a.ends
     else unsent_text times (last_cause a.labels found.muted) a.ends)
 
 -- for how long an alert fired, as looking back finds it

@@ -8,6 +8,7 @@ ghost use Rattle.am_timeline.specs.Timeline.{nothing_left, quiet_line, quiet_lin
 ghost use Rattle.am_timeline.specs.Timeline.{reason_text, no_integrations_line, not_sent_line, not_sent_text};
 
 use crate::clock::TimeFormat;
+use crate::frame::Frame;
 use crate::groups::{push_group, push_group_receiver, push_target};
 use crate::line::{push_reason, push_time};
 use crate::muted::push_muted;
@@ -24,18 +25,19 @@ use std::alloc::AllocError;
 pub(crate) fn push_begun<C: TimeFormat>(
     playback: &Playback,
     clock: &C,
+    frame: &Frame<'_>,
     begin: &PreviewedBegin,
     out: &mut String,
 ) -> Result<(), AllocError>
     ensures { OnOk result (string_bytes out.new
-        ≡ string_bytes out.old ++ begun_lines playback.now (C.times clock.now) begin.now) }
+        ≡ string_bytes out.old ++ begun_lines playback.now (C.times clock.now) frame.now begin.now) }
 {
     if nothing_left(begin.preview.reasons.as_slice()) {
-        return push_left(playback.config, clock, &begin.preview, out);
+        return push_left(playback.config, clock, frame, &begin.preview, out);
     }
-    push_muted_line(playback.config, clock, &begin.preview, out)?;
+    push_muted_line(playback.config, clock, frame, &begin.preview, out)?;
     let notices = notices_at(playback.history, begin.place);
-    push_asked(playback.config, clock, &begin.preview, notices, out)
+    push_asked(playback.config, clock, frame, &begin.preview, notices, out)
 }
 
 /// Returns whether nothing is left of a group, by the reasons of its receiver's integrations.
@@ -64,17 +66,18 @@ fn is_left(reason: &Reason) -> bool
 fn push_left<C: TimeFormat>(
     config: &Config,
     clock: &C,
+    frame: &Frame<'_>,
     preview: &Preview,
     out: &mut String,
 ) -> Result<(), AllocError>
     ensures { OnOk result (string_bytes out.new
-        ≡ string_bytes out.old ++ nothing_left_line config.now (C.times clock.now) preview.now) }
+        ≡ string_bytes out.old ++ nothing_left_line config.now (C.times clock.now) frame.now preview.now) }
 {
-    push_time(clock, preview.moment, "quiet   ", out)?;
+    push_time(clock, frame.moment, "quiet   ", out)?;
     push_group(config, &preview.group, out)?;
     out.push_str(": ")?;
     push_muted_or_none(clock, preview.muted.as_slice(), out)?;
-    out.push_str("\n")
+    out.push_str(frame.ending)
 }
 
 fn push_muted_or_none<C: TimeFormat>(
@@ -95,51 +98,56 @@ fn push_muted_or_none<C: TimeFormat>(
 fn push_muted_line<C: TimeFormat>(
     config: &Config,
     clock: &C,
+    frame: &Frame<'_>,
     preview: &Preview,
     out: &mut String,
 ) -> Result<(), AllocError>
     ensures { OnOk result (string_bytes out.new
-        ≡ string_bytes out.old ++ muted_line config.now (C.times clock.now) preview.now) }
+        ≡ string_bytes out.old ++ muted_line config.now (C.times clock.now) frame.now preview.now) }
 {
     if preview.muted.len() == 0 {
         return Ok(());
     }
-    push_time(clock, preview.moment, "muted   ", out)?;
+    push_time(clock, frame.moment, "muted   ", out)?;
     push_group(config, &preview.group, out)?;
     out.push_str(": ")?;
     push_muted(clock, preview.muted.as_slice(), out)?;
-    out.push_str("\n")
+    out.push_str(frame.ending)
 }
 
 /// Adds the lines on the integrations at a begin.
 fn push_asked<C: TimeFormat>(
     config: &Config,
     clock: &C,
+    frame: &Frame<'_>,
     preview: &Preview,
     notices: &[Notice],
     out: &mut String,
 ) -> Result<(), AllocError>
     ensures { OnOk result (string_bytes out.new
-        ≡ string_bytes out.old ++ asked_lines config.now (C.times clock.now) preview.now notices.now) }
+        ≡ string_bytes out.old ++ asked_lines config.now (C.times clock.now) frame.now preview.now notices.now) }
 {
     if preview.reasons.len() == 0 {
-        return push_unasked(config, clock, preview, "no integrations", out);
+        return push_unasked(config, clock, frame, preview, "no integrations", out);
     }
-    push_quiet_lines(config, clock, preview, notices, out)
+    push_quiet_lines(config, clock, frame, preview, notices, out)
 }
 
 fn push_quiet_lines<C: TimeFormat>(
     config: &Config,
     clock: &C,
+    frame: &Frame<'_>,
     preview: &Preview,
     notices: &[Notice],
     out: &mut String,
 ) -> Result<(), AllocError>
     ensures { OnOk result (string_bytes out.new ≡ string_bytes out.old
-        ++ quiet_lines config.now (C.times clock.now) preview.now notices.now 0 preview.now.reasons) }
+        ++ quiet_lines config.now (C.times clock.now) frame.now preview.now notices.now 0 preview.now.reasons) }
 {
     for (position, reason) in preview.reasons.as_slice().iter().enumerate() {
-        push_quiet(config, clock, preview, notices, position, reason, out)?;
+        push_quiet(
+            config, clock, frame, preview, notices, position, reason, out,
+        )?;
     }
     Ok(())
 }
@@ -148,6 +156,7 @@ fn push_quiet_lines<C: TimeFormat>(
 fn push_quiet<C: TimeFormat>(
     config: &Config,
     clock: &C,
+    frame: &Frame<'_>,
     preview: &Preview,
     notices: &[Notice],
     position: usize,
@@ -155,14 +164,14 @@ fn push_quiet<C: TimeFormat>(
     out: &mut String,
 ) -> Result<(), AllocError>
     ensures { OnOk result (string_bytes out.new ≡ string_bytes out.old
-        ++ quiet_line config.now (C.times clock.now) preview.now notices.now position reason.now) }
+        ++ quiet_line config.now (C.times clock.now) frame.now preview.now notices.now position reason.now) }
 {
     if !reason.asks() {
-        return push_not_asked(config, clock, preview, position, reason, out);
+        return push_not_asked(config, clock, frame, preview, position, reason, out);
     }
     if is_sent_nothing(notices, position) {
         let why = "all resolved, which it isn't sent";
-        return push_untold(config, clock, preview, position, why, out);
+        return push_untold(config, clock, frame, preview, position, why, out);
     }
     Ok(())
 }
@@ -170,46 +179,49 @@ fn push_quiet<C: TimeFormat>(
 fn push_not_asked<C: TimeFormat>(
     config: &Config,
     clock: &C,
+    frame: &Frame<'_>,
     preview: &Preview,
     position: usize,
     reason: &Reason,
     out: &mut String,
 ) -> Result<(), AllocError>
     ensures { OnOk result (string_bytes out.new ≡ string_bytes out.old
-        ++ not_sent_line config.now (C.times clock.now) preview.now position (reason_text (C.times clock.now) reason.now)) }
+        ++ not_sent_line config.now (C.times clock.now) frame.now preview.now position (reason_text (C.times clock.now) reason.now)) }
 {
-    push_untold_front(config, clock, preview, position, out)?;
+    push_untold_front(config, clock, frame, preview, position, out)?;
     push_reason(clock, reason, out)?;
-    out.push_str("\n")
+    out.push_str(frame.ending)
 }
 
 fn push_untold<C: TimeFormat>(
     config: &Config,
     clock: &C,
+    frame: &Frame<'_>,
     preview: &Preview,
     position: usize,
     why: &str,
     out: &mut String,
 ) -> Result<(), AllocError>
     ensures { OnOk result (string_bytes out.new ≡ string_bytes out.old
-        ++ not_sent_line config.now (C.times clock.now) preview.now position why.now) }
+        ++ not_sent_line config.now (C.times clock.now) frame.now preview.now position why.now) }
 {
-    push_untold_front(config, clock, preview, position, out)?;
+    push_untold_front(config, clock, frame, preview, position, out)?;
     out.push_str(why)?;
-    out.push_str("\n")
+    out.push_str(frame.ending)
 }
 
 fn push_untold_front<C: TimeFormat>(
     config: &Config,
     clock: &C,
+    frame: &Frame<'_>,
     preview: &Preview,
     position: usize,
     out: &mut String,
 ) -> Result<(), AllocError>
     ensures { OnOk result (string_bytes out.new ≡ string_bytes out.old
-        ++ not_sent_text config.now (C.times clock.now) preview.now position) }
+        ++ not_sent_text config.now (C.times clock.now) frame.now preview.now position) }
 {
-    push_time(clock, preview.moment, "quiet   ", out)?;
+    push_time(clock, frame.moment, "quiet   ", out)?;
     push_target(config, &preview.group, position, out)?;
     out.push_str(": ")
 }
@@ -228,16 +240,17 @@ pub(crate) fn is_sent_nothing(notices: &[Notice], position: usize) -> bool
 fn push_unasked<C: TimeFormat>(
     config: &Config,
     clock: &C,
+    frame: &Frame<'_>,
     preview: &Preview,
     why: &str,
     out: &mut String,
 ) -> Result<(), AllocError>
     ensures { OnOk result (string_bytes out.new
-        ≡ string_bytes out.old ++ no_integrations_line config.now (C.times clock.now) preview.now why.now) }
+        ≡ string_bytes out.old ++ no_integrations_line config.now (C.times clock.now) frame.now preview.now why.now) }
 {
-    push_time(clock, preview.moment, "quiet   ", out)?;
+    push_time(clock, frame.moment, "quiet   ", out)?;
     push_group_receiver(config, &preview.group, out)?;
     out.push_str(": ")?;
     out.push_str(why)?;
-    out.push_str("\n")
+    out.push_str(frame.ending)
 }

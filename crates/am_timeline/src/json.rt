@@ -21,7 +21,7 @@ use std::alloc::{AllocError, Global};
 /// start), `time` (as the format shows it), `route` and `group` (the group labels). Where they
 /// apply it has:
 /// - `receiver`, `integration` (as `hook/0`), `outcome`, `attempts`, `reason`;
-/// - `since` and `from` (milliseconds);
+/// - `since`, `from`, and the `deadline` that a sending missed (milliseconds);
 /// - `firing` and `resolved` (lists of label sets);
 /// - `muted` (a list of objects with `labels`, `cause`, and `until` or `by` and `rule`).
 pub fn json_text<C: TimeFormat>(
@@ -62,26 +62,17 @@ fn push_sent<C: TimeFormat>(
     sent: &Sent,
     out: &mut String,
 ) -> Result<(), AllocError> {
-    if sent.is_delivered() {
-        return push_notice(alloc, config, clock, sent, out);
-    }
-    let object = sent_object(alloc, config, clock, "failed", sent)?;
-    object.push_line(out)
-}
-
-fn push_notice<C: TimeFormat>(
-    alloc: Global,
-    config: &Config,
-    clock: &C,
-    sent: &Sent,
-    out: &mut String,
-) -> Result<(), AllocError> {
     let notice = sent.notice;
     let reasons = sent.begin.preview.reasons.as_slice();
     let Some(reason) = reasons.get(notice.integration as usize) else {
         return Ok(());
     };
-    let mut object = sent_object(alloc, config, clock, "notice", sent)?;
+    let event = if sent.is_delivered() {
+        "notice"
+    } else {
+        "failed"
+    };
+    let mut object = sent_object(alloc, config, clock, event, sent)?;
     put_reason(reason, &mut object)?;
     object.put("firing", sets_of(alloc, notice.firing.as_slice())?)?;
     object.put("resolved", sets_of(alloc, notice.resolved.as_slice())?)?;
@@ -103,6 +94,9 @@ fn sent_object<C: TimeFormat>(
     object.put_text("outcome", outcome_word(sent.outcome))?;
     object.put_number("attempts", sent.report.attempts)?;
     object.put_number("since", sent.begin.preview.moment)?;
+    if sent.report.ended > notice.deadline {
+        object.put_number("deadline", notice.deadline)?;
+    }
     Ok(object)
 }
 

@@ -1,10 +1,11 @@
 //! Texts and label sets without characters that a terminal would take as a command. The modules of
 //! lines call it.
 ghost use Rattle.std.specs.Prelude.{◌≡◌, ◌++◌, ◌∷◌, [], ◌<◌, OnOk, codes, string_bytes};
-ghost use Rattle.std.specs.List.{flat_map, join_by};
+ghost use Rattle.std.specs.List.{join_by};
+ghost use Rattle.am_alerts.specs.Labels.{label_in};
 ghost use Rattle.am_timeline.specs.Shown.{char_shown, hex_digit, hex_text, label_shown, set_shown, text_shown};
 
-use am_alerts::labels::{Label, Labels};
+use am_alerts::labels::Labels;
 use std::alloc::AllocError;
 
 /// Adds a label set.
@@ -12,40 +13,29 @@ pub(crate) fn push_set(labels: &Labels, out: &mut String) -> Result<(), AllocErr
     ensures { OnOk result (string_bytes out.new ≡ string_bytes out.old ++ set_shown labels.now) }
 {
     out.push_str("{")?;
-    push_labels(labels.pairs(), out)?;
+    push_labels(labels, out)?;
     out.push_str("}")
 }
 
-fn push_labels(labels: &[Label], out: &mut String) -> Result<(), AllocError>
+fn push_labels(labels: &Labels, out: &mut String) -> Result<(), AllocError>
     ensures { OnOk result (string_bytes out.new
         ≡ string_bytes out.old ++ join_by label_shown (codes ",") labels.now) }
 {
-    match labels {
-        [] => Ok(()),
-        [first, rest @ ..] => {
-            push_label(first, out)?;
-            push_more_labels(rest, out)
+    for i in 0..labels.len() {
+        if i > 0 {
+            out.push_str(",")?;
         }
-    }
-}
-
-fn push_more_labels(labels: &[Label], out: &mut String) -> Result<(), AllocError>
-    ensures { OnOk result (string_bytes out.new
-        ≡ string_bytes out.old ++ flat_map (λ l. codes "," ++ label_shown l) labels.now) }
-{
-    for label in labels {
-        out.push_str(",")?;
-        push_label(label, out)?;
+        push_label(&labels.pair(i), out)?;
     }
     Ok(())
 }
 
-fn push_label(label: &Label, out: &mut String) -> Result<(), AllocError>
-    ensures { OnOk result (string_bytes out.new ≡ string_bytes out.old ++ label_shown label.now) }
+fn push_label(label: &(&str, &str), out: &mut String) -> Result<(), AllocError>
+    ensures { OnOk result (string_bytes out.new ≡ string_bytes out.old ++ label_shown (label_in label.now)) }
 {
-    out.push_str(label.name.as_str())?;
+    out.push_str(label.0)?;
     out.push_str("=\"")?;
-    push_text(label.value.as_str(), out)?;
+    push_text(label.1, out)?;
     out.push_str("\"")
 }
 

@@ -1,14 +1,14 @@
 //! The timeline: a line for each event of a rehearsal. `am_rehearse` prints it.
-//!
-//! A line on a notice that failed has neither reason nor alerts. The next notice has the reason
-//! again.
-ghost use Rattle.std.specs.Prelude.{◌≡◌, ◌++◌, IfOk, OnOk, string_bytes};
-ghost use Rattle.am_timeline.specs.Timeline.{delivered_line, delivered_text, event_lines, failed_line, notice_line, sent_line};
-ghost use Rattle.am_timeline.specs.Timeline.{timeline_text, content_text};
+ghost use Rattle.std.specs.Prelude.{◌≡◌, ◌++◌, [], IfOk, OnOk, string_bytes};
+ghost use Rattle.std.specs.Option.{option_map_or};
+ghost use Rattle.am_timeline.specs.Playback.{sent_of};
+ghost use Rattle.am_timeline.specs.Timeline.{content_text, delivered_text, event_lines, failed_text, late_text, line_for};
+ghost use Rattle.am_timeline.specs.Timeline.{outcome_text, own_lines, past_text, sent_line, timeline_text};
 
 use crate::alerts::push_alerts;
 use crate::begun::push_begun;
 use crate::clock::TimeFormat;
+use crate::frame::Frame;
 use crate::groups::push_target;
 use crate::line::{push_attempts, push_reason, push_retries, push_time};
 use crate::playback::Playback;
@@ -16,7 +16,7 @@ use crate::sent::{Sent, sent_of};
 use am_board::config::Config;
 use am_board::notice::Notice;
 use am_board::reason::Reason;
-use am_rehearsal::event::Event;
+use am_rehearsal::event::{Event, PreviewedBegin};
 use am_retry::Outcome;
 use std::alloc::{AllocError, Global};
 
@@ -51,17 +51,47 @@ fn push_event<C: TimeFormat>(
     match event {
         Event::Begun { begin } => match playback.begins.get(*begin) {
             None => Ok(()),
-            Some(begin) => push_begun(playback, clock, begin, out),
+            Some(begin) => push_own(playback, clock, begin, out),
         },
-        Event::Sent { .. } => match sent_of(playback, event) {
-            None => Ok(()),
-            Some(sent) => push_sent(playback.config, clock, &sent, out),
-        },
+        Event::Sent { .. } => push_sent_by(playback, clock, event, out),
     }
 }
 
-/// Adds the line on a notice whose sending came to its end.
-fn push_sent<C: TimeFormat>(
+/// Adds the lines on a begin, each with its own time.
+fn push_own<C: TimeFormat>(
+    playback: &Playback,
+    clock: &C,
+    begin: &PreviewedBegin,
+    out: &mut String,
+) -> Result<(), AllocError>
+    ensures { OnOk result (string_bytes out.new
+        ≡ string_bytes out.old ++ own_lines playback.now (C.times clock.now) begin.now) }
+{
+    let frame = Frame {
+        moment: begin.preview.moment,
+        ending: "\n",
+    };
+    push_begun(playback, clock, &frame, begin, out)
+}
+
+/// Adds the line on the notice whose sending ended by this, if there is one.
+pub(crate) fn push_sent_by<C: TimeFormat>(
+    playback: &Playback,
+    clock: &C,
+    event: &Event,
+    out: &mut String,
+) -> Result<(), AllocError>
+    ensures { OnOk result (string_bytes out.new ≡ string_bytes out.old
+        ++ option_map_or (sent_line playback.now.config (C.times clock.now)) (sent_of playback.now event.now) []) }
+{
+    match sent_of(playback, event) {
+        None => Ok(()),
+        Some(sent) => push_sent(playback.config, clock, &sent, out),
+    }
+}
+
+/// Adds the line on a notice whose sending came to its end, with the reason of its integration, if it has one.
+pub(crate) fn push_sent<C: TimeFormat>(
     config: &Config,
     clock: &C,
     sent: &Sent,
@@ -70,33 +100,15 @@ fn push_sent<C: TimeFormat>(
     ensures { OnOk result (string_bytes out.new
         ≡ string_bytes out.old ++ sent_line config.now (C.times clock.now) sent.now) }
 {
-    match sent.outcome {
-        Outcome::Delivered => push_notice(config, clock, sent, out),
-        Outcome::Refused => push_failed(config, clock, sent, " refused", out),
-        Outcome::Expired => push_failed(config, clock, sent, " expired", out),
-        Outcome::Starved => push_failed(config, clock, sent, " starved", out),
-    }
-}
-
-/// Adds the line on a delivered notice, with the reason of its integration, if it has one.
-pub(crate) fn push_notice<C: TimeFormat>(
-    config: &Config,
-    clock: &C,
-    sent: &Sent,
-    out: &mut String,
-) -> Result<(), AllocError>
-    ensures { OnOk result (string_bytes out.new
-        ≡ string_bytes out.old ++ notice_line config.now (C.times clock.now) sent.now) }
-{
     let notice = sent.notice;
     let reasons = sent.begin.preview.reasons.as_slice();
     match reasons.get(notice.integration as usize) {
         None => Ok(()),
-        Some(reason) => push_delivered(config, clock, sent, reason, out),
+        Some(reason) => push_line(config, clock, sent, reason, out),
     }
 }
 
-fn push_delivered<C: TimeFormat>(
+fn push_line<C: TimeFormat>(
     config: &Config,
     clock: &C,
     sent: &Sent,
@@ -104,10 +116,28 @@ fn push_delivered<C: TimeFormat>(
     out: &mut String,
 ) -> Result<(), AllocError>
     ensures { OnOk result (string_bytes out.new
-        ≡ string_bytes out.old ++ delivered_line config.now (C.times clock.now) sent.now reason.now) }
+        ≡ string_bytes out.old ++ line_for config.now (C.times clock.now) sent.now reason.now) }
 {
-    push_delivery(config, clock, sent, out)?;
-    push_told(clock, reason, sent.notice, out)
+    push_outcome(config, clock, sent, out)?;
+    push_content(clock, reason, sent.notice, out)
+}
+
+/// Adds what a notice came to.
+fn push_outcome<C: TimeFormat>(
+    config: &Config,
+    clock: &C,
+    sent: &Sent,
+    out: &mut String,
+) -> Result<(), AllocError>
+    ensures { OnOk result (string_bytes out.new
+        ≡ string_bytes out.old ++ outcome_text sent.now.outcome config.now (C.times clock.now) sent.now) }
+{
+    match sent.outcome {
+        Outcome::Delivered => push_delivery(config, clock, sent, out),
+        Outcome::Refused => push_failure(config, clock, sent, " refused", out),
+        Outcome::Expired => push_failure(config, clock, sent, " expired", out),
+        Outcome::Starved => push_failure(config, clock, sent, " starved", out),
+    }
 }
 
 /// Adds that a notice was delivered.
@@ -124,11 +154,55 @@ fn push_delivery<C: TimeFormat>(
     push_time(clock, sent.report.ended, "notice  ", out)?;
     push_target(config, &notice.group, notice.integration as usize, out)?;
     out.push_str(" delivered")?;
-    push_retries(clock, sent.report.attempts, sent.begin.preview.moment, out)
+    push_retries(clock, sent.report.attempts, sent.begin.preview.moment, out)?;
+    push_if_late(clock, sent, out)
+}
+
+/// Adds that a notice wasn't delivered, and what it came to.
+fn push_failure<C: TimeFormat>(
+    config: &Config,
+    clock: &C,
+    sent: &Sent,
+    word: &str,
+    out: &mut String,
+) -> Result<(), AllocError>
+    ensures { OnOk result (string_bytes out.new
+        ≡ string_bytes out.old ++ failed_text config.now (C.times clock.now) sent.now word.now) }
+{
+    let notice = sent.notice;
+    push_time(clock, sent.report.ended, "failed  ", out)?;
+    push_target(config, &notice.group, notice.integration as usize, out)?;
+    out.push_str(word)?;
+    push_attempts(clock, sent.report.attempts, sent.begin.preview.moment, out)?;
+    push_if_late(clock, sent, out)
+}
+
+/// Adds that a sending ended after the deadline of its flush, if it did.
+///
+/// An attempt that has begun goes on here until it ends. Alertmanager cuts it off at the deadline.
+fn push_if_late<C: TimeFormat>(clock: &C, sent: &Sent, out: &mut String) -> Result<(), AllocError>
+    ensures { OnOk result (string_bytes out.new
+        ≡ string_bytes out.old ++ late_text (C.times clock.now) sent.now) }
+{
+    let notice = sent.notice;
+    if notice.deadline < sent.report.ended {
+        return push_late(clock, notice.deadline, out);
+    }
+    Ok(())
+}
+
+/// Adds that a sending ended after this deadline.
+fn push_late<C: TimeFormat>(clock: &C, deadline: u64, out: &mut String) -> Result<(), AllocError>
+    ensures { OnOk result (string_bytes out.new
+        ≡ string_bytes out.old ++ past_text (C.times clock.now) deadline) }
+{
+    out.push_str(", past its deadline ")?;
+    clock.push_moment(deadline, out)?;
+    out.push_str(", at which Alertmanager cuts it off")
 }
 
 /// Adds why a notice was sent, and its alerts.
-fn push_told<C: TimeFormat>(
+fn push_content<C: TimeFormat>(
     clock: &C,
     reason: &Reason,
     notice: &Notice,
@@ -141,23 +215,5 @@ fn push_told<C: TimeFormat>(
     push_reason(clock, reason, out)?;
     push_alerts("; firing ", notice.firing.as_slice(), out)?;
     push_alerts("; resolved ", notice.resolved.as_slice(), out)?;
-    out.push_str("\n")
-}
-
-fn push_failed<C: TimeFormat>(
-    config: &Config,
-    clock: &C,
-    sent: &Sent,
-    word: &str,
-    out: &mut String,
-) -> Result<(), AllocError>
-    ensures { OnOk result (string_bytes out.new
-        ≡ string_bytes out.old ++ failed_line config.now (C.times clock.now) sent.now word.now) }
-{
-    let notice = sent.notice;
-    push_time(clock, sent.report.ended, "failed  ", out)?;
-    push_target(config, &notice.group, notice.integration as usize, out)?;
-    out.push_str(word)?;
-    push_attempts(clock, sent.report.attempts, sent.begin.preview.moment, out)?;
     out.push_str("\n")
 }

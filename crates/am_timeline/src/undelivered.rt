@@ -7,9 +7,10 @@ ghost use Rattle.std.specs.Prelude.{◌≡◌, ◌++◌, IfOk, None, OnOk, Some,
 ghost use Rattle.std.specs.List.{flat_map, list_all};
 ghost use Rattle.am_model.specs.Lists.{without};
 ghost use Rattle.am_timeline.specs.Expectation.{has_set};
-ghost use Rattle.am_timeline.specs.Undelivered.{alert_fired_text, before_text, behind_empty_line, fired_text, has_no_integrations};
-ghost use Rattle.am_timeline.specs.Undelivered.{has_none_at, muted_each_text, undelivered_cause, undelivered_front, undelivered_in};
-ghost use Rattle.am_timeline.specs.Undelivered.{undelivered_line, undelivered_text, unseen_text, unsent_text};
+ghost use Rattle.am_timeline.specs.Undelivered.{alert_fired_text, before_text, behind_empty_line, failed_each_text, fired_text};
+ghost use Rattle.am_timeline.specs.Undelivered.{has_no_integrations, has_none_at, muted_each_text, undelivered_cause};
+ghost use Rattle.am_timeline.specs.Undelivered.{undelivered_front, undelivered_in, undelivered_line, undelivered_text};
+ghost use Rattle.am_timeline.specs.Undelivered.{unseen_text, unsent_text};
 
 mod alert_set;
 mod delivered;
@@ -232,7 +233,7 @@ fn push_cause_of<C: TimeFormat>(
         return out.push_str("no integrations");
     }
     if found.was_sent(labels) {
-        return out.push_str("every notice failed");
+        return out.push_str(failed_each_text(alert.ends()));
     }
     push_unsent(clock, found.last_cause(labels), alert.ends(), out)
 }
@@ -264,6 +265,15 @@ fn push_muted_each<C: TimeFormat>(
 {
     out.push_str("muted at each flush:")?;
     push_cause(clock, cause, out)
+}
+
+fn failed_each_text(ends: Option<u64>) -> &'static str
+    ensures { result.now ≡ failed_each_text ends }
+{
+    match ends {
+        None => "every notice failed",
+        Some(_) => "every notice failed; resolved unseen",
+    }
 }
 
 fn unseen_text(ends: Option<u64>) -> &'static str

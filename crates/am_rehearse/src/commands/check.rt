@@ -1,8 +1,9 @@
 //! `am-rehearse check`: says what configurations hold, or all that is wrong in them.
 use crate::commands::config::{Form, form_of, has_configuration, read_configuration};
+use crate::commands::faults::accept;
 use crate::commands::warnings::push_warnings;
 use crate::console::{Console, Document, shown};
-use crate::input::{Configured, Overrides, ReceiversOf, story_faults};
+use crate::input::{Configured, Overrides, ReceiversOf};
 use std::alloc::AllocError;
 use std::rt::Files;
 
@@ -61,13 +62,7 @@ fn check_story<R: Files + Eprint + AllocGlobal>(
         output: None,
         until: None,
     };
-    let Ok(faults) = story_faults(rt.alloc(), &document.value, receivers, overrides) else {
-        return Err(console.complain_of_memory(rt));
-    };
-    if faults.is_empty() {
-        return Ok(());
-    }
-    Err(console.complain_of_faults(rt, document, &faults))
+    accept(rt, console, document, receivers, overrides)
 }
 
 /// Adds how many receivers, integrations, rules and routes there are, what is ignored and the warnings.

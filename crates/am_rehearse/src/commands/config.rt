@@ -1,9 +1,11 @@
 //! Configurations, whichever form a file has.
+use crate::console::Console;
 use crate::input::{Configured, read_configured, read_own, read_theirs};
 use am_cli::reader::Reader;
 use am_config::faults::Refusal;
 use serde_json::Value;
 use std::alloc::Global;
+use std::rt::Files;
 
 /// What a file is.
 #[derive(Clone, Copy, Debug, PartialEq, Eq)]
@@ -44,6 +46,19 @@ pub fn form_of(value: &Value) -> Form {
 /// Returns whether a story has a configuration in it.
 pub fn has_configuration(story: &Value) -> bool {
     story.get("config").is_some() || story.get("alertmanager").is_some()
+}
+
+/// Returns the configuration of a file. The error is the status.
+pub fn configured<R: Files + Eprint + AllocGlobal>(
+    rt: &R,
+    console: &mut Console,
+    path: &str,
+) -> Result<Configured, u8> {
+    let document = console.read(rt, path)?;
+    match read_configuration(rt.alloc(), &document.value) {
+        Ok(configured) => Ok(configured),
+        Err(refusal) => Err(console.complain_of_refusal(rt, &document, refusal)),
+    }
 }
 
 /// Reads the configuration of a file: one of Alertmanager, one of our own, or that of a story.

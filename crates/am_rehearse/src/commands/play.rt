@@ -1,15 +1,16 @@
 //! `am-rehearse play`: simulates a story.
-use crate::commands::config::read_configuration;
-use crate::console::{Console, Document, REJECTED, shown};
+use crate::commands::config::configured;
+use crate::commands::faults::faults_of;
+use crate::console::{Console, Document, REJECTED, say_ignored};
 use crate::fault::RehearseFault;
 use crate::files::{FileFault, open};
-use crate::input::{Changes, Configured, Output, Overrides, ReceiversOf, story_faults};
+use crate::input::{Changes, Output, Overrides, ReceiversOf};
 use crate::run::{Report, run_rehearsal};
 use am_alerts::duration::read_duration;
 use am_cli::fault::InputFault;
 use am_command::request::{PlayRequest, STANDARD_INPUT};
 use am_config::dropped::IgnoredSettings;
-use am_config::faults::Refusal;
+use am_config::faults::{Faults, Refusal};
 use am_rehearsal::MAX_UNTIL;
 use am_yaml::document::read_document;
 use std::rt::Files;
@@ -32,7 +33,7 @@ fn try_play<R: Files + Eprint + AllocGlobal>(
     request: PlayRequest<'_>,
 ) -> Result<(), u8> {
     let overrides = Overrides {
-        output: output_of(request.output),
+        output: output_of(rt, &request)?,
         until: until_of(rt, request.until)?,
     };
     let config = match request.config {
@@ -45,11 +46,7 @@ fn try_play<R: Files + Eprint + AllocGlobal>(
         ignored: IgnoredSettings::nothing(),
     };
     let ended = run(rt, console, request.story, changes, &mut report)?;
-    if report.ignored.is_something() {
-        let file = shown(request.config.unwrap_or(request.story));
-        let ignored = report.ignored;
-        let _ = eprintln!(rt; "{file}: ignored: {ignored}");
-    }
+    say_ignored(rt, request.config.unwrap_or(request.story), report.ignored);
     match ended {
         Ok(()) => Ok(()),
         Err(fault) => Err(complain(rt, console, &request, overrides, report, fault)),
@@ -76,17 +73,29 @@ fn run<R: Files + Eprint + AllocGlobal>(
     Ok(run_rehearsal(alloc, &mut file, changes, &mut console.output, report))
 }
 
-/// Returns the output of a name, which the command line has checked.
-fn output_of(name: Option<&str>) -> Option<Output> {
-    match name? {
-        "notices" => Some(Output::Notices),
-        "json" => Some(Output::Json),
-        _ => Some(Output::Timeline),
+/// Returns the output that the command line asks for. It has checked the name. The error is the status.
+fn output_of<R: Eprint>(rt: &R, request: &PlayRequest<'_>) -> Result<Option<Output>, u8> {
+    match request.output {
+        Some("notices") if request.no_failures => Ok(Some(Output::Delivered)),
+        _ if request.no_failures => {
+            let _ = eprintln!(rt; "am-rehearse: --no-failures needs --output notices");
+            Err(REJECTED)
+        }
+        None | Some("timeline") if request.all => Ok(Some(Output::Full)),
+        _ if request.all => {
+            let _ = eprintln!(rt; "am-rehearse: --all is for the timeline alone");
+            Err(REJECTED)
+        }
+        None => Ok(None),
+        Some("notices") => Ok(Some(Output::Notices)),
+        Some("json") => Ok(Some(Output::Json)),
+        Some("html") => Ok(Some(Output::Html)),
+        Some(_) => Ok(Some(Output::Timeline)),
     }
 }
 
 /// Returns the end that the command line gives.
-fn until_of<R: Eprint>(rt: &R, until: Option<&str>) -> Result<Option<u64>, u8> {
+pub(crate) fn until_of<R: Eprint>(rt: &R, until: Option<&str>) -> Result<Option<u64>, u8> {
     let Some(text) = until else {
         return Ok(None);
     };
@@ -98,19 +107,6 @@ fn until_of<R: Eprint>(rt: &R, until: Option<&str>) -> Result<Option<u64>, u8> {
             );
             Err(REJECTED)
         }
-    }
-}
-
-/// Returns the configuration of a file. The error is the status.
-fn configured<R: Files + Eprint + AllocGlobal>(
-    rt: &R,
-    console: &mut Console,
-    path: &str,
-) -> Result<Configured, u8> {
-    let document = console.read(rt, path)?;
-    match read_configuration(rt.alloc(), &document.value) {
-        Ok(configured) => Ok(configured),
-        Err(refusal) => Err(console.complain_of_refusal(rt, &document, refusal)),
     }
 }
 
@@ -160,23 +156,44 @@ fn complain_of_story<R: Files + Eprint + AllocGlobal>(
     document: &Document<'_>,
     refusal: Refusal,
 ) -> u8 {
-    let given = match request.config {
-        None | Some(STANDARD_INPUT) => None,
-        Some(path) => match configured(rt, console, path) {
-            Ok(configured) => Some(configured.config),
-            Err(status) => return status,
-        },
-    };
-    // Standard input can't be read again: nobody knows its receivers here.
-    let receivers = match request.config {
-        None => ReceiversOf::Own,
-        Some(_) => ReceiversOf::Given(given.as_ref()),
-    };
-    let Ok(faults) = story_faults(rt.alloc(), &document.value, receivers, overrides) else {
-        return console.complain_of_memory(rt);
-    };
+    match faults_under(rt, console, request.config, overrides, document) {
+        Err(status) => status,
+        Ok(faults) => complain_of_all(rt, console, document, &faults, refusal),
+    }
+}
+
+/// Complains of a story's faults, or where none are found of what it was refused for, and returns the status.
+fn complain_of_all<R: Eprint + AllocGlobal>(
+    rt: &R,
+    console: &Console,
+    document: &Document<'_>,
+    faults: &Faults,
+    refusal: Refusal,
+) -> u8 {
     if faults.is_empty() {
         return console.complain_of_refusal(rt, document, refusal);
     }
-    console.complain_of_faults(rt, document, &faults)
+    console.complain_of_faults(rt, document, faults)
+}
+
+/// Returns the faults of a story under the configuration that the command line names. The error is the status.
+fn faults_under<R: Files + Eprint + AllocGlobal>(
+    rt: &R,
+    console: &mut Console,
+    config: Option<&str>,
+    overrides: Overrides,
+    document: &Document<'_>,
+) -> Result<Faults, u8> {
+    match config {
+        None => faults_of(rt, console, document, ReceiversOf::Own, overrides),
+        // Standard input can't be read again: nobody knows its receivers here.
+        Some(STANDARD_INPUT) => {
+            faults_of(rt, console, document, ReceiversOf::Given(None), overrides)
+        }
+        Some(path) => {
+            let configured = configured(rt, console, path)?;
+            let receivers = ReceiversOf::Given(Some(&configured.config));
+            faults_of(rt, console, document, receivers, overrides)
+        }
+    }
 }

@@ -2,16 +2,13 @@
 ghost use Rattle.std.specs.Prelude.{◌≤◌};
 ghost use Rattle.am_alerts.specs.RoutingTree.{last_of};
 
-use crate::commands::config::read_configuration;
-use crate::commands::tree::{push_children, push_reached, push_root};
-use crate::console::{Console, REJECTED};
+use crate::commands::config::configured;
+use crate::commands::tree::{push_reached, tree_text};
+use crate::console::{Console, DIFFERS, REJECTED};
 use am_alerts::labels::{LabelFault, Labels};
 use am_alerts::route::Routes;
 use std::alloc::{AllocError, Global};
 use std::rt::Files;
-
-/// The status where the routes don't have the receivers that are verified.
-const DIFFERS: u8 = 6;
 
 /// What is asked of the routes of a file.
 #[derive(Clone, Copy)]
@@ -37,23 +34,39 @@ fn try_routes<R: Files + Eprint + AllocGlobal>(
     console: &mut Console,
     request: RoutesRequest<'_, '_>,
 ) -> Result<u8, u8> {
-    let document = console.read(rt, request.file)?;
-    let configured = match read_configuration(rt.alloc(), &document.value) {
-        Ok(configured) => configured,
-        Err(refusal) => return Err(console.complain_of_refusal(rt, &document, refusal)),
-    };
-    if request.labels.is_empty() && request.verify.is_none() {
-        return match tree_text(rt.alloc(), &configured.config.routes) {
-            Ok(text) => Ok(console.print(rt, text.as_str())),
-            Err(_) => Err(console.complain_of_memory(rt)),
-        };
+    let configured = configured(rt, console, request.file)?;
+    let routes = &configured.config.routes;
+    if !request.labels.is_empty() {
+        return print_reached(rt, console, routes, request);
     }
-    if request.labels.is_empty() {
+    if request.verify.is_some() {
         let _ = eprintln!(rt; "am-rehearse: --verify needs labels, such as severity=critical");
         return Err(REJECTED);
     }
+    print_tree(rt, console, routes)
+}
+
+/// Prints the routing tree, and returns the status.
+fn print_tree<R: Eprint + AllocGlobal>(
+    rt: &R,
+    console: &mut Console,
+    routes: &Routes,
+) -> Result<u8, u8> {
+    match tree_text(rt.alloc(), routes) {
+        Ok(text) => Ok(console.print(rt, text.as_str())),
+        Err(_) => Err(console.complain_of_memory(rt)),
+    }
+}
+
+/// Prints the routes that a label set reaches, verifies their receivers if that is asked for, and returns the status.
+fn print_reached<R: Eprint + AllocGlobal>(
+    rt: &R,
+    console: &mut Console,
+    routes: &Routes,
+    request: RoutesRequest<'_, '_>,
+) -> Result<u8, u8> {
     let labels = labels_of(rt, console, request.labels)?;
-    let Ok(reached) = reached_by(rt.alloc(), &configured.config.routes, &labels) else {
+    let Ok(reached) = reached_by(rt.alloc(), routes, &labels) else {
         return Err(console.complain_of_memory(rt));
     };
     let printed = console.print(rt, reached.lines.as_str());
@@ -61,14 +74,6 @@ fn try_routes<R: Files + Eprint + AllocGlobal>(
         return Ok(printed);
     }
     Ok(verified(rt, request.verify, reached.receivers.as_str()))
-}
-
-/// Returns the routing tree, a line for each route.
-fn tree_text(alloc: Global, routes: &Routes) -> Result<String, AllocError> {
-    let mut lines = String::new(alloc);
-    push_root(routes.root(), &mut lines)?;
-    push_children(alloc, routes, &mut lines)?;
-    Ok(lines)
 }
 
 /// Returns the label set of words such as `severity=critical`. The error is the status.

@@ -5,8 +5,16 @@ use am_alerts::route::{Child, GroupBy, Route, Routes};
 use am_command::durations::push_duration;
 use std::alloc::{AllocError, Global};
 
+/// Returns the routing tree, a line for each route.
+pub fn tree_text(alloc: Global, routes: &Routes) -> Result<String, AllocError> {
+    let mut lines = String::new(alloc);
+    push_root(routes.root(), &mut lines)?;
+    push_children(alloc, routes, &mut lines)?;
+    Ok(lines)
+}
+
 /// Adds a route with all that it has, in a line.
-pub fn push_root(root: &Route, lines: &mut String) -> Result<(), AllocError> {
+fn push_root(root: &Route, lines: &mut String) -> Result<(), AllocError> {
     push_head(0, root.name.as_str(), &[], lines)?;
     push_route(root, lines)?;
     lines.push('\n')
@@ -43,7 +51,7 @@ pub fn standings(alloc: Global, routes: &Routes) -> Result<Vec<Standing>, AllocE
 
 /// Adds the routes below the root, a line for each: with its matchers, its receiver, and what it doesn't have from the
 /// route above it.
-pub fn push_children(alloc: Global, routes: &Routes, lines: &mut String) -> Result<(), AllocError> {
+fn push_children(alloc: Global, routes: &Routes, lines: &mut String) -> Result<(), AllocError> {
     let children = routes.children();
     let standings = standings(alloc, routes)?;
     for (child, standing) in children.iter().zip(standings.as_slice()) {

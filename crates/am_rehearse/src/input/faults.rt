@@ -5,9 +5,8 @@ use crate::input::expectation::expectation_faults;
 use crate::input::outage::OutageItem;
 use crate::input::silence::SilenceItem;
 use crate::input::target::check;
-use crate::input::{MAINTAIN, MEMBERS, Overrides, moment, read_output, read_until};
+use crate::input::{MEMBERS, Overrides, moment, read_maintain, read_output, read_until};
 use am_board::config::Config;
-use am_cli::duration::interval_or;
 use am_cli::fault::InputFault;
 use am_cli::reader::{FromJson, Object, Reader};
 use am_config::faults::{Faults, Refusal};
@@ -32,23 +31,43 @@ pub fn story_faults(
     overrides: Overrides,
 ) -> Result<Faults, InputFault> {
     let mut faults = Faults::none(alloc);
+    keep_faults(alloc, &mut faults, value, receivers, overrides)?;
+    Ok(faults)
+}
+
+/// Keeps the faults of a story.
+fn keep_faults(
+    alloc: Global,
+    faults: &mut Faults,
+    value: &Value,
+    receivers: ReceiversOf<'_>,
+    overrides: Overrides,
+) -> Result<(), InputFault> {
     let reader = Reader::strict(alloc, value);
     let Some(top) = faults.kept(reader.object())? else {
-        return Ok(faults);
+        return Ok(());
     };
     faults.only(&top, &MEMBERS)?;
-    if let ReceiversOf::Given(config) = receivers {
-        plan_faults(&mut faults, &top, config, overrides)?;
-        return Ok(faults);
+    match receivers {
+        ReceiversOf::Given(config) => plan_faults(faults, &top, config, overrides),
+        ReceiversOf::Own => faults_with_own(alloc, faults, &top, overrides),
     }
-    match read_configured(&top, None) {
-        Ok(configured) => plan_faults(&mut faults, &top, Some(&configured.config), overrides)?,
+}
+
+/// Keeps the faults of a story's own configuration, and of what is planned against it.
+fn faults_with_own(
+    alloc: Global,
+    faults: &mut Faults,
+    top: &Object<'_, '_>,
+    overrides: Overrides,
+) -> Result<(), InputFault> {
+    match read_configured(top, None) {
+        Ok(configured) => plan_faults(faults, top, Some(&configured.config), overrides),
         Err(refusal) => {
-            keep_all(alloc, &mut faults, refusal)?;
-            plan_faults(&mut faults, &top, None, overrides)?;
+            keep_all(alloc, faults, refusal)?;
+            plan_faults(faults, top, None, overrides)
         }
     }
-    Ok(faults)
 }
 
 /// Keeps the faults for which a configuration is refused.
@@ -77,7 +96,7 @@ fn plan_faults(
     let until = faults.kept(read_until(top, overrides.until))?;
     each::<AlertItem>(faults, top, "alerts")?;
     each::<SilenceItem>(faults, top, "silences")?;
-    faults.kept(interval_or(top, "maintain", MAINTAIN))?;
+    faults.kept(read_maintain(top))?;
     outage_faults(faults, top, config)?;
     expectation_faults(faults, top, config, until.unwrap_or(MAX_UNTIL))?;
     faults.kept(read_output(top, overrides.output))?;

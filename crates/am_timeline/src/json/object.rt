@@ -111,8 +111,8 @@ fn push_without_controls(text: &str, out: &mut String) -> Result<(), AllocError>
 /// A label set: an object of its names and values.
 fn set_of(alloc: Global, labels: &Labels) -> Result<Value, AllocError> {
     let mut object = Object::empty(alloc);
-    for label in labels.pairs() {
-        object.put_text(label.name.as_str(), label.value.as_str())?;
+    for (name, value) in labels.pairs() {
+        object.put_text(name, value)?;
     }
     Ok(object.into_value())
 }

@@ -1,22 +1,16 @@
-use Rattle.std.proofs.Common.{List, Option, None, Some, IfOk, string_bytes, subst, sym}
+use Rattle.std.proofs.Common.{List, IfOk, string_bytes, subst}
+use Rattle.std.proofs.lemmas.Result.{IfOk-weaker}
 use Rattle.am_timeline.specs.declared.expectation.Expectation.{Expectation}
-use Rattle.am_timeline.specs.UtcDates.{StartData}
 use Rattle.am_rehearse.specs.Request.{times_from}
-use Rattle.am_rehearse.specs.Printed.{IsOutputOfRun}
+use Rattle.am_rehearse.specs.Printed.{IsOutputOf, IsOutputOfRun}
 use Rattle.am_rehearse.proofs.run.play_and_render.Goals as goal
-
-pub returns-in-None : goal.returns-in-None
-returns-in-None c =
-    let input = c.args.input in
-    let Tells : Option StartData → List Expectation → Type 0 =
-    λ start expectations. IfOk c.render_by.result (λ rendered. IsOutputOfRun input.output (times_from start) expectations rendered.is_met (string_bytes rendered.text)) in
-    subst (λ (start : Option StartData). Tells start input.expectations.items) (sym c.in-None.is)
-    (subst (λ (expectations : List Expectation). Tells None expectations) c.as_slice-expectations.ensures.value c.render_by.ensures)
 
 pub returns : goal.returns
 returns c =
     let input = c.args.input in
-    let Tells : Option StartData → List Expectation → Type 0 =
-    λ start expectations. IfOk c.render_by-in-Some.result (λ rendered. IsOutputOfRun input.output (times_from start) expectations rendered.is_met (string_bytes rendered.text)) in
-    subst (λ (start : Option StartData). Tells start input.expectations.items) (sym c.in-Some.is)
-    (subst (λ (expectations : List Expectation). Tells (Some c.in-Some.start) expectations) c.as_slice-expectations.ensures.value c.render_by-in-Some.ensures)
+    let played = c.in_ok-played.played in
+    let Tells : List Expectation → Type 0 =
+    λ expectations. IfOk c.render_from.result (λ rendered. IsOutputOf played.board played.events.items input.output (times_from input.start) expectations rendered.is_met (string_bytes rendered.text)) in
+    IfOk-weaker c.render_from.result _ _
+    (λ rendered tale. record { board = played.board; events = played.events.items; played = c.in_ok-played.ensures.played; tale = tale })
+    (subst (λ (expectations : List Expectation). Tells expectations) c.as_slice-expectations.ensures.value c.render_from.ensures)

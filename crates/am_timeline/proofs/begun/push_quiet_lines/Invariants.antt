@@ -6,5 +6,5 @@ use Rattle.am_timeline.proofs.begun.push_quiet_lines.Given as goal
 abbrev pub invariant-loop-position : goal.invariant-loop-position
 invariant-loop-position g l =
     string_bytes l.out
-    ++ quiet_lines l.config (g.C.TimeFormat.times l.clock) l.preview l.notices l.position (drop l.position l.preview.reasons)
-    ≡ string_bytes l.fn.out ++ quiet_lines l.config (g.C.TimeFormat.times l.clock) l.preview l.notices 0 l.preview.reasons
+    ++ quiet_lines l.config (g.C.TimeFormat.times l.clock) l.frame l.preview l.notices l.position (drop l.position l.preview.reasons)
+    ≡ string_bytes l.fn.out ++ quiet_lines l.config (g.C.TimeFormat.times l.clock) l.frame l.preview l.notices 0 l.preview.reasons

@@ -6,4 +6,4 @@ use Rattle.am_timeline.proofs.notices.notices_text.Given as goal
 -- the lines so far were added
 abbrev pub invariant-loop-event : goal.invariant-loop-event
 invariant-loop-event g l =
-    string_bytes l.out ≡ flat_map (notice_of_event l.playback (g.C.TimeFormat.times l.clock)) (take l.event-index l.playback.events)
+    string_bytes l.out ≡ flat_map (notice_of_event l.failures l.playback (g.C.TimeFormat.times l.clock)) (take l.event-index l.playback.events)

@@ -1,0 +1,169 @@
+//! `am-rehearse compare`: simulates a story under two configurations, and prints what differs.
+use crate::commands::config::configured;
+use crate::commands::faults::accept;
+use crate::commands::play::until_of;
+use crate::console::{Console, DIFFERS, Document, say_ignored};
+use crate::input::{Changes, Configured, Input, Overrides, ReceiversOf, read_input};
+use crate::run::play_or_refuse;
+use am_cli::fault::InputFault;
+use am_command::request::CompareRequest;
+use am_config::dropped::IgnoredSettings;
+use am_config::faults::Refusal;
+use am_rehearsal::play::Played;
+use am_timeline::clock::Elapsed;
+use am_timeline::comparison::{Comparison, compare_notices};
+use am_timeline::dated::UtcDates;
+use am_timeline::playback::Playback;
+use std::alloc::{AllocError, Global};
+use std::rt::Files;
+
+/// A story that was played.
+#[derive(Drop)]
+struct PlayedStory {
+    played: Played,
+    /// The moment of the start, if the story tells it.
+    start: Option<UtcDates>,
+    /// What of the configuration is ignored.
+    ignored: IgnoredSettings,
+}
+
+/// Compares two configurations, and returns the status.
+pub fn compare<R: Files + Eprint + AllocGlobal>(
+    rt: &R,
+    console: &mut Console,
+    request: CompareRequest<'_>,
+) -> u8 {
+    match try_compare(rt, console, request) {
+        Ok(status) | Err(status) => status,
+    }
+}
+
+fn try_compare<R: Files + Eprint + AllocGlobal>(
+    rt: &R,
+    console: &mut Console,
+    request: CompareRequest<'_>,
+) -> Result<u8, u8> {
+    let overrides = Overrides {
+        output: None,
+        until: until_of(rt, request.until)?,
+    };
+    let story = console.read(rt, request.story)?;
+    let compared = compared(rt, console, &story, request, overrides)?;
+    Ok(print(rt, console, &compared, request.exit_code))
+}
+
+/// Compares the notices of a story under two configurations. The error is the status.
+fn compared<R: Files + Eprint + AllocGlobal>(
+    rt: &R,
+    console: &mut Console,
+    story: &Document<'_>,
+    request: CompareRequest<'_>,
+    overrides: Overrides,
+) -> Result<Comparison, u8> {
+    let old = played_under(rt, console, story, request.old, overrides)?;
+    let new = played_under(rt, console, story, request.new, overrides)?;
+    say_ignored(rt, request.old, old.ignored);
+    say_ignored(rt, request.new, new.ignored);
+    match compare_played(rt.alloc(), &old, &new) {
+        Ok(compared) => Ok(compared),
+        Err(_) => Err(console.complain_of_memory(rt)),
+    }
+}
+
+/// Prints what differs, and returns the status.
+fn print<R: Files + Eprint + AllocGlobal>(
+    rt: &R,
+    console: &mut Console,
+    compared: &Comparison,
+    exit_code: bool,
+) -> u8 {
+    let status = console.print(rt, compared.text.as_str());
+    if status == 0 && compared.differs && exit_code {
+        DIFFERS
+    } else {
+        status
+    }
+}
+
+/// Plays the story under the configuration of a file. The error is the status.
+fn played_under<R: Files + Eprint + AllocGlobal>(
+    rt: &R,
+    console: &mut Console,
+    story: &Document<'_>,
+    path: &str,
+    overrides: Overrides,
+) -> Result<PlayedStory, u8> {
+    let configured = accepted_by(rt, console, story, path, overrides)?;
+    let changes = Changes {
+        config: Some(configured),
+        overrides,
+    };
+    match played(rt.alloc(), story, changes) {
+        Ok(played) => Ok(played),
+        Err(refusal) => Err(console.complain_of_refusal(rt, story, refusal)),
+    }
+}
+
+/// Returns the configuration of a file, under which a story has no faults. The error is the status.
+fn accepted_by<R: Files + Eprint + AllocGlobal>(
+    rt: &R,
+    console: &mut Console,
+    story: &Document<'_>,
+    path: &str,
+    overrides: Overrides,
+) -> Result<Configured, u8> {
+    let configured = configured(rt, console, path)?;
+    let receivers = ReceiversOf::Given(Some(&configured.config));
+    accept(rt, console, story, receivers, overrides)?;
+    Ok(configured)
+}
+
+/// Plays a story that these changes are made to.
+fn played(alloc: Global, story: &Document<'_>, changes: Changes) -> Result<PlayedStory, Refusal> {
+    let input = read_input(alloc, &story.value, changes)?;
+    match play_input(alloc, input) {
+        Ok(played) => Ok(played),
+        Err(fault) => Err(Refusal::One(fault)),
+    }
+}
+
+fn play_input(alloc: Global, input: Input) -> Result<PlayedStory, InputFault> {
+    let Input {
+        rehearsal,
+        origins,
+        start,
+        expectations: _,
+        output: _,
+        dropped,
+    } = input;
+    match play_or_refuse(alloc, rehearsal, origins.as_slice()) {
+        Ok(played) => Ok(PlayedStory {
+            played,
+            start,
+            ignored: dropped,
+        }),
+        Err(fault) => Err(fault),
+    }
+}
+
+fn compare_played(
+    alloc: Global,
+    old: &PlayedStory,
+    new: &PlayedStory,
+) -> Result<Comparison, AllocError> {
+    let one = playback_of(&old.played);
+    let other = playback_of(&new.played);
+    match &old.start {
+        None => compare_notices(alloc, &one, &other, &Elapsed),
+        Some(start) => compare_notices(alloc, &one, &other, start),
+    }
+}
+
+fn playback_of(played: &Played) -> Playback<'_> {
+    Playback::new(
+        played.board.config(),
+        played.board.history(),
+        played.begins.as_slice(),
+        played.events.as_slice(),
+    )
+}

@@ -1,0 +1,9 @@
+//! Stories of what really happened: an answer of Prometheus or Alertmanager, read and written as a story in YAML.
+//! `am_rehearse` calls it.
+#![tactic(auto)]
+
+pub mod alertmanager;
+pub mod incident;
+mod moment;
+pub mod prometheus;
+mod yaml;

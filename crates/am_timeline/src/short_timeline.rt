@@ -1,0 +1,144 @@
+//! The short timeline: a line for each event of a rehearsal, but one for a run of like flushes. `am_rehearse` prints it.
+ghost use Rattle.std.specs.Prelude.{◌≡◌, ◌++◌, IfOk, OnOk, codes, string_bytes};
+ghost use Rattle.std.specs.List.{flat_map};
+ghost use Rattle.am_timeline.specs.Runs.{begins_folded, count_text, folded_begun, folded_event_lines, folded_lines, run_text};
+ghost use Rattle.am_timeline.specs.Runs.{short_timeline_text, until_text};
+
+use crate::begun::push_begun;
+use crate::clock::{TimeFormat, push_number};
+use crate::frame::Frame;
+use crate::playback::Playback;
+use crate::runs::{Fold, Run, begins_folded};
+use crate::timeline::push_sent_by;
+use am_rehearsal::event::{Event, PreviewedBegin};
+use std::alloc::{AllocError, Global};
+
+/// Returns the short timeline of a rehearsal: the lines on all events, in their order, with one begin's for each run.
+///
+/// A run is flushes of one group that follow each other, send nothing and have the same lines. Its lines have the time of
+/// its first flush, and at their end how many flushes it has, and the time of its last one. Cost: that of the timeline, and
+/// the lines of all begins.
+pub fn short_timeline_text<C: TimeFormat>(
+    alloc: Global,
+    playback: &Playback,
+    clock: &C,
+) -> Result<String, AllocError>
+    ensures { IfOk result (λ text. string_bytes text ≡ short_timeline_text playback.now (C.times clock.now)) }
+{
+    let folds = begins_folded(alloc, playback, clock)?;
+    folded_text(alloc, playback, clock, folds.as_slice())
+}
+
+/// Returns the lines on all events, with what becomes of each begin.
+fn folded_text<C: TimeFormat>(
+    alloc: Global,
+    playback: &Playback,
+    clock: &C,
+    folds: &[Fold],
+) -> Result<String, AllocError>
+    ensures { IfOk result (λ text. string_bytes text
+        ≡ flat_map (folded_event_lines playback.now (C.times clock.now) folds.now) playback.now.events) }
+{
+    let mut out = String::new(alloc);
+    for event in playback.events {
+        push_folded_event(alloc, playback, clock, folds, event, &mut out)?;
+    }
+    Ok(out)
+}
+
+/// Adds the lines on an event, with what becomes of each begin.
+fn push_folded_event<C: TimeFormat>(
+    alloc: Global,
+    playback: &Playback,
+    clock: &C,
+    folds: &[Fold],
+    event: &Event,
+    out: &mut String,
+) -> Result<(), AllocError>
+    ensures { OnOk result (string_bytes out.new
+        ≡ string_bytes out.old ++ folded_event_lines playback.now (C.times clock.now) folds.now event.now) }
+{
+    match event {
+        Event::Begun { begin } => push_folded_begun(alloc, playback, clock, folds, *begin, out),
+        Event::Sent { .. } => push_sent_by(playback, clock, event, out),
+    }
+}
+
+/// Adds the lines on the begin at a position, with what becomes of each begin.
+fn push_folded_begun<C: TimeFormat>(
+    alloc: Global,
+    playback: &Playback,
+    clock: &C,
+    folds: &[Fold],
+    position: usize,
+    out: &mut String,
+) -> Result<(), AllocError>
+    ensures { OnOk result (string_bytes out.new
+        ≡ string_bytes out.old ++ folded_begun playback.now (C.times clock.now) folds.now position) }
+{
+    match playback.begins.get(position) {
+        None => Ok(()),
+        Some(begin) => match folds.get(position) {
+            None => Ok(()),
+            Some(fold) => push_folded(alloc, playback, clock, begin, fold, out),
+        },
+    }
+}
+
+/// Adds the lines of a begin's run, if it begins it.
+fn push_folded<C: TimeFormat>(
+    alloc: Global,
+    playback: &Playback,
+    clock: &C,
+    begin: &PreviewedBegin,
+    fold: &Fold,
+    out: &mut String,
+) -> Result<(), AllocError>
+    ensures { OnOk result (string_bytes out.new
+        ≡ string_bytes out.old ++ folded_lines playback.now (C.times clock.now) begin.now fold.now) }
+{
+    if !fold.is_first {
+        return Ok(());
+    }
+    let ending = ending_of(alloc, clock, &fold.run)?;
+    let frame = Frame {
+        moment: begin.preview.moment,
+        ending: ending.as_str(),
+    };
+    push_begun(playback, clock, &frame, begin, out)
+}
+
+/// Returns the end of a run's lines.
+fn ending_of<C: TimeFormat>(alloc: Global, clock: &C, run: &Run) -> Result<String, AllocError>
+    ensures { IfOk result (λ text. string_bytes text ≡ run_text (C.times clock.now) run.now ++ codes "\n") }
+{
+    let mut ending = String::new(alloc);
+    push_run(clock, run, &mut ending)?;
+    ending.push_str("\n")?;
+    Ok(ending)
+}
+
+/// Adds how many flushes a run has, and when the last one began; nothing for a run of one.
+fn push_run<C: TimeFormat>(clock: &C, run: &Run, out: &mut String) -> Result<(), AllocError>
+    ensures { OnOk result (string_bytes out.new ≡ string_bytes out.old ++ run_text (C.times clock.now) run.now) }
+{
+    if run.count == 1 {
+        return Ok(());
+    }
+    push_count(clock, run, out)
+}
+
+fn push_count<C: TimeFormat>(clock: &C, run: &Run, out: &mut String) -> Result<(), AllocError>
+    ensures { OnOk result (string_bytes out.new ≡ string_bytes out.old ++ count_text (C.times clock.now) run.now) }
+{
+    out.push_str("; ")?;
+    push_number(run.count as u64, out)?;
+    push_until(clock, run.until, out)
+}
+
+fn push_until<C: TimeFormat>(clock: &C, until: u64, out: &mut String) -> Result<(), AllocError>
+    ensures { OnOk result (string_bytes out.new ≡ string_bytes out.old ++ until_text (C.times clock.now) until) }
+{
+    out.push_str(" flushes until ")?;
+    clock.push_moment(until, out)
+}

@@ -12,6 +12,7 @@ use Rattle.am_alerts.specs.RoutingTree.{TreeRoute}
 use Rattle.am_alerts.specs.declared.planting.Place.{Place}
 use Rattle.am_alerts.specs.declared.route.Child.{Child}
 use Rattle.am_alerts.specs.declared.route.Route.{Route}
+use Rattle.am_alerts.specs.declared.spans.Spans.{Spans}
 use Rattle.am_alerts.specs.declared.tree.RouteSpec.{RouteSpec}
 use Rattle.am_alerts.specs.declared.tree.Node.{Node}
 use Rattle.am_alerts.specs.declared.tree.Node.TheFolds.{fold_out-Node}
@@ -121,15 +122,16 @@ module _ (above : Route) (ns : List Node) (m : Node) where
       ∙ map-append place_of (laid (settled_below above (forest ns))) (laid (tree_below above (rule_of m) (below_of m)))))
 
 -- the place of a route is told once those below it are laid out
-pub place_told : (before now : List Place) (x : TreeRoute) (p : Place) (f : Forest TreeRoute) (size : ℕ)
-    → now ≡ (before ++ p ∷ []) ++ map place_of (laid f) → size ≡ length now - length before - 1
-    → set now (length before) (record { below = size }) ≡ before ++ place_of (x, count f) ∷ map place_of (laid f)
-place_told before now x p f size was told =
+pub place_told : (before now : List Place) (x : TreeRoute) (p : Place) (f : Forest TreeRoute) (size : ℕ) (shut : Spans)
+    → shut ≡ x.shut → now ≡ (before ++ p ∷ []) ++ map place_of (laid f) → size ≡ length now - length before - 1
+    → set now (length before) (record { below = size; shut = shut }) ≡ before ++ place_of (x, count f) ∷ map place_of (laid f)
+place_told before now x p f size shut own was told =
     let others = map place_of (laid f) in
     let flat : now ≡ before ++ p ∷ others = was ∙ append_assoc before (p ∷ []) others in
     let all : length now ≡ length before + suc (length others) = ap length flat ∙ length-append before (p ∷ others) in
     let many : length others ≡ count f = length-map (laid f) place_of ∙ length_laid f in
     let is : size ≡ count f = told ∙ omega (arith, all, many) in
-    ap (λ ps. set ps (length before) (record { below = size })) flat
-    ∙ set_at before p others (record { below = size }) (length before) refl
+    ap (λ ps. set ps (length before) (record { below = size; shut = shut })) flat
+    ∙ set_at before p others (record { below = size; shut = shut }) (length before) refl
+    ∙ ap (λ s. before ++ (let q : Place = record { below = size; shut = s } in q) ∷ others) own
     ∙ ap (λ n. before ++ place_of (x, n) ∷ others) is

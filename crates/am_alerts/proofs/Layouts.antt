@@ -5,8 +5,9 @@ use Rattle.std.proofs.lemmas.List.{map-append, length-append, length-take-le, le
 use Rattle.std.proofs.lemmas.List.{drop-drop, drop_more, take_all}
 use Rattle.am_alerts.specs.Forest.{Forest, bare, grow, count, listed, level}
 use Rattle.am_alerts.specs.Layout.{laid, planted, planted_of_laid, first_trees-none, other_trees, other_trees-none}
-use Rattle.am_alerts.specs.Planted.{IsLaid, IsPlanted, below_in, paired, part, place_of, tree_from}
+use Rattle.am_alerts.specs.Planted.{IsLaid, IsPlanted, below_in, paired, part, place_of, shut_in, tree_from}
 use Rattle.am_alerts.specs.RoutingTree.{RoutingTree, TreeRoute, below_at, plain, children_of, last_of, tree_fault}
+use Rattle.am_alerts.specs.Spans.{shut_at}
 use Rattle.am_alerts.specs.declared.planting.Place.{Place}
 use Rattle.am_alerts.specs.declared.route.Child.{Child}
 use Rattle.am_alerts.specs.declared.route.Route.{Route}
@@ -45,8 +46,12 @@ children_paired [] ps = refl
 children_paired (c ∷ cs) [] = ap (λ r. c ∷ r) (children_paired cs [])
 children_paired (c ∷ cs) (p ∷ ps) = ap (λ r. c ∷ r) (children_paired cs ps)
 
+-- the route that is kept at a place
+abbrev pub kept_route : Child → List Place → ℕ → TreeRoute
+kept_route c ps k = record { child = c; shut = shut_in ps k }
+
 pub get_or_paired : (cs : List Child) (ps : List Place) (k : ℕ) (d : Child) (e : TreeRoute × ℕ) → k < length cs
-    → get_or (paired cs ps) k e ≡ (plain (get_or cs k d), below_in ps k)
+    → get_or (paired cs ps) k e ≡ (kept_route (get_or cs k d) ps k, below_in ps k)
 get_or_paired [] ps k d e within = absurd (omega arith)
 get_or_paired (c ∷ cs) [] zero d e within = refl
 get_or_paired (c ∷ cs) [] (suc k) d e within = get_or_paired cs [] k d e (omega arith)
@@ -204,6 +209,20 @@ places_paired (c ∷ cs) [] (suc k) within = places_paired cs [] k (omega arith)
 places_paired (c ∷ cs) (p ∷ ps) zero within = refl
 places_paired (c ∷ cs) (p ∷ ps) (suc k) within = places_paired cs ps k (omega arith)
 
+shut_paired : (cs : List Child) (ps : List Place) (k : ℕ) → k < length cs → get_or (map (λ t. t.0.shut) (paired cs ps)) k [] ≡ shut_in ps k
+shut_paired [] ps k within = absurd (omega arith)
+shut_paired (c ∷ cs) [] zero within = refl
+shut_paired (c ∷ cs) [] (suc k) within = shut_paired cs [] k (omega arith)
+shut_paired (c ∷ cs) (p ∷ ps) zero within = refl
+shut_paired (c ∷ cs) (p ∷ ps) (suc k) within = shut_paired cs ps k (omega arith)
+
+shut_twice : (ts : List (TreeRoute × ℕ)) → map (λ r. r.shut) (map (λ t. t.0) ts) ≡ map (λ t. t.0.shut) ts
+shut_twice [] = refl
+shut_twice (t ∷ ts) = ap (λ r. t.0.shut ∷ r) (shut_twice ts)
+
+shut_laid : (f : Forest TreeRoute) → map (λ t. t.0.shut) (laid f) ≡ map (λ r. r.shut) (listed f)
+shut_laid f = sym (shut_twice (laid f)) ∙ ap (map (λ r. r.shut)) (listed_of_laid f)
+
 -- ---- a routing tree and what it is kept as
 
 module _ (root : Route) (cs : List Child) (ps : List Place) (tree : RoutingTree) (view : tree_from root (paired cs ps) ≡ tree)
@@ -222,6 +241,16 @@ module _ (root : Route) (cs : List Child) (ps : List Place) (tree : RoutingTree)
       sym (places_paired cs ps (position - 1) (omega (arith, kept_last)))
       ∙ ap (λ ts. get_or (map (λ t. t.1) ts) (position - 1) 0) (sym kept.0)
       ∙ ap (λ t. below_at t position) view
+
+  pub kept_shut : (position : ℕ) → 0 < position → position ≤ last_of tree → shut_in ps (position - 1) ≡ shut_at tree position
+  kept_shut zero some within = absurd (omega arith)
+  kept_shut (suc k) some within =
+      let e : suc k - 1 ≡ k = omega arith in
+      ap (shut_in ps) e
+      ∙ sym (shut_paired cs ps k (omega (arith, kept_last)))
+      ∙ ap (λ ts. get_or (map (λ t. t.0.shut) ts) k []) (sym kept.0)
+      ∙ ap (λ xs. get_or xs k []) (shut_laid (planted (paired cs ps)))
+      ∙ ap (λ t. shut_at t (suc k)) view
 
   pub below_at-small : (position : ℕ) → below_at tree position ≤ last_of tree
   below_at-small position = small-at (last_of tree) (laid tree.below) (position - 1) (small_laid (last_of tree) tree.below (omega arith))

@@ -16,5 +16,6 @@ pub mod PatternLaws
 pub mod Patterns
 pub mod Positions
 pub mod Searches
+pub mod Shut
 pub mod TreeLaws
 pub mod Trees

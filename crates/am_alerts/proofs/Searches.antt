@@ -10,7 +10,7 @@ use Rattle.am_alerts.specs.RoutingTree.{TreeRoute, matching, or_self, plain}
 use Rattle.am_alerts.specs.declared.labels.Label.{Label}
 use Rattle.am_alerts.specs.declared.planting.Place.{Place}
 use Rattle.am_alerts.specs.declared.route.Child.{Child}
-use Rattle.am_alerts.proofs.Layouts.{IsOpened, opened, get_or_paired, length_paired, part-none}
+use Rattle.am_alerts.proofs.Layouts.{IsOpened, opened, kept_route, get_or_paired, length_paired, part-none}
 
 module _ (cs : List Child) (ps : List Place) (at to end : ℕ) (x : Child) (before : at < to) (within : to ≤ length cs)
     (here : x ≡ get_or cs at x) (end-is : end ≡ at + 1 + below_in ps at) (is_laid : IsLaid (part at to (paired cs ps))) where
@@ -18,12 +18,12 @@ module _ (cs : List Child) (ps : List Place) (at to end : ℕ) (x : Child) (befo
   ts = paired cs ps
 
   -- what stands at the place, below it and after it
-  pub opened_here : IsOpened (paired cs ps) at to end (plain x)
+  pub opened_here : IsOpened (paired cs ps) at to end (kept_route x ps at)
   opened_here =
       let d : TreeRoute × ℕ = (plain x, 0) in
-      let t : get_or (paired cs ps) at d ≡ (plain x, below_in ps at) =
-      get_or_paired cs ps at x d (omega arith) ∙ ap (λ y. (plain y, below_in ps at)) (sym here) in
-      subst (λ e. IsOpened (paired cs ps) at to e (plain x)) (sym end-is)
+      let t : get_or (paired cs ps) at d ≡ (kept_route x ps at, below_in ps at) =
+      get_or_paired cs ps at x d (omega arith) ∙ ap (λ y. (kept_route y ps at, below_in ps at)) (sym here) in
+      subst (λ e. IsOpened (paired cs ps) at to e (kept_route x ps at)) (sym end-is)
       (subst (λ u. IsOpened (paired cs ps) at to (at + 1 + u.1) u.0) t
       (opened (paired cs ps) at to d before (omega (arith, length_paired cs ps)) is_laid))
 

@@ -55,22 +55,25 @@ module _ {A : Type 0} (option : Route → A) (said : RouteSpec → Option A)
   is_nearest root rules =
       children_map (λ (c : Child). option c.route) (listed (settled_below root rules)) ∙ nearest-below root rules
 
-module _ {A : Type 0} (of_child : Child → A) (of_rule : RouteSpec → A)
-    (same : (above : Route) (r : RouteSpec) → of_child (settled_route above r).child ≡ of_rule r) where
-  own-below : (above : Route) (f : Forest RouteSpec) → map (λ r. of_child r.child) (listed (settled_below above f)) ≡ map of_rule (listed f)
+-- what is a route's own
+module _ {A : Type 0} (of_route : TreeRoute → A) (of_rule : RouteSpec → A)
+    (same : (above : Route) (r : RouteSpec) → of_route (settled_route above r) ≡ of_rule r) where
+  pub own-below : (above : Route) (f : Forest RouteSpec) → map of_route (listed (settled_below above f)) ≡ map of_rule (listed f)
   own-below above bare = refl
   own-below above (grow r below after) =
-      let g = λ (t : TreeRoute). of_child t.child in
       let inner = settled_below (settled above r) below in
       let outer = settled_below above after in
-      ap (λ x. x ∷ map g (listed inner ++ listed outer)) (same above r)
-      ∙ ap (λ xs. of_rule r ∷ xs) (map-append g (listed inner) (listed outer)
-      ∙ ap (λ xs. xs ++ map g (listed outer)) (own-below (settled above r) below)
+      ap (λ x. x ∷ map of_route (listed inner ++ listed outer)) (same above r)
+      ∙ ap (λ xs. of_rule r ∷ xs) (map-append of_route (listed inner) (listed outer)
+      ∙ ap (λ xs. xs ++ map of_route (listed outer)) (own-below (settled above r) below)
       ∙ ap (λ xs. map of_rule (listed below) ++ xs) (own-below above after)
       ∙ sym (map-append of_rule (listed below) (listed after)))
 
-  pub is_own : (root : Route) (rules : Forest RouteSpec) → map of_child (children_of (nested_of root rules)) ≡ map of_rule (listed rules)
-  is_own root rules = children_map of_child (listed (settled_below root rules)) ∙ own-below root rules
+pub is_own : {A : Type 0} (of_child : Child → A) (of_rule : RouteSpec → A)
+    → ((above : Route) (r : RouteSpec) → of_child (settled_route above r).child ≡ of_rule r) → (root : Route) (rules : Forest RouteSpec)
+    → map of_child (children_of (nested_of root rules)) ≡ map of_rule (listed rules)
+is_own of_child of_rule same root rules =
+    children_map of_child (listed (settled_below root rules)) ∙ own-below (λ r. of_child r.child) of_rule same root rules
 
 -- ---- each route is reached or not
 

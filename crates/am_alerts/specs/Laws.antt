@@ -1,16 +1,17 @@
 -- The limits and the faults' numbers, by their values.
 use Rattle.std.specs.Prelude.{◌≡◌, [], ◌∷◌}
 use Rattle.am_alerts.specs.declared.limits.TheConstants.{MAX_MOMENT, MAX_DURATION, MAX_LABELS, MAX_LABEL_BYTES, MAX_MATCHERS, MAX_NAMES}
-use Rattle.am_alerts.specs.declared.limits.TheConstants.{MAX_CHILDREN, MAX_ROUTES, MAX_DEPTH}
-use Rattle.am_alerts.specs.declared.law.TheConstants.{LABEL_FAULTS, ALERT_FAULTS, MATCHER_FAULTS, ROUTE_FAULTS, DURATION_FAULTS}
+use Rattle.am_alerts.specs.declared.limits.TheConstants.{MAX_CHILDREN, MAX_ROUTES, MAX_DEPTH, MAX_SPANS}
+use Rattle.am_alerts.specs.declared.law.TheConstants.{LABEL_FAULTS, ALERT_FAULTS, MATCHER_FAULTS, ROUTE_FAULTS, SPANS_FAULTS, DURATION_FAULTS}
 use Rattle.am_alerts.specs.declared.labels.LabelFault.TheVariants as label
 use Rattle.am_alerts.specs.declared.alert.AlertFault.TheVariants as alert
 use Rattle.am_alerts.specs.declared.matcher.MatcherFault.TheVariants as matcher
 use Rattle.am_alerts.specs.declared.route.RouteFault.TheVariants as route
 use Rattle.am_alerts.specs.declared.duration.DurationFault.TheVariants as duration
+use Rattle.am_alerts.specs.declared.spans.SpansFault.TheVariants as spans
 
 -- law: a moment is at most 10^15 ms and a duration at most 10^12; 64 labels, names and values of 1,024 bytes, 32 matchers in a list, 64
--- names in a list, 63 children of a root of one level, 1,023 routes below a root, at 64 levels
+-- names in a list, 63 children of a root of one level, 1,023 routes below a root, at 64 levels, and 8,192 spans of a route
 abbrev pub LimitsAre : Type 0
 LimitsAre =
     (MAX_MOMENT ≡ 1_000_000_000_000_000)
@@ -22,6 +23,7 @@ LimitsAre =
     × (MAX_CHILDREN ≡ 63)
     × (MAX_ROUTES ≡ 1_023)
     × (MAX_DEPTH ≡ 64)
+    × (MAX_SPANS ≡ 8_192)
 
 -- law: the numbers of the faults of label sets
 abbrev pub LabelFaultsAre : Type 0
@@ -46,3 +48,7 @@ RouteFaultsAre =
 -- law: the numbers of the faults of durations
 abbrev pub DurationFaultsAre : Type 0
 DurationFaultsAre = DURATION_FAULTS ≡ (duration.BadDuration, 1) ∷ (duration.TooLong, 2) ∷ []
+
+-- law: the numbers of the faults of spans
+abbrev pub SpansFaultsAre : Type 0
+SpansFaultsAre = SPANS_FAULTS ≡ (spans.BadOrder, 1) ∷ (spans.TooMany, 2) ∷ (spans.BadMoment, 3) ∷ (spans.NoMemory, 4) ∷ []

@@ -52,10 +52,10 @@ settled_options above name said = record {
 abbrev pub settled : Route → RouteSpec → Route
 settled above r = settled_options above r.name r.options
 
--- the same with its matchers and its `continue`
+-- the same with its matchers, its `continue` and when it is muted
 abbrev pub settled_route : Route → RouteSpec → TreeRoute
 settled_route above r =
-    record { child = record { route = settled above r; matchers = r.matchers; goes_on = r.goes_on } }
+    record { child = record { route = settled above r; matchers = r.matchers; goes_on = r.goes_on }; shut = r.shut }
 
 -- the routes below one that says everything (dispatch.NewRoute)
 abbrev pub settled_below : Route → Forest RouteSpec → Forest TreeRoute

@@ -13,21 +13,23 @@ use Rattle.am_alerts.specs.declared.labels.Label.{Label}
 use Rattle.am_alerts.specs.declared.route.Route.{Route}
 use Rattle.am_alerts.specs.declared.route.Child.{Child}
 use Rattle.am_alerts.specs.declared.route.RouteFault.{RouteFault}
+use Rattle.am_alerts.specs.declared.spans.Span.{Span}
 use Rattle.am_alerts.specs.declared.route.RouteFault.TheVariants.{BadName, Twice, TooMany, BadInterval}
 use Rattle.am_alerts.specs.declared.limits.TheConstants.{MAX_CHILDREN, MAX_DEPTH, MAX_MATCHERS, MAX_ROUTES}
 
--- a route below the root
+-- a route below the root, and the spans of time in which it is muted
 pub record TreeRoute : Type 0 where
   pub child : Child
+  pub shut : List Span
 
 -- a routing tree as contracts see it
 pub record RoutingTree : Type 0 where
   pub root : Route
   pub below : Forest TreeRoute
 
--- a route below the root, of what it is made of
+-- a route below the root that is never muted
 abbrev pub plain : Child → TreeRoute
-plain c = record { child = c }
+plain c = record { child = c; shut = [] }
 
 -- a root and its children as a routing tree: one level
 abbrev pub tree_of : Route → List Child → RoutingTree

@@ -39,13 +39,14 @@ OptionsAreTheNearest =
     × IsNearest (λ r. r.group_interval) (λ r. r.options.group_interval)
     × IsNearest (λ r. r.repeat_interval) (λ r. r.options.repeat_interval)
 
--- law: names, matchers and `continue` are a route's own
+-- law: names, matchers, `continue` and when a route is muted are its own
 abbrev pub TheRestIsItsOwn : Type 0
 TheRestIsItsOwn =
     (root : Route) (rules : Forest RouteSpec) →
     (map (λ c. c.route.name) (children_of (nested_of root rules)) ≡ map (λ r. r.name) (listed rules))
     × (map (λ c. c.matchers) (children_of (nested_of root rules)) ≡ map (λ r. r.matchers) (listed rules))
     × (map (λ c. c.goes_on) (children_of (nested_of root rules)) ≡ map (λ r. r.goes_on) (listed rules))
+    × (map (λ r. r.shut) (listed (nested_of root rules).below) ≡ map (λ r. r.shut) (listed rules))
 
 -- whether one of these routes matches
 abbrev pub any_match : Forest TreeRoute → List Label → Bool

@@ -1,5 +1,6 @@
 //! The limits, the faults' numbers and the laws of routing trees, which verifiers read.
-ghost use Rattle.am_alerts.specs.Laws.{LimitsAre, LabelFaultsAre, AlertFaultsAre, MatcherFaultsAre, RouteFaultsAre, DurationFaultsAre};
+ghost use Rattle.am_alerts.specs.Laws.{LimitsAre, LabelFaultsAre, AlertFaultsAre, MatcherFaultsAre, RouteFaultsAre, SpansFaultsAre, DurationFaultsAre};
+ghost use Rattle.am_alerts.specs.Spans.{OneLevelIsNeverShut, SpansEndWhereTheySay};
 ghost use Rattle.am_alerts.specs.TreeLaws.{OneLevelIsTriedInOrder, OptionsAreTheNearest, TheRestIsItsOwn, EachRouteIsReachedOrNot};
 
 use crate::alert::AlertFault;
@@ -7,6 +8,7 @@ use crate::duration::DurationFault;
 use crate::labels::LabelFault;
 use crate::matcher::MatcherFault;
 use crate::route::RouteFault;
+use crate::spans::SpansFault;
 
 const LABEL_FAULTS: [(LabelFault, u8); 6] = [
     (LabelFault::Empty, LabelFault::Empty as u8),
@@ -37,13 +39,20 @@ const ROUTE_FAULTS: [(RouteFault, u8); 4] = [
     (RouteFault::BadInterval, RouteFault::BadInterval as u8),
 ];
 
+const SPANS_FAULTS: [(SpansFault, u8); 4] = [
+    (SpansFault::BadOrder, SpansFault::BadOrder as u8),
+    (SpansFault::TooMany, SpansFault::TooMany as u8),
+    (SpansFault::BadMoment, SpansFault::BadMoment as u8),
+    (SpansFault::NoMemory, SpansFault::NoMemory as u8),
+];
+
 const DURATION_FAULTS: [(DurationFault, u8); 2] = [
     (DurationFault::BadDuration, DurationFault::BadDuration as u8),
     (DurationFault::TooLong, DurationFault::TooLong as u8),
 ];
 
 /// What each limit is: of moments and durations in milliseconds, of bytes, and of how many labels,
-/// matchers, names and children there may be.
+/// matchers, names, children and spans there may be.
 pub fn limits_are()
     ensures { LimitsAre }
 {}
@@ -54,6 +63,7 @@ pub fn fault_numbers_are()
     ensures alerts { AlertFaultsAre }
     ensures matchers { MatcherFaultsAre }
     ensures routes { RouteFaultsAre }
+    ensures spans { SpansFaultsAre }
     ensures durations { DurationFaultsAre }
 {}
 
@@ -64,7 +74,8 @@ pub fn one_level_is_tried_in_order()
 {}
 
 /// Each option of a route of `Routes::nested` is the one that it says, or else that of the nearest
-/// route above it that says it. Its name, its matchers and its `continue` are its own.
+/// route above it that says it. Its name, its matchers, its `continue` and when it is muted are its
+/// own.
 pub fn options_are_the_nearest()
     ensures options { OptionsAreTheNearest }
     ensures others { TheRestIsItsOwn }
@@ -74,4 +85,15 @@ pub fn options_are_the_nearest()
 /// right below matches, and beside each of these none before it matches that has no `continue`.
 pub fn each_route_is_reached_or_not()
     ensures { EachRouteIsReachedOrNot }
+{}
+
+/// Where a route is muted at a moment, the end that `shut_until` gives lies ahead, stays the same
+/// at each moment up to it, and the route isn't muted then.
+pub fn spans_end_where_they_say()
+    ensures { SpansEndWhereTheySay }
+{}
+
+/// No route of a tree of one level is ever muted.
+pub fn one_level_is_never_shut()
+    ensures { OneLevelIsNeverShut }
 {}

@@ -21,5 +21,6 @@ pub mod route;
 mod routes;
 pub mod searchers;
 pub mod sequence;
+pub mod spans;
 pub mod text;
 pub mod tree;

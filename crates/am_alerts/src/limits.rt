@@ -26,3 +26,6 @@ pub const MAX_ROUTES: usize = 1_023;
 
 /// At how many levels they may stand.
 pub const MAX_DEPTH: usize = 64;
+
+/// In how many spans of time a route may be muted.
+pub const MAX_SPANS: usize = 8_192;

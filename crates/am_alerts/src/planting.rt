@@ -3,9 +3,10 @@ ghost use Rattle.std.specs.Prelude.{◌≡◌, ◌++◌, IfOk, map, nat_le, unwr
 ghost use Rattle.am_alerts.specs.Forest.{height, listed};
 ghost use Rattle.am_alerts.specs.Layout.{laid};
 ghost use Rattle.am_alerts.specs.Nested.{forest, settled_below, settled_options, settled_route};
-ghost use Rattle.am_alerts.specs.Planted.{below_in, place_of, tree_below};
+ghost use Rattle.am_alerts.specs.Planted.{below_in, place_of, shut_in, tree_below};
 
 use crate::route::{Child, GroupBy, Route};
+use crate::spans::{Span, Spans};
 use crate::text::Text;
 use crate::tree::{Node, Options, RouteSpec};
 use std::alloc::{AllocError, Global};
@@ -15,6 +16,8 @@ use std::alloc::{AllocError, Global};
 pub(crate) struct Place {
     /// How many routes stand below it, right behind it.
     pub(crate) below: usize,
+    /// When the route is muted.
+    pub(crate) shut: Spans,
 }
 
 /// How many routes stand below one. A route without a place is a leaf.
@@ -24,6 +27,16 @@ pub(crate) fn below_in(places: &[Place], at: usize) -> usize
     match places.get(at) {
         Some(place) => place.below,
         None => 0,
+    }
+}
+
+/// When a route is muted. A route without a place never is.
+pub(crate) fn shut_in(places: &[Place], at: usize) -> &[Span]
+    ensures { result.now ≡ shut_in places.now at }
+{
+    match places.get(at) {
+        Some(place) => place.shut.as_slice(),
+        None => &[],
     }
 }
 
@@ -76,38 +89,43 @@ fn push_node(
     ensures places { IfOk result (λ _. places.new.items ≡ places.old.items
         ++ map place_of (laid (tree_below above.now rule (forest routes.items)))) }
 {
-    let child = settled(alloc, above, rule)?;
+    let (child, shut) = settled(alloc, above, rule)?;
     if routes.is_empty() {
         children.push(child)?;
-        places.push(Place { below: 0 })?;
+        places.push(Place { below: 0, shut })?;
         return Ok(());
     }
     let route = child.route.copy(alloc)?;
     let at = places.len();
     children.push(child)?;
-    places.push(Place { below: 0 })?;
+    places.push(Place {
+        below: 0,
+        shut: Spans::none(),
+    })?;
     push_nodes(alloc, children, places, &route, routes)?;
     let below = places.len() - at - 1;
-    places[at].below = below;
+    places[at] = Place { below, shut };
     Ok(())
 }
 
-/// The route of a spec below one that says everything.
-fn settled(alloc: Global, above: &Route, rule: RouteSpec) -> Result<Child, AllocError>
-    ensures { IfOk result (λ child. child ≡ (settled_route above.now rule).child) }
+/// The route of a spec below one that says everything, and when it is muted.
+fn settled(alloc: Global, above: &Route, rule: RouteSpec) -> Result<(Child, Spans), AllocError>
+    ensures { IfOk result (λ made. made ≡ ((settled_route above.now rule).child, rule.shut)) }
 {
     let RouteSpec {
         name,
         options,
         matchers,
         goes_on,
+        shut,
     } = rule;
     let route = route_of(alloc, above, name, options)?;
-    Ok(Child {
+    let child = Child {
         route,
         matchers,
         goes_on,
-    })
+    };
+    Ok((child, shut))
 }
 
 fn route_of(alloc: Global, above: &Route, name: Text, options: Options) -> Result<Route, AllocError>

@@ -12,13 +12,15 @@ ghost use Rattle.am_alerts.specs.Planted.{IsLaid, paired, part};
 ghost use Rattle.am_alerts.specs.Route.{group_labels_of, key_text_of, has_good_intervals};
 ghost use Rattle.am_alerts.specs.RoutingTree.{tree_of, children_of, last_of, route_at, below_at, matching, or_self, routes_of};
 ghost use Rattle.am_alerts.specs.RoutingTree.{level_fault, tree_fault};
+ghost use Rattle.am_alerts.specs.Spans.{shut_at};
 
 use crate::labels::Labels;
 use crate::limits::{MAX_CHILDREN, MAX_DEPTH, MAX_ROUTES};
 use crate::matcher::all_match;
-use crate::planting::{Place, below_in, is_low, push_nodes};
+use crate::planting::{Place, below_in, is_low, push_nodes, shut_in};
 use crate::route::{Child, GroupBy, Route, RouteFault, fault_where};
 use crate::sequence::Sequence;
+use crate::spans::Span;
 use crate::tree::{Node, TreeFault};
 use std::alloc::{AllocError, Global};
 use std::marker::Model;
@@ -131,6 +133,19 @@ impl Routes {
             &self.root
         } else {
             &self.children.as_slice()[position as usize - 1].route
+        }
+    }
+
+    /// The spans of time in which the route at a position, which exists, is muted, in their order.
+    /// The root never is.
+    pub fn shut(&self, position: u32) -> &[Span]
+        requires { position ≤ last_of self.now }
+        ensures { result.now ≡ shut_at self.now position }
+    {
+        if position == 0 {
+            &[]
+        } else {
+            shut_in(self.places.as_slice(), position as usize - 1)
         }
     }
 

@@ -2,6 +2,7 @@
 use crate::matcher::Matcher;
 use crate::route::{GroupBy, RouteFault};
 use crate::sequence::Sequence;
+use crate::spans::Spans;
 use crate::text::Text;
 use std::alloc::AllocError;
 use thiserror::Error;
@@ -25,6 +26,8 @@ pub struct RouteSpec {
     pub matchers: Sequence<Matcher>,
     /// Whether the search goes on among the routes beside it, which is written `continue`.
     pub goes_on: bool,
+    /// When it is muted. The routes below it don't have this from it.
+    pub shut: Spans,
 }
 
 /// A route below the root, with the routes right below it in their order.

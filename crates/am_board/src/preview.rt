@@ -166,13 +166,16 @@ fn reasons_on(
     ensures { IfOk result (λ reasons. reasons
         ≡ map (reason_of config.now (state_of state.now) t (group_state group.now)) (integrations_of config.now group.now.name)) }
 {
-    let unmuted = Unmuted::at(alloc, config, state, sources, group, t)?;
-    let sets = unmuted.sets(alloc)?;
     let route = config.routes.route(group.name.route);
     let Some(receiver) = config.receiver(route.receiver.as_str()) else {
         return Ok(Sequence::empty(alloc));
     };
     let integrations = receiver.integrations.as_slice();
+    if let Some(until) = config.route_muted(&group.name, t) {
+        return reasons_muted(alloc, integrations, until);
+    }
+    let unmuted = Unmuted::at(alloc, config, state, sources, group, t)?;
+    let sets = unmuted.sets(alloc)?;
     reasons_of(
         alloc,
         integrations,
@@ -182,6 +185,22 @@ fn reasons_on(
         route.repeat_interval,
         t,
     )
+}
+
+/// Returns the reason of each of these integrations where their group's route is muted until a time.
+fn reasons_muted(
+    alloc: Global,
+    integrations: &[Integration],
+    until: u64,
+) -> Result<Sequence<Reason>, AllocError>
+    ensures { IfOk result (λ reasons. reasons
+        ≡ map (λ i. Reason.RouteMuted until) (enumerate_from 0 integrations.now)) }
+{
+    let mut reasons = Vec::with_capacity(alloc, integrations.len())?;
+    for _ in integrations {
+        reasons.push(Reason::RouteMuted { until })?;
+    }
+    Ok(Sequence::from(reasons))
 }
 
 /// Returns why each of these integrations is notified about a group, or why not.

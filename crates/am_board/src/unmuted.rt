@@ -1,5 +1,6 @@
-//! What is unmuted in a group: its alerts that are neither silenced nor inhibited. `begin` and
-//! `preview` call it (the two mute stages of `notify`).
+//! What is unmuted in a group: its alerts that are neither silenced nor inhibited, and none where a
+//! time interval mutes its route. `begin` and `preview` call it (the mute stages and the time stages
+//! of `notify`).
 //!
 //! One walk in the order of labels finds the firing and the resolved alerts. Each has its own list.
 ghost use Rattle.std.specs.Prelude.{◌≡◌, ◌&&◌, IfOk, filter, map};
@@ -35,7 +36,7 @@ pub(crate) struct Unmuted {
 }
 
 impl Unmuted {
-    /// What a begin at `t` finds in a group.
+    /// What a begin at `t` finds in a group: nothing where its route is muted.
     pub(crate) fn at(
         alloc: Global,
         config: &Config,
@@ -48,6 +49,12 @@ impl Unmuted {
         requires apart { IsDistinct same_member (group_state group.now).members }
         ensures { IfOk result (IsUnmuted config.now (state_of state.now) t (group_state group.now)) }
     {
+        if config.route_muted(&group.name, t).is_some() {
+            return Ok(Unmuted {
+                firing: Sequence::empty(alloc),
+                resolved: Sequence::empty(alloc),
+            });
+        }
         let members = group.members.by_labels(alloc)?;
         let (firing, resolved) = firing_and_resolved(
             alloc,

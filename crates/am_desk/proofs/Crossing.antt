@@ -18,6 +18,7 @@ use Rattle.am_alerts.proofs.sequence.Sequence.TheSendSync as sequence
 use Rattle.am_alerts.proofs.matcher.MatcherParts.TheSendSync as parts
 use Rattle.am_alerts.proofs.route.Route.TheSendSync as route
 use Rattle.am_alerts.proofs.planting.Place.TheSendSync as place
+use Rattle.am_alerts.proofs.spans.Span.TheSendSync as span
 use Rattle.am_model.proofs.config.Receiver.TheSendSync as receiver
 use Rattle.am_model.proofs.config.Limits.TheSendSync as limits
 use Rattle.am_mute.proofs.silence_index.SilenceIndex.TheSendSync as silence_index
@@ -41,6 +42,7 @@ use Rattle.am_alerts.specs.contracts.pattern.Pattern as pattern_row
 use Rattle.am_alerts.specs.contracts.matcher.Matcher as matcher_row
 use Rattle.am_alerts.specs.contracts.route.Child as child_row
 use Rattle.am_alerts.specs.contracts.routes.Routes as routes_row
+use Rattle.am_alerts.specs.contracts.spans.Spans as spans_row
 use Rattle.am_mute.specs.contracts.silence.Silence as silence_row
 use Rattle.am_mute.specs.contracts.silences.Silences as silences_row
 use Rattle.am_mute.specs.contracts.inhibit.InhibitRule as rule_row
@@ -111,11 +113,17 @@ child_send = search (every, matcher_send, route.the_send, sequence.the_send) dep
 pub child_sync : IsSync child_row.the_row
 child_sync = search (every, matcher_sync, route.the_sync, sequence.the_sync) depth 40 fits 10000
 
+pub spans_send : IsSend spans_row.the_row
+spans_send = search (every, span.the_send, span.the_sync) depth 40 fits 10000
+
+pub spans_sync : IsSync spans_row.the_row
+spans_sync = search (every, span.the_send, span.the_sync) depth 40 fits 10000
+
 pub routes_send : IsSend routes_row.the_row
-routes_send = search (every, child_send, route.the_send, place.the_send, sequence.the_send) depth 40 fits 10000
+routes_send = search (every, child_send, spans_send, route.the_send, place.the_send, sequence.the_send) depth 40 fits 10000
 
 pub routes_sync : IsSync routes_row.the_row
-routes_sync = search (every, child_sync, route.the_sync, place.the_sync, sequence.the_sync) depth 40 fits 10000
+routes_sync = search (every, child_sync, spans_sync, route.the_sync, place.the_sync, sequence.the_sync) depth 40 fits 10000
 
 pub silence_send : IsSend silence_row.the_row
 silence_send = search (every, matcher_send, sequence.the_send) depth 40 fits 10000

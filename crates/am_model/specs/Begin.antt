@@ -1,4 +1,4 @@
--- Begin: a flush of the group that was due first (Alertmanager's aggrGroup.run and flush, with its MuteStages and DedupStage).
+-- Begin: a flush of the group that was due first (Alertmanager's aggrGroup.run and flush, with its MuteStages, its time stages and DedupStage).
 use Rattle.std.specs.Prelude.{ℕ, ◌+◌, max, Bool, true, false, not, ◌&&◌, nat_le, List, [], ◌∷◌, ◌++◌, map, filter, find, count_by, Option}
 use Rattle.std.specs.Prelude.{Some, None, ◌==◌, if◌then◌else◌}
 use Rattle.std.specs.Option.{option_map}
@@ -19,9 +19,9 @@ use Rattle.am_model.specs.declared.group.GroupName.{GroupName}
 use Rattle.am_model.specs.declared.record.Reply.{Reply}
 use Rattle.am_model.specs.declared.record.Reply.TheVariants.{NothingDue, Quiet, Flush}
 use Rattle.am_model.specs.declared.views.RowView.{RowView}
-use Rattle.am_model.specs.Configured.{rules_of, route_of, integrations_of}
+use Rattle.am_model.specs.Configured.{rules_of, route_of, route_muted, integrations_of}
 use Rattle.am_model.specs.Notice.{NoticeData}
-use Rattle.am_model.specs.Lists.{without, changed_where, in_order, least}
+use Rattle.am_model.specs.Lists.{without, unless, changed_where, in_order, least}
 use Rattle.am_model.specs.State.{GroupState, AskedState, Stamped, FlushState, State, at_moment, is_named, same_name, name_cmp, is_flushing}
 
 -- the order in which groups are taken: by due moment, then by name
@@ -48,9 +48,9 @@ copied t a = if is_resolved a t then a else alert_of a.labels a.starts None
 abbrev pub copy_under : List RuleData → State → ℕ → GroupState → List AlertData
 copy_under rules s t g = without (λ a. is_muted a.labels t s.silences rules s.known) (map (λ m. copied t m.alert) g.members)
 
--- the same under the configuration's rules: the copy of a flush at t
+-- the same under the configuration's rules, and none where the group's route is muted: the copy of a flush at t
 abbrev pub copy_of : Config → State → ℕ → GroupState → List AlertData
-copy_of config s t g = copy_under (rules_of config) s t g
+copy_of config s t g = unless (route_muted config g.name t) (copy_under (rules_of config) s t g)
 
 -- the order of alerts by their label sets
 abbrev pub alert_cmp : AlertData → AlertData → Ordering

@@ -1,8 +1,9 @@
 -- Configured: a group's route, receiver and integrations in a configuration.
-use Rattle.std.specs.Prelude.{ℕ, ◌+◌, ◌*◌, ◌≤◌, min, All, List, [], ◌∷◌, length, if◌then◌else◌}
+use Rattle.std.specs.Prelude.{ℕ, ◌+◌, ◌*◌, ◌≤◌, min, All, List, [], ◌∷◌, length, Option, if◌then◌else◌}
 use Rattle.std.specs.List.{enumerate_from}
 use Rattle.std.specs.Str.{bytes_eq}
 use Rattle.am_alerts.specs.RoutingTree.{route_at}
+use Rattle.am_alerts.specs.Spans.{shut_at, shut_until}
 use Rattle.am_alerts.specs.declared.route.Route.{Route}
 use Rattle.am_mute.specs.Inhibit.{RuleData}
 use Rattle.am_model.specs.declared.config.Config.{Config}
@@ -18,6 +19,10 @@ rules_of config = config.rules
 -- the route of a group
 abbrev pub route_of : Config → GroupName → Route
 route_of config name = route_at config.routes name.route
+
+-- until when a group's route is muted at t, if it is (Alertmanager's TimeMuteStage and TimeActiveStage)
+abbrev pub route_muted : Config → GroupName → ℕ → Option ℕ
+route_muted config name t = shut_until (shut_at config.routes name.route) t
 
 -- the integrations of the receiver of this name
 abbrev pub integrations_named : List ℕ → List Receiver → List Integration

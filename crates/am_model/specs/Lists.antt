@@ -12,6 +12,11 @@ upsert like x (y ∷ ys) = if like x y then x ∷ ys else y ∷ upsert like x ys
 abbrev pub without : {X : Type 0} → (X → Bool) → List X → List X
 without test xs = filter (λ x. not (test x)) xs
 
+-- the list, or none where there is something
+abbrev pub unless : {W X : Type 0} → Option W → List X → List X
+unless None xs = xs
+unless (Some w) xs = []
+
 -- the list with a change of each element that passes a test
 abbrev pub changed_where : {X : Type 0} → (X → Bool) → (X → X) → List X → List X
 changed_where test change xs = map (λ x. if test x then change x else x) xs

@@ -9,13 +9,14 @@ ghost use Rattle.am_alerts.specs.RoutingTree.{last_of};
 ghost use Rattle.am_model.specs.Config.{AreAllowed, IsWithin, is_within, are_allowed, has_receiver, has_receivers, has_receiver_twice};
 ghost use Rattle.am_model.specs.Config.{has_many_integrations, has_good_kinds, greatest_limits, receivers_fault, bounds_fault};
 ghost use Rattle.am_model.specs.Config.{config_fault, kind_at, integration_text};
-ghost use Rattle.am_model.specs.Configured.{route_of, integrations_named};
+ghost use Rattle.am_model.specs.Configured.{route_of, route_muted, integrations_named};
 
 use crate::group::GroupName;
 use am_alerts::labels::is_label_name;
 use am_alerts::limits::{MAX_DURATION, MAX_ROUTES};
 use am_alerts::route::{Child, Route, Routes};
 use am_alerts::sequence::Sequence;
+use am_alerts::spans::shut_until;
 use am_alerts::text::Text;
 use am_mute::inhibit::InhibitRule;
 use std::alloc::{AllocError, Global};
@@ -161,6 +162,17 @@ impl Config {
             self.routes.route(group.route)
         } else {
             self.routes.root()
+        }
+    }
+
+    /// Returns until when a group's route is muted at a time, in milliseconds, if it is.
+    pub fn route_muted(&self, group: &GroupName, t: u64) -> Option<u64>
+        ensures { result ≡ route_muted self.now group.now t }
+    {
+        if group.route <= self.routes.last() {
+            shut_until(self.routes.shut(group.route), t)
+        } else {
+            None
         }
     }
 

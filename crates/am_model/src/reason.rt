@@ -5,7 +5,8 @@ ghost use Rattle.am_model.specs.look_back.Reasons.{asks};
 
 /// Why a begin that takes a group notifies an integration of its receiver, or why not.
 ///
-/// It is the first case of `notify.DedupStage.needsUpdate` that applies. Exactly one applies. The
+/// Where no time interval mutes the group's route, it is the first case of
+/// `notify.DedupStage.needsUpdate` that applies. Exactly one applies. The
 /// entry is the log row of the group and the integration; the alerts are those of the group that
 /// are neither silenced nor inhibited.
 #[derive(Clone, Copy, Debug, PartialEq, Eq)]
@@ -32,6 +33,11 @@ pub enum Reason {
         /// until then.
         from: u64,
     },
+    /// Not notified: a time interval mutes the group's route.
+    RouteMuted {
+        /// The first time, in milliseconds, at which it isn't muted.
+        until: u64,
+    },
 }
 
 impl Reason {
@@ -45,7 +51,10 @@ impl Reason {
             | Reason::AllResolved
             | Reason::NewlyResolved
             | Reason::Repeat => true,
-            Reason::NothingLeft | Reason::NothingFiring | Reason::NotYet { .. } => false,
+            Reason::NothingLeft
+            | Reason::NothingFiring
+            | Reason::NotYet { .. }
+            | Reason::RouteMuted { .. } => false,
         }
     }
 }

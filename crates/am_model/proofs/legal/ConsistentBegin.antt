@@ -1,20 +1,20 @@
 -- A begin keeps a state consistent: the group whose flush it opens has alerts, and no other flush of it is open.
-use Rattle.std.proofs.Common.{◌≡◌, ℕ, ◌+◌, ◌≤◌, Bool, true, false, cond, not, ◌&&◌, Some, None, List, [], ◌∷◌, ◌++◌, refl, sym, ap, ◌∙◌, subst, arith}
+use Rattle.std.proofs.Common.{◌≡◌, ℕ, ◌+◌, ◌≤◌, Bool, true, false, cond, not, ◌&&◌, Option, Some, None, List, [], ◌∷◌, ◌++◌, refl, sym, ap, ◌∙◌, subst, arith}
 use Rattle.std.specs.Prelude.{filter, ◌==◌, nat_le}
 use Rattle.std.specs.List.{enumerate_from, AllByRecursion, IsDistinct}
 use Rattle.std.proofs.lemmas.Bool.{ne_eqb}
 use Rattle.std.proofs.lemmas.Map.Keys.{IsDistinct-head, IsDistinct-tail, IsDistinct-cons}
-use Rattle.am_alerts.specs.AlertData.{is_resolved}
+use Rattle.am_alerts.specs.AlertData.{AlertData, is_resolved}
 use Rattle.am_alerts.specs.declared.limits.TheConstants.{MAX_MOMENT}
 use Rattle.am_nflog.specs.Members.{is_empty}
 use Rattle.am_model.specs.declared.config.Config.{Config}
 use Rattle.am_model.specs.declared.config.Integration.{Integration}
 use Rattle.am_model.specs.declared.group.GroupName.{GroupName}
-use Rattle.am_model.specs.Begin.{due_cmp, may_begin, taken, label_sets, firing_of, resolved_of, needs, asked_of, begun_group, without_resolved, asked_state, flush_asking, after_asking, after_taking, after_begin}
-use Rattle.am_model.specs.Configured.{integrations_named, integrations_of, route_of}
+use Rattle.am_model.specs.Begin.{due_cmp, may_begin, taken, label_sets, firing_of, resolved_of, needs, alert_cmp, asked_about, asked_of, begun_group, without_resolved, asked_state, flush_asking, after_asking, after_taking, after_begin}
+use Rattle.am_model.specs.Configured.{integrations_named, integrations_of, route_of, route_muted}
 use Rattle.am_model.specs.Insert.{same_group}
 use Rattle.am_model.specs.Laws.{same_flushed, same_number, same_asked}
-use Rattle.am_model.specs.Lists.{changed_where}
+use Rattle.am_model.specs.Lists.{changed_where, in_order, unless, without}
 use Rattle.am_model.specs.State.{MemberState, GroupState, FlushState, State, same_name, is_named, is_flushing}
 use Rattle.am_model.proofs.legal.ConsistentFinish.{steady-at, tidy-fewer, tidy-changed, distinct-changed}
 use Rattle.am_model.proofs.legal.ConsistentGroups.{members_of, members_of-own, members_of-elsewhere, members_of-kept}
@@ -81,7 +81,13 @@ module _ (config : Config) (s : State) (t : ℕ) where
 
   -- none is asked about a group without alerts
   none_asked : (name : GroupName) (due : ℕ) (flushed : Bool) → asked_of config s t (record { name = name; due = due; flushed = flushed; members = [] }) ≡ []
-  none_asked name due flushed = refl
+  none_asked name due flushed =
+      ap (λ xs. asked_about config s t name (label_sets (in_order alert_cmp (without (λ a. is_resolved a t) xs))) (label_sets (in_order alert_cmp (filter (λ a. is_resolved a t) xs))))
+      (none-unless (route_muted config name t))
+    where
+      none-unless : (o : Option ℕ) → unless {X = AlertData} o [] ≡ []
+      none-unless None = refl
+      none-unless (Some until) = refl
 
   some_members : (name : GroupName) (due : ℕ) (flushed : Bool) (members : List MemberState) (i : ℕ × Integration) (is : List (ℕ × Integration)) → asked_of config s t (record { name = name; due = due; flushed = flushed; members = members }) ≡ i ∷ is → is_empty members ≡ false
   some_members name due flushed [] i is e = let no : [] ≡ i ∷ is = sym (none_asked name due flushed) ∙ e in absurd (cc)

@@ -1,7 +1,7 @@
 -- Alerts, groups and rows in order, and the alerts of a group.
 use denote.Param.Members.{Mut}
 use Rattle.std.proofs.Common.{◌≡◌, ℕ, Bool, true, false, not, List, map, refl, sym, ap, ◌∙◌, subst}
-use Rattle.std.specs.Prelude.{IsPermutation, IsSorted, IsSortedBy, filter, None, if◌then◌else◌}
+use Rattle.std.specs.Prelude.{IsPermutation, IsSorted, IsSortedBy, filter, Option, Some, None, if◌then◌else◌}
 use Rattle.std.specs.Borrow.{Bor}
 use Rattle.std.specs.Cmp.{IsTotalOrder, IsStrictWeakOrder, both_tied, unsigned_ties}
 use Rattle.std.specs.Fn.{Called, ComparesAs}
@@ -16,17 +16,17 @@ use Rattle.am_mute.specs.Inhibit.{RuleData}
 use Rattle.am_mute.specs.Mute.{is_muted}
 use Rattle.am_nflog.specs.Members.{is_ascending}
 use Rattle.am_model.specs.Begin.{alert_cmp, label_sets, copied, copy_under, copy_of, firing_of, resolved_of}
-use Rattle.am_model.specs.Configured.{rules_of}
+use Rattle.am_model.specs.Configured.{rules_of, route_muted}
 use Rattle.am_model.specs.Finish.{same_key}
 use Rattle.am_model.specs.Insert.{same_alert, same_member, same_group}
-use Rattle.am_model.specs.Lists.{without, in_order}
+use Rattle.am_model.specs.Lists.{without, unless, in_order}
 use Rattle.am_model.specs.State.{MemberState, GroupState, State, same_name, name_cmp}
 use Rattle.am_model.specs.Views.{row_cmp, group_cmp, group_view}
 use Rattle.am_model.specs.declared.config.Config.{Config}
 use Rattle.am_model.specs.declared.group.GroupName.{GroupName}
 use Rattle.am_model.specs.declared.views.GroupView.{GroupView}
 use Rattle.am_model.specs.declared.views.RowView.{RowView}
-use Rattle.am_model.proofs.lists.Distinct.{IsDistinct-filter, IsDistinct-told}
+use Rattle.am_model.proofs.lists.Distinct.{IsDistinct-nil, IsDistinct-filter, IsDistinct-told}
 use Rattle.am_model.proofs.lists.InOrder.{in_order-permutation, sorted_is_in_order, sort_by_is_in_order, in_order-ascends, is_ascending-map, apart_by_ties, in_order-map}
 
 pub alert_cmp_total : IsTotalOrder alert_cmp
@@ -104,11 +104,20 @@ IsDistinct-copy rules s t g h =
     IsDistinct-filter same_alert (λ a. not (is_muted a.labels t s.silences rules s.known)) (map (λ m. copied t m.alert) g.members)
     (IsDistinct-told same_member same_alert (λ m. copied t m.alert) (λ m n i. same_label_set (labels-copied t m.alert i) (labels-copied t n.alert i)) g.members h)
 
+-- and none of what a flush copies, also where the route is muted
+IsDistinct-unless : (muted : Option ℕ) (xs : List AlertData) → IsDistinct same_alert xs → IsDistinct same_alert (unless muted xs)
+IsDistinct-unless None xs h = h
+IsDistinct-unless (Some until) xs h = IsDistinct-nil same_alert
+
+IsDistinct-copied : (config : Config) (s : State) (t : ℕ) (g : GroupState) → IsDistinct same_member g.members → IsDistinct same_alert (copy_of config s t g)
+IsDistinct-copied config s t g h =
+    IsDistinct-unless (route_muted config g.name t) (copy_under (rules_of config) s t g) (IsDistinct-copy (rules_of config) s t g h)
+
 pub IsDistinct-firing : (config : Config) (s : State) (t : ℕ) (g : GroupState) → IsDistinct same_member g.members → IsDistinct same_alert (without (λ a. is_resolved a t) (copy_of config s t g))
-IsDistinct-firing config s t g h = IsDistinct-filter same_alert (λ a. not (is_resolved a t)) (copy_of config s t g) (IsDistinct-copy (rules_of config) s t g h)
+IsDistinct-firing config s t g h = IsDistinct-filter same_alert (λ a. not (is_resolved a t)) (copy_of config s t g) (IsDistinct-copied config s t g h)
 
 pub IsDistinct-resolved : (config : Config) (s : State) (t : ℕ) (g : GroupState) → IsDistinct same_member g.members → IsDistinct same_alert (filter (λ a. is_resolved a t) (copy_of config s t g))
-IsDistinct-resolved config s t g h = IsDistinct-filter same_alert (λ a. is_resolved a t) (copy_of config s t g) (IsDistinct-copy (rules_of config) s t g h)
+IsDistinct-resolved config s t g h = IsDistinct-filter same_alert (λ a. is_resolved a t) (copy_of config s t g) (IsDistinct-copied config s t g h)
 
 -- the label sets that fire in a flush, and those that are resolved in it, rise strictly
 pub firing-ascends : (config : Config) (s : State) (t : ℕ) (g : GroupState) → IsDistinct same_member g.members → is_ascending label_set_cmp (label_sets (firing_of config s t g)) ≡ true

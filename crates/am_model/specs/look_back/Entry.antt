@@ -16,9 +16,9 @@ use Rattle.am_model.specs.declared.record.Reply.{Reply}
 use Rattle.am_model.specs.declared.record.Reply.TheVariants.{Inserted, Silenced, NothingDue, Quiet, Flush, Finished, Maintained, Noted}
 use Rattle.am_model.specs.declared.views.RowView.{RowView}
 use Rattle.am_model.specs.Begin.{alert_cmp, label_sets}
-use Rattle.am_model.specs.Configured.{rules_of, expiry_at}
+use Rattle.am_model.specs.Configured.{rules_of, route_muted, expiry_at}
 use Rattle.am_model.specs.Insert.{same_alert}
-use Rattle.am_model.specs.Lists.{without, in_order}
+use Rattle.am_model.specs.Lists.{without, unless, in_order}
 use Rattle.am_model.specs.look_back.Past.{Past, moment_at, is_flush_of, notices_in, begin_of, was_noted, succeeded}
 use Rattle.am_model.specs.look_back.Presence.{presence}
 use Rattle.am_model.specs.State.{MemberState}
@@ -61,11 +61,12 @@ silences_in (r ∷ past) = latest_first same_silence (silence_in r.call) (silenc
 abbrev pub present_in : Config → GroupName → Past → List MemberState
 present_in config name past = filter_map (λ a. presence config name a.labels past) (known_in past)
 
--- the alerts that are present in a group and not muted at t
+-- the alerts that are present in a group and not muted at t; none where the group's route is muted
 abbrev pub unmuted_in : Config → GroupName → ℕ → Past → List AlertData
 unmuted_in config name t past =
-    without (λ a. is_muted a.labels t (silences_in past) (rules_of config) (known_in past))
-    (map (λ m. m.alert) (present_in config name past))
+    unless (route_muted config name t)
+    (without (λ a. is_muted a.labels t (silences_in past) (rules_of config) (known_in past))
+    (map (λ m. m.alert) (present_in config name past)))
 
 -- an alert without its end, as a notice lists one that fires
 abbrev pub without_end : AlertData → AlertData

@@ -11,9 +11,9 @@ use Rattle.am_model.specs.declared.preview.Preview.{Preview}
 use Rattle.am_model.specs.declared.reason.Reason.{Reason}
 use Rattle.am_model.specs.declared.record.Record.{Record}
 use Rattle.am_model.specs.Begin.{firing_of, resolved_of, label_sets, is_entry_of, taken}
-use Rattle.am_model.specs.Configured.{rules_of, route_of, integrations_of}
+use Rattle.am_model.specs.Configured.{rules_of, route_of, route_muted, integrations_of}
 use Rattle.am_model.specs.look_back.Past.{past_of}
-use Rattle.am_model.specs.look_back.Reasons.{reason_told, reason_in}
+use Rattle.am_model.specs.look_back.Reasons.{reason_told, reason_where, reason_in}
 use Rattle.am_model.specs.Replay.{replay, IsLegal}
 use Rattle.am_model.specs.State.{MemberState, GroupState, State, moment}
 
@@ -30,8 +30,9 @@ muted_of config s t g = filter_map (muted_alert config s t) g.members
 -- why an integration of a group is asked at t, or why not, by the state
 abbrev pub reason_of : Config → State → ℕ → GroupState → ℕ × Integration → Reason
 reason_of config s t g i =
-    reason_told (find (is_entry_of g.name i.0) s.rows) (label_sets (firing_of config s t g)) (label_sets (resolved_of config s t g))
-    i.1.send_resolved (route_of config g.name).repeat_interval t
+    reason_where (route_muted config g.name t)
+    (reason_told (find (is_entry_of g.name i.0) s.rows) (label_sets (firing_of config s t g)) (label_sets (resolved_of config s t g))
+    i.1.send_resolved (route_of config g.name).repeat_interval t)
 
 -- what a begin at t that takes a group is to do with it, where these are the reasons of integrations
 abbrev pub preview_on : Config → State → ℕ → (GroupState → ℕ × Integration → Reason) → GroupState → Preview

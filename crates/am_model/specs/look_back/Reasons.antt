@@ -10,11 +10,11 @@ use Rattle.am_model.specs.declared.config.Integration.{Integration}
 use Rattle.am_model.specs.declared.group.GroupName.{GroupName}
 use Rattle.am_model.specs.declared.reason.Reason.{Reason}
 use Rattle.am_model.specs.declared.reason.Reason.TheVariants.{FirstNotice, NewAlert, AllResolved, NewlyResolved, Repeat, NothingLeft}
-use Rattle.am_model.specs.declared.reason.Reason.TheVariants.{NothingFiring, NotYet}
+use Rattle.am_model.specs.declared.reason.Reason.TheVariants.{NothingFiring, NotYet, RouteMuted}
 use Rattle.am_model.specs.declared.record.Record.{Record}
 use Rattle.am_model.specs.declared.record.Reply.{Reply}
 use Rattle.am_model.specs.declared.views.RowView.{RowView}
-use Rattle.am_model.specs.Configured.{route_of, integrations_of}
+use Rattle.am_model.specs.Configured.{route_of, route_muted, integrations_of}
 use Rattle.am_model.specs.look_back.Entry.{firing_in, resolved_in, entry_in}
 use Rattle.am_model.specs.look_back.Past.{Past, AtEach, past_of, moment_at, takes, notices_in}
 
@@ -28,6 +28,7 @@ asks Repeat = true
 asks NothingLeft = false
 asks NothingFiring = false
 asks (NotYet from) = false
+asks (RouteMuted until) = false
 
 -- the reason where these label sets fire and those are resolved at t: the first case that applies (Alertmanager's DedupStage.needsUpdate)
 abbrev pub reason_by : Option RowView → List (List Label) → List (List Label) → Bool → ℕ → ℕ → Reason
@@ -44,6 +45,11 @@ abbrev pub reason_told : Option RowView → List (List Label) → List (List Lab
 reason_told entry firing resolved send_resolved repeat t =
     if is_empty firing && is_empty resolved then NothingLeft else reason_by entry firing resolved send_resolved repeat t
 
+-- the reason, unless the group's route is muted until a moment
+abbrev pub reason_where : Option ℕ → Reason → Reason
+reason_where None reason = reason
+reason_where (Some until) reason = RouteMuted until
+
 -- the reason of an integration of a group about these label sets, by the entry that looking back finds
 abbrev pub reason_about : Config → GroupName → ℕ → Past → List (List Label) → List (List Label) → ℕ × Integration → Reason
 reason_about config name t past firing resolved i =
@@ -51,7 +57,9 @@ reason_about config name t past firing resolved i =
 
 -- why a begin of a group at t is to ask an integration of its receiver, or why not
 abbrev pub reason_in : Config → GroupName → ℕ → Past → ℕ × Integration → Reason
-reason_in config name t past i = reason_about config name t past (firing_in config name t past) (resolved_in config name t past) i
+reason_in config name t past i =
+    reason_where (route_muted config name t)
+    (reason_about config name t past (firing_in config name t past) (resolved_in config name t past) i)
 
 -- some label set is among the first and not among the second
 abbrev pub HasMore : List (List Label) → List (List Label) → Type 0
@@ -65,7 +73,8 @@ HasAllFiring row firing = is_subset same_label_set firing row.firing ≡ true
 abbrev pub HasAllResolved : RowView → List (List Label) → Bool → Type 0
 HasAllResolved row resolved send_resolved = send_resolved ≡ true → is_subset same_label_set resolved row.resolved ≡ true
 
--- what a reason says of the entry, of the label sets that fire and those that are resolved, and of the moment: one alone is so
+-- what a reason says of the entry, of the label sets that fire and those that are resolved, and of the moment, where no route is muted:
+-- one alone is so
 abbrev pub Says : Reason → Option RowView → List (List Label) → List (List Label) → Bool → ℕ → ℕ → Type 0
 Says FirstNotice entry firing resolved send_resolved repeat t = (entry ≡ None) × (firing ≢ [])
 Says NewAlert entry firing resolved send_resolved repeat t = (row : RowView) × (entry ≡ Some row) × HasMore firing row.firing
@@ -82,12 +91,18 @@ Says NothingFiring entry firing resolved send_resolved repeat t =
 Says (NotYet from) entry firing resolved send_resolved repeat t =
     (row : RowView) × (entry ≡ Some row) × (firing ≢ []) × HasAllFiring row firing × HasAllResolved row resolved send_resolved
     × (from ≡ row.moment + repeat + 1) × (t < from)
+Says (RouteMuted until) entry firing resolved send_resolved repeat t = ⊥
+
+-- the same where the group's route may be muted until a moment: then that alone is so
+abbrev pub SaysWhere : Option ℕ → Reason → Option RowView → List (List Label) → List (List Label) → Bool → ℕ → ℕ → Type 0
+SaysWhere None reason entry firing resolved send_resolved repeat t = Says reason entry firing resolved send_resolved repeat t
+SaysWhere (Some until) reason entry firing resolved send_resolved repeat t = reason ≡ RouteMuted until
 
 -- what a reason says is so of an integration of a group at t, by what looking back finds
 abbrev pub IsSo : Reason → Config → GroupName → ℕ → Past → ℕ × Integration → Type 0
 IsSo reason config name t past i =
-    Says reason (entry_in config name i.0 past) (firing_in config name t past) (resolved_in config name t past) i.1.send_resolved
-    (route_of config name).repeat_interval t
+    SaysWhere (route_muted config name t) reason (entry_in config name i.0 past) (firing_in config name t past)
+    (resolved_in config name t past) i.1.send_resolved (route_of config name).repeat_interval t
 
 -- whether a reply has a notice for an integration
 abbrev pub is_asked_in : ℕ → Reply → Bool

@@ -1,5 +1,5 @@
 use Rattle.std.proofs.Common.{refl}
-use Rattle.am_alerts.proofs.TreeLaws.{is_nearest, is_own}
+use Rattle.am_alerts.proofs.TreeLaws.{is_nearest, is_own, own-below}
 use Rattle.am_alerts.proofs.law.options_are_the_nearest.Goals as goal
 
 pub returns-clause-options : goal.returns-clause-options
@@ -16,4 +16,5 @@ returns-clause-others c = λ root rules. (
   is_own (λ c. c.route.name) (λ r. r.name) (λ above r. refl) root rules,
   is_own (λ c. c.matchers) (λ r. r.matchers) (λ above r. refl) root rules,
   is_own (λ c. c.goes_on) (λ r. r.goes_on) (λ above r. refl) root rules,
+  own-below (λ r. r.shut) (λ r. r.shut) (λ above r. refl) root rules,
 )

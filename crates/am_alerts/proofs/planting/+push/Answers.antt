@@ -6,6 +6,7 @@ use Rattle.am_alerts.specs.Nested.{forest, settled, settled_below, settled_route
 use Rattle.am_alerts.specs.Planted.{place_of}
 use Rattle.am_alerts.specs.declared.planting.Place.{Place}
 use Rattle.am_alerts.specs.declared.route.Child.{Child}
+use Rattle.am_alerts.specs.declared.spans.Spans.{Spans}
 use Rattle.am_alerts.proofs.Forests.{children_more, place_told, places_more}
 use Rattle.am_alerts.proofs.planting.+push.Goals as goal
 
@@ -23,16 +24,18 @@ push_node-returns-clause-places t c =
     let now = c.push_nodes.new.places.items in
     let above = settled c.args.above.now c.args.rule in
     let below = settled_below above (forest c.args.routes.items) in
-    let leaf : Place = record { below = 0 } in
+    let shut = c.in_ok-child.shut in
+    let own : shut ≡ c.args.rule.shut = ap (λ (d : Child × Spans). d.1) c.in_ok-child.ensures in
+    let leaf : Place = record { below = 0; shut = c.none.result } in
     let at : c.len-at.result ≡ length before = search rules in
     let all : c.len.result ≡ length now = search rules in
-    let route : c.in_ok-route.route ≡ above = c.in_ok-route.ensures ∙ ap (λ (d : Child). d.route) c.in_ok-child.ensures in
+    let route : c.in_ok-route.route ≡ above = c.in_ok-route.ensures ∙ ap (λ (d : Child × Spans). d.0.route) c.in_ok-child.ensures in
     let was : now ≡ (before ++ leaf ∷ []) ++ map place_of (laid below) =
     c.in_ok-push_nodes.ensures.places
     ∙ ap (λ ps. ps ++ map place_of (laid (settled_below c.in_ok-route.route (forest c.args.routes.items)))) c.in_ok-push-4.ensures.items
     ∙ ap (λ r. (before ++ leaf ∷ []) ++ map place_of (laid (settled_below r (forest c.args.routes.items)))) route in
-    ap (λ i. set now i (let p : Place = record { below = c.len.result - i - 1 } in p)) at
-    ∙ place_told before now (settled_route c.args.above.now c.args.rule) leaf below (c.len.result - length before - 1) was
+    ap (λ i. set now i (let p : Place = record { below = c.len.result - i - 1; shut = shut } in p)) at
+    ∙ place_told before now (settled_route c.args.above.now c.args.rule) leaf below (c.len.result - length before - 1) shut own was
     (ap (λ n. n - length before - 1) all)
     ∙ ap (λ ts. before ++ place_of (settled_route c.args.above.now c.args.rule, count below) ∷ map place_of ts)
     (sym (append-nil (laid below)))

@@ -14,12 +14,12 @@ use Rattle.am_model.specs.declared.config.Integration.{Integration}
 use Rattle.am_model.specs.declared.group.GroupName.{GroupName}
 use Rattle.am_model.specs.declared.preview.MutedAlert.{MutedAlert}
 use Rattle.am_model.specs.declared.reason.Reason.{Reason}
-use Rattle.am_model.specs.declared.reason.Reason.TheVariants.{NothingLeft}
+use Rattle.am_model.specs.declared.reason.Reason.TheVariants.{NothingLeft, RouteMuted}
 use Rattle.am_model.specs.declared.views.RowView.{RowView}
-use Rattle.am_model.specs.Begin.{entry_of, is_entry_of, label_sets, log_row}
-use Rattle.am_model.specs.Configured.{route_of}
+use Rattle.am_model.specs.Begin.{entry_of, firing_of, is_entry_of, label_sets, log_row, resolved_of}
+use Rattle.am_model.specs.Configured.{route_of, route_muted}
 use Rattle.am_model.specs.look_back.Preview.{reason_of}
-use Rattle.am_model.specs.look_back.Reasons.{reason_by, reason_told}
+use Rattle.am_model.specs.look_back.Reasons.{reason_by, reason_told, reason_where}
 use Rattle.am_model.specs.State.{MemberState, GroupState, State, same_name}
 use Rattle.am_model.proofs.lists.Distinct.{all-find}
 use Rattle.am_board.specs.declared.flush.AlertSets.{AlertSets}
@@ -66,11 +66,19 @@ by-row : (o : Option RowView) (sets : AlertSets) (send_resolved : Bool) (repeat 
 by-row None sets send_resolved repeat t = refl
 by-row (Some row) sets send_resolved repeat t = refl
 
+-- the reasons where the group's route is muted
+pub reasons-muted : (config : Config) (s : State) (t : ℕ) (g : GroupState) (until : ℕ) → Some until ≡ route_muted config g.name t
+    → (is : List (ℕ × Integration)) → map (λ i. RouteMuted until) is ≡ map (reason_of config s t g) is
+reasons-muted config s t g until e is =
+    ap (λ o. map (λ (i : ℕ × Integration). reason_where o (reason_told (find (is_entry_of g.name i.0) s.rows) (label_sets (firing_of config s t g)) (label_sets (resolved_of config s t g)) i.1.send_resolved (route_of config g.name).repeat_interval t)) is) e
+
 -- the reasons where this is unmuted in a group
-pub reasons-by : (config : Config) (s : State) (t : ℕ) (g : GroupState) (unmuted : Unmuted) → IsUnmuted config s t g unmuted → (sets : AlertSets) → sets ≡ alert_sets_of unmuted
+pub reasons-by : (config : Config) (s : State) (t : ℕ) (g : GroupState) (unmuted : Unmuted) → IsUnmuted config s t g unmuted → route_muted config g.name t ≡ None
+    → (sets : AlertSets) → sets ≡ alert_sets_of unmuted
     → (is : List (ℕ × Integration)) → map (reason_among s.rows g.name sets (route_of config g.name).repeat_interval t) is ≡ map (reason_of config s t g) is
-reasons-by config s t g unmuted is sets told_is all =
+reasons-by config s t g unmuted is unshut sets told_is all =
     let repeat = (route_of config g.name).repeat_interval in
     (λ j. map (λ (i : ℕ × Integration). if is_empty sets.firing && is_empty sets.resolved then NothingLeft else by-row (find (is_entry_of g.name i.0) s.rows) sets i.1.send_resolved repeat t j) all)
     ∙ (ap (λ (x : AlertSets). map (λ (i : ℕ × Integration). reason_told (find (is_entry_of g.name i.0) s.rows) x.firing x.resolved i.1.send_resolved repeat t) all) told_is
-    ∙ (λ j. map (λ (i : ℕ × Integration). reason_told (find (is_entry_of g.name i.0) s.rows) (label_sets (is.firing j)) (label_sets (is.resolved j)) i.1.send_resolved repeat t) all))
+    ∙ (λ j. map (λ (i : ℕ × Integration). reason_told (find (is_entry_of g.name i.0) s.rows) (label_sets (is.firing j)) (label_sets (is.resolved j)) i.1.send_resolved repeat t) all)
+    ∙ sym (ap (λ o. map (λ (i : ℕ × Integration). reason_where o (reason_told (find (is_entry_of g.name i.0) s.rows) (label_sets (firing_of config s t g)) (label_sets (resolved_of config s t g)) i.1.send_resolved repeat t)) all) unshut))

@@ -1,5 +1,7 @@
 -- What a begin finds in a group, in the order of the labels.
-use Rattle.std.proofs.Common.{◌≡◌, ℕ, Bool, not, List, filter, map, refl, ap, ◌∙◌}
+use Rattle.std.proofs.Common.{◌≡◌, ℕ, Bool, true, false, not, Option, Some, None, List, [], filter, map, refl, sym, ap, ◌∙◌}
+use Rattle.std.specs.Prelude.{is_some}
+use Rattle.std.proofs.lemmas.Bool.{false≢true}
 use Rattle.std.specs.List.{IsDistinct}
 use Rattle.std.specs.declared.cmp.Ordering.{Ordering}
 use Rattle.am_alerts.specs.AlertData.{AlertData, is_resolved}
@@ -11,12 +13,13 @@ use Rattle.am_model.specs.declared.config.Config.{Config}
 use Rattle.am_board.specs.declared.unmuted.Unmuted.{Unmuted}
 use Rattle.am_board.specs.declared.group.Group.{Group}
 use Rattle.am_board.specs.declared.group.Member.{Member}
-use Rattle.am_model.specs.Begin.{alert_cmp, copied, copy_of, label_sets}
+use Rattle.am_model.specs.Begin.{alert_cmp, copied, copy_under, label_sets}
+use Rattle.am_model.specs.Configured.{route_muted}
 use Rattle.am_board.specs.Beginning.{AreUnmuted, AreRising, IsUnmuted, copy_among, firing_among, resolved_among}
 use Rattle.am_model.specs.Insert.{same_alert, same_member}
 use Rattle.am_board.specs.Refinement.{group_state, member_state}
 use Rattle.am_board.specs.Order.{member_cmp}
-use Rattle.am_model.specs.Lists.{in_order, without}
+use Rattle.am_model.specs.Lists.{in_order, unless, without}
 use Rattle.am_model.specs.State.{GroupState, MemberState, State}
 use Rattle.am_model.proofs.lists.Distinct.{IsDistinct-told}
 use Rattle.am_model.proofs.lists.InOrder.{apart_by_ties, in_order-map}
@@ -41,7 +44,7 @@ module _ (config : Config) (s : State) (t : ℕ) (g : Group) (apart : IsDistinct
   left_out : (test : AlertData → Bool) (xs : List AlertData) → IsDistinct same_alert xs → filter test (in_order alert_cmp xs) ≡ in_order alert_cmp (filter test xs)
   left_out test xs h = in_order-filter alert_cmp alert_cmp_total test xs (apart_by_ties same_alert alert_cmp same_alert-ties xs h)
 
-  copy-in_order : copy_among config.rules s t (in_order member_cmp g.members.items) ≡ in_order alert_cmp (copy_of config s t (group_state g))
+  copy-in_order : copy_among config.rules s t (in_order member_cmp g.members.items) ≡ in_order alert_cmp (copy_under config.rules s t (group_state g))
   copy-in_order =
       ap (without (λ (a : AlertData). is_muted a.labels t s.silences config.rules s.known)) (copies-in_order t g.members.items)
       ∙ left_out (λ a. not (is_muted a.labels t s.silences config.rules s.known)) (copies t g.members.items)
@@ -49,23 +52,45 @@ module _ (config : Config) (s : State) (t : ℕ) (g : Group) (apart : IsDistinct
 
   -- what the walk over a group in the order of its labels keeps is what is unmuted in it
   pub is_found : (rules : List RuleData) (members : List Member) (firing resolved : List AlertData)
-      → rules ≡ config.rules → members ≡ in_order member_cmp g.members.items → AreUnmuted rules s t members firing resolved
+      → route_muted config g.name t ≡ None → rules ≡ config.rules → members ≡ in_order member_cmp g.members.items
+      → AreUnmuted rules s t members firing resolved
       → IsUnmuted config s t (group_state g) (record { firing = firing; resolved = resolved })
-  is_found rules members firing resolved same_rules same_members unmuted =
-      let copy = copy_of config s t (group_state g) in
+  is_found rules members firing resolved unshut same_rules same_members unmuted =
+      let copy = copy_under config.rules s t (group_state g) in
       let apart_copy : IsDistinct same_alert copy = IsDistinct-copy config.rules s t (group_state g) apart in
       record {
         firing =
             unmuted.firing
             ∙ (ap (λ r. firing_among r s t members) same_rules ∙ ap (firing_among config.rules s t) same_members)
             ∙ ap (without (λ (a : AlertData). is_resolved a t)) copy-in_order
-            ∙ left_out (λ a. not (is_resolved a t)) copy apart_copy;
+            ∙ left_out (λ a. not (is_resolved a t)) copy apart_copy
+            ∙ sym (ap (λ o. in_order alert_cmp (without (λ a. is_resolved a t) (unless o copy))) unshut);
         resolved =
             unmuted.resolved
             ∙ (ap (λ r. resolved_among r s t members) same_rules ∙ ap (resolved_among config.rules s t) same_members)
             ∙ ap (filter (λ (a : AlertData). is_resolved a t)) copy-in_order
-            ∙ left_out (λ a. is_resolved a t) copy apart_copy;
+            ∙ left_out (λ a. is_resolved a t) copy apart_copy
+            ∙ sym (ap (λ o. in_order alert_cmp (filter (λ a. is_resolved a t) (unless o copy))) unshut);
       }
+
+-- nothing is unmuted where the route is muted
+pub nothing_found : (config : Config) (s : State) (t : ℕ) (g : GroupState) (firing resolved : List AlertData)
+    → is_some (route_muted config g.name t) ≡ true → firing ≡ [] → resolved ≡ []
+    → IsUnmuted config s t g (record { firing = firing; resolved = resolved })
+nothing_found config s t g firing resolved shut none gone = by (route_muted config g.name t) refl shut
+  where
+    by : (o : Option ℕ) → route_muted config g.name t ≡ o → is_some o ≡ true → IsUnmuted config s t g (record { firing = firing; resolved = resolved })
+    by None e h = absurd (false≢true h)
+    by (Some until) e h =
+        record {
+          firing = none ∙ sym (ap (λ o. in_order alert_cmp (without (λ a. is_resolved a t) (unless o (copy_under config.rules s t g)))) e);
+          resolved = gone ∙ sym (ap (λ o. in_order alert_cmp (filter (λ a. is_resolved a t) (unless o (copy_under config.rules s t g)))) e);
+        }
+
+-- a route that isn't muted
+pub not_muted : (o : Option ℕ) → is_some o ≡ false → o ≡ None
+not_muted None h = refl
+not_muted (Some until) h = absurd (false≢true (sym h))
 
 -- the label sets of what is unmuted rise
 pub unmuted-rises : (config : Config) (s : State) (t : ℕ) (g : GroupState) (unmuted : Unmuted) → IsDistinct same_member g.members → IsUnmuted config s t g unmuted → AreRising unmuted

@@ -15,12 +15,12 @@ use Rattle.am_retry.specs.declared.outcome.Outcome.{Outcome}
 use Rattle.am_model.proofs.lists.Words.{IsDistinct-upsert}
 use Rattle.am_model.specs.Begin.{entry_of, asked_about, asked_of, firing_of, resolved_of, label_sets, reply_asking, reply_taking, after_asking, after_taking, taken, next_due}
 use Rattle.am_model.specs.Causes.{insert_cause, silence_cause, begin_cause, maintain_cause, note_cause, asks_some, opens_by, is_full}
-use Rattle.am_model.specs.Configured.{route_of, integrations_of}
+use Rattle.am_model.specs.Configured.{route_of, route_muted, integrations_of}
 use Rattle.am_model.specs.Ticket.{TicketData}
 use Rattle.am_model.specs.Finish.{same_key, log_with, row_at, rows_after, logged_by, after_finish_of}
 use Rattle.am_model.specs.Laws.{IsConsistent, IsHeld}
 use Rattle.am_model.specs.look_back.Preview.{muted_of, preview_at}
-use Rattle.am_model.specs.look_back.Reasons.{reason_told}
+use Rattle.am_model.specs.look_back.Reasons.{reason_told, reason_where}
 use Rattle.am_model.specs.Note.{may_note, after_note, after_note_of}
 use Rattle.am_model.specs.Replay.{reply, after_call}
 use Rattle.am_model.specs.State.{GroupState, AskedState, FlushState, State, at_moment, moment, flush_numbered}
@@ -84,8 +84,9 @@ module _ (config : Config) (s : State) (rows : List RowView) (moved : IsPermutat
     moment = t;
     group = g.name;
     muted = muted_of config s t g;
-    reasons = map (λ (i : ℕ × Integration). reason_told (find_row-permutation rows s.rows moved apart g.name i.0 j) (label_sets (firing_of config s t g)) (label_sets (resolved_of config s t g))
-        i.1.send_resolved (route_of config g.name).repeat_interval t) (integrations_of config g.name);
+    reasons = map (λ (i : ℕ × Integration). reason_where (route_muted config g.name t) (reason_told (find_row-permutation rows s.rows moved apart g.name i.0 j)
+        (label_sets (firing_of config s t g)) (label_sets (resolved_of config s t g)) i.1.send_resolved (route_of config g.name).repeat_interval t))
+        (integrations_of config g.name);
   }) (taken s t)
 
   -- ---- the states after a call

@@ -2,7 +2,7 @@
 use Rattle.std.proofs.Common.{◌≡◌, ℕ, Bool, true, false, cond, not, ◌&&◌, ◌||◌, Option, Some, None, List, [], ◌∷◌, map, refl, sym, ap, ◌∙◌, subst}
 use Rattle.std.specs.Prelude.{IsPermutation, filter, count_by, is_some}
 use Rattle.std.specs.List.{AllByRecursion, IsDistinct, list_any, filter_map, cons_option}
-use Rattle.std.proofs.lemmas.List.Sorted.{IsPermutation-map}
+use Rattle.std.proofs.lemmas.List.Sorted.{IsPermutation-map, IsPermutation-refl}
 use Rattle.std.proofs.lemmas.Map.Keys.{IsDistinct-head, IsDistinct-tail, IsDistinct-cons}
 use Rattle.am_alerts.specs.AlertData.{AlertData, is_resolved}
 use Rattle.am_alerts.specs.Labels.{same_label_set}
@@ -17,11 +17,11 @@ use Rattle.am_model.specs.declared.group.GroupName.{GroupName}
 use Rattle.am_model.specs.declared.record.Call.{Call}
 use Rattle.am_model.specs.declared.record.Call.TheVariants.{Insert, Silence, Begin, Finish, Maintain, Note}
 use Rattle.am_model.specs.declared.record.Record.{Record}
-use Rattle.am_model.specs.Begin.{alert_cmp, copied, label_sets, firing_of, resolved_of, copy_of, count_resolved}
-use Rattle.am_model.specs.Configured.{rules_of}
+use Rattle.am_model.specs.Begin.{alert_cmp, copied, label_sets, firing_of, resolved_of, copy_under, copy_of, count_resolved}
+use Rattle.am_model.specs.Configured.{rules_of, route_muted}
 use Rattle.am_model.specs.look_back.Entry.{latest_first, alert_in, known_in, silences_in, present_in, without_end, firing_alerts_in, resolved_alerts_in, firing_in, resolved_in}
 use Rattle.am_model.specs.Insert.{same_alert, same_member}
-use Rattle.am_model.specs.Lists.{without, in_order}
+use Rattle.am_model.specs.Lists.{without, unless, in_order}
 use Rattle.am_model.specs.look_back.Laws.{member_with}
 use Rattle.am_model.specs.look_back.Presence.{goes_to, inserts, inserted_by, stamp_told, last_insert, has_left, unless_left, presence}
 use Rattle.am_model.specs.State.{MemberState, GroupState, State}
@@ -207,6 +207,16 @@ module _ (t : ℕ) where
   one-resolved a xs ys rest true e false = ap (λ l. cond (is_resolved a t) (a ∷ l) l) rest
   one-resolved a xs ys rest false e false = rest ∙ sym (ap (λ b. cond b (a ∷ resolved ys) (resolved ys)) e)
 
+  -- where a route is muted nothing is copied
+  unless-firing : (o : Option ℕ) (xs ys : List AlertData) → unresolved xs ≡ map without_end (unresolved ys)
+      → unresolved (unless o xs) ≡ map without_end (unresolved (unless o ys))
+  unless-firing None xs ys h = h
+  unless-firing (Some until) xs ys h = refl
+
+  unless-resolved : (o : Option ℕ) (xs ys : List AlertData) → resolved xs ≡ resolved ys → resolved (unless o xs) ≡ resolved (unless o ys)
+  unless-resolved None xs ys h = h
+  unless-resolved (Some until) xs ys h = refl
+
   module _ (muted : List Label → Bool) where
     abbrev heard : List AlertData → List AlertData
     heard xs = without (λ a. muted a.labels) xs
@@ -226,6 +236,11 @@ module _ (t : ℕ) where
         let xs = heard (map (λ n. copied t n.alert) ms) in
         (λ j. resolved (cond (not (muted (labels-copied t m.alert j))) (copied t m.alert ∷ xs) xs))
         ∙ one-resolved m.alert xs (heard (map (λ n. n.alert) ms)) (copied-resolved ms) (is_resolved m.alert t) refl (muted m.alert.labels)
+
+-- what is copied is the same but for its order, also where the route is muted
+unless-permutation : (o : Option ℕ) (xs ys : List AlertData) → IsPermutation xs ys → IsPermutation (unless o xs) (unless o ys)
+unless-permutation None xs ys h = h
+unless-permutation (Some until) xs ys h = IsPermutation-refl []
 
 -- ---- what a begin lists
 
@@ -248,23 +263,27 @@ module _ (config : Config) (s : State) (past : List Record)
     abbrev copy_then : List AlertData
     copy_then = heard t hushed (map (λ m. copied t m.alert) (present_in config g.name past))
 
-    copy-moved : IsPermutation (copy_of config s t g) copy_then
+    abbrev shut : Option ℕ
+    shut = route_muted config g.name t
+
+    copy-moved : IsPermutation (copy_of config s t g) (unless shut copy_then)
     copy-moved =
-        without-permutation (λ a. hushed a.labels) (map (λ m. copied t m.alert) g.members) (map (λ m. copied t m.alert) (present_in config g.name past))
-        (IsPermutation-map (λ m. copied t m.alert) g.members (present_in config g.name past) moved)
+        unless-permutation shut (copy_under (rules_of config) s t g) copy_then
+        (without-permutation (λ a. hushed a.labels) (map (λ m. copied t m.alert) g.members) (map (λ m. copied t m.alert) (present_in config g.name past))
+        (IsPermutation-map (λ m. copied t m.alert) g.members (present_in config g.name past) moved))
 
     -- the alerts that a begin of the group lists as firing, and those that it lists as resolved
     pub firing-same : firing_of config s t g ≡ firing_alerts_in config g.name t past
     firing-same =
-        in_order-alerts (unresolved t (copy_of config s t g)) (unresolved t copy_then) (without-permutation (λ a. is_resolved a t) (copy_of config s t g) copy_then copy-moved) (IsDistinct-firing config s t g apart)
-        ∙ (λ j. in_order alert_cmp (unresolved t (without (λ a. muted-found a.labels t j) (map (λ m. copied t m.alert) (present_in config g.name past)))))
-        ∙ ap (in_order alert_cmp) (copied-firing t hushed_then (present_in config g.name past))
+        in_order-alerts (unresolved t (copy_of config s t g)) (unresolved t (unless shut copy_then)) (without-permutation (λ a. is_resolved a t) (copy_of config s t g) (unless shut copy_then) copy-moved) (IsDistinct-firing config s t g apart)
+        ∙ (λ j. in_order alert_cmp (unresolved t (unless shut (without (λ a. muted-found a.labels t j) (map (λ m. copied t m.alert) (present_in config g.name past))))))
+        ∙ ap (in_order alert_cmp) (unless-firing t shut _ _ (copied-firing t hushed_then (present_in config g.name past)))
 
     pub resolved-same : resolved_of config s t g ≡ resolved_alerts_in config g.name t past
     resolved-same =
-        in_order-alerts (resolved t (copy_of config s t g)) (resolved t copy_then) (filter-permutation (λ a. is_resolved a t) (copy_of config s t g) copy_then copy-moved) (IsDistinct-resolved config s t g apart)
-        ∙ (λ j. in_order alert_cmp (resolved t (without (λ a. muted-found a.labels t j) (map (λ m. copied t m.alert) (present_in config g.name past)))))
-        ∙ ap (in_order alert_cmp) (copied-resolved t hushed_then (present_in config g.name past))
+        in_order-alerts (resolved t (copy_of config s t g)) (resolved t (unless shut copy_then)) (filter-permutation (λ a. is_resolved a t) (copy_of config s t g) (unless shut copy_then) copy-moved) (IsDistinct-resolved config s t g apart)
+        ∙ (λ j. in_order alert_cmp (resolved t (unless shut (without (λ a. muted-found a.labels t j) (map (λ m. copied t m.alert) (present_in config g.name past))))))
+        ∙ ap (in_order alert_cmp) (unless-resolved t shut _ _ (copied-resolved t hushed_then (present_in config g.name past)))
 
     -- and their label sets
     pub firing-found : label_sets (firing_of config s t g) ≡ firing_in config g.name t past

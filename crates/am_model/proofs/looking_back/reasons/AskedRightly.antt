@@ -17,14 +17,14 @@ use Rattle.am_model.specs.declared.record.Call.TheVariants.{Begin}
 use Rattle.am_model.specs.declared.record.Record.{Record}
 use Rattle.am_model.specs.declared.record.Reply.{Reply}
 use Rattle.am_model.specs.Begin.{label_sets, log_row, needs, firing_of, resolved_of, asked_of, deadline_of, notice_for, taken, after_asking, reply_asking}
-use Rattle.am_model.specs.Configured.{route_of, integrations_named, integrations_of}
+use Rattle.am_model.specs.Configured.{route_of, route_muted, integrations_named, integrations_of}
 use Rattle.am_model.specs.look_back.Entry.{resolved_alerts_in, firing_in, resolved_in, entry_in}
 use Rattle.am_model.specs.Records.{entry}
 use Rattle.am_model.specs.Insert.{same_member}
 use Rattle.am_model.specs.look_back.Laws.{member_with, EveryLegalHistory, asked_after, IsAskedRightly, BeginsNotifyExactlyWhomNeeded, wants_resolved, IsNoticeFound, IsToldRightly, NoticesListPresentAlerts}
 use Rattle.am_model.specs.look_back.Preview.{reason_of}
 use Rattle.am_model.specs.look_back.Past.{past_of, moment_at, takes}
-use Rattle.am_model.specs.look_back.Reasons.{reason_told, reason_in}
+use Rattle.am_model.specs.look_back.Reasons.{reason_told, reason_where, reason_in}
 use Rattle.am_model.specs.look_back.Presence.{presence}
 use Rattle.am_model.specs.State.{GroupState, State, moment, same_name}
 use Rattle.am_model.proofs.legal.ConsistentBegin.{IsTaken, taken-is, distinct_places}
@@ -78,7 +78,7 @@ module _ (config : Config) (id : ℕ) (s : State) (past : List Record) (pass : �
     reasons-found is =
         let firing = firing-found config s past l.known l.silences t g apart there in
         let resolved = resolved-found config s past l.known l.silences t g apart there in
-        λ j. map (λ (i : ℕ × Integration). reason_told (l.rows g.name i.0 j) (firing j) (resolved j) i.1.send_resolved (route_of config g.name).repeat_interval t) is
+        λ j. map (λ (i : ℕ × Integration). reason_where (route_muted config g.name t) (reason_told (l.rows g.name i.0 j) (firing j) (resolved j) i.1.send_resolved (route_of config g.name).repeat_interval t)) is
 
     -- and their notices list what is found
     notice-found : (i : ℕ × Integration) → wants_resolved config g.name i.0 ≡ i.1.send_resolved → IsNoticeFound config s.next_number g.name (deadline_of config t g) t past (notice_for config id s t g i)

@@ -5,23 +5,26 @@ use Rattle.std.specs.List.{AllByRecursion, enumerate_from, list_any}
 use Rattle.std.specs.Option.{option_map}
 use Rattle.std.proofs.lemmas.Bool.{ne_eqb, ltb-false, lt-ltb, le-ltb}
 use Rattle.std.proofs.lemmas.Cmp.{nat_eq_equiv}
+use Rattle.am_alerts.specs.AlertData.{AlertData, is_resolved}
 use Rattle.am_alerts.specs.Labels.{same_label_set}
 use Rattle.am_alerts.specs.declared.labels.Label.{Label}
+use Rattle.am_mute.specs.Mute.{is_muted}
 use Rattle.am_nflog.specs.Members.{is_empty, is_subset}
 use Rattle.am_nflog.specs.Needed.{needed}
 use Rattle.am_model.specs.declared.config.Config.{Config}
 use Rattle.am_model.specs.declared.config.Integration.{Integration}
 use Rattle.am_model.specs.declared.group.GroupName.{GroupName}
 use Rattle.am_model.specs.declared.reason.Reason.{Reason}
-use Rattle.am_model.specs.declared.reason.Reason.TheVariants.{FirstNotice, NewAlert, AllResolved, NewlyResolved, Repeat, NothingLeft, NothingFiring, NotYet}
+use Rattle.am_model.specs.declared.reason.Reason.TheVariants.{FirstNotice, NewAlert, AllResolved, NewlyResolved, Repeat, NothingLeft, NothingFiring, NotYet, RouteMuted}
 use Rattle.am_model.specs.declared.record.Record.{Record}
 use Rattle.am_model.specs.declared.views.RowView.{RowView}
-use Rattle.am_model.specs.Begin.{log_row}
-use Rattle.am_model.specs.Configured.{route_of, integrations_of, integrations_named}
-use Rattle.am_model.specs.look_back.Entry.{firing_in, resolved_in, entry_in}
+use Rattle.am_model.specs.Begin.{alert_cmp, label_sets, log_row}
+use Rattle.am_model.specs.Lists.{in_order, unless, without}
+use Rattle.am_model.specs.Configured.{rules_of, route_of, route_muted, integrations_of, integrations_named}
+use Rattle.am_model.specs.look_back.Entry.{known_in, silences_in, present_in, without_end, firing_in, resolved_in, entry_in}
 use Rattle.am_model.specs.look_back.Laws.{EveryLegalHistory, asked_after, IsAskedRightly}
 use Rattle.am_model.specs.look_back.Past.{AtEach, past_of, moment_at, notices_in}
-use Rattle.am_model.specs.look_back.Reasons.{asks, reason_by, reason_in, is_asked_in, AsksForReasons, BeginsHaveReasons, NotYetEnds}
+use Rattle.am_model.specs.look_back.Reasons.{asks, reason_by, reason_about, reason_where, reason_in, is_asked_in, AsksForReasons, BeginsHaveReasons, NotYetEnds}
 use Rattle.am_model.proofs.looking_back.reasons.AskedRightly.{begins_notify_exactly_whom_needed}
 use Rattle.am_model.proofs.lists.Distinct.{all_from, all-weaker, all-both}
 use Rattle.am_model.proofs.lists.Sets.{any-map}
@@ -68,21 +71,50 @@ module _ (config : Config) (name : GroupName) (t : ℕ) (past : List Record) (fi
   abbrev needs : ℕ × Integration → Bool
   needs i = needed same_label_set (option_map log_row (its_entry i)) firing resolved i.1.send_resolved repeat t
 
-  abbrev reason_where : Bool → ℕ × Integration → Reason
-  reason_where nothing i = if nothing then NothingLeft else reason_by (its_entry i) firing resolved i.1.send_resolved repeat t
+  abbrev reason_left : Bool → ℕ × Integration → Reason
+  reason_left nothing i = if nothing then NothingLeft else reason_by (its_entry i) firing resolved i.1.send_resolved repeat t
 
   with-reasons : (nothing : Bool) (is : List (ℕ × Integration))
-      → (if nothing then [] else map (λ i. i.0) (filter needs is)) ≡ map (λ i. i.0) (filter (λ i. asks (reason_where nothing i)) is)
+      → (if nothing then [] else map (λ i. i.0) (filter needs is)) ≡ map (λ i. i.0) (filter (λ i. asks (reason_left nothing i)) is)
   with-reasons true is = ap (map (λ i. i.0)) (sym (filter-none is))
   with-reasons false is =
       λ j. map (λ i. i.0) (filter (λ (i : ℕ × Integration). needed-asks (its_entry i) firing resolved i.1.send_resolved repeat t j) is)
 
+-- the same where the route may be muted
+module _ (config : Config) (name : GroupName) (t : ℕ) (past : List Record) where
+  abbrev firing_then : List (List Label)
+  firing_then = firing_in config name t past
+
+  abbrev resolved_then : List (List Label)
+  resolved_then = resolved_in config name t past
+
+  abbrev unmuted : List AlertData
+  unmuted =
+      without (λ a. is_muted a.labels t (silences_in past) (rules_of config) (known_in past))
+      (map (λ m. m.alert) (present_in config name past))
+
+  abbrev asking : Option ℕ → List ℕ
+  asking o =
+      map (λ i. i.0)
+      (filter (λ i. asks (reason_where o (reason_about config name t past firing_then resolved_then i))) (integrations_of config name))
+
+  asked-where : (o : Option ℕ) → route_muted config name t ≡ o → asked_after config name t past ≡ asking (route_muted config name t)
+  asked-where None e =
+      with-reasons config name t past firing_then resolved_then (is_empty firing_then && is_empty resolved_then) (integrations_of config name)
+      ∙ sym (ap asking e)
+  asked-where (Some until) e =
+      let is = integrations_of config name in
+      let none : firing_then ≡ [] =
+      ap (λ o. label_sets (in_order alert_cmp (map without_end (without (λ a. is_resolved a t) (unless o unmuted))))) e in
+      let gone : resolved_then ≡ [] = ap (λ o. label_sets (in_order alert_cmp (filter (λ a. is_resolved a t) (unless o unmuted)))) e in
+      let needs_now = needs config name t past firing_then resolved_then in
+      (λ j. if is_empty (none j) && is_empty (gone j) then [] else map (λ (i : ℕ × Integration). i.0) (filter needs_now is))
+      ∙ ap (map (λ i. i.0)) (sym (filter-none is))
+      ∙ sym (ap asking e)
+
 asked-reasons : (config : Config) (name : GroupName) (t : ℕ) (past : List Record)
     → asked_after config name t past ≡ map (λ i. i.0) (filter (λ i. asks (reason_in config name t past i)) (integrations_of config name))
-asked-reasons config name t past =
-    let firing = firing_in config name t past in
-    let resolved = resolved_in config name t past in
-    with-reasons config name t past firing resolved (is_empty firing && is_empty resolved) (integrations_of config name)
+asked-reasons config name t past = asked-where config name t past (route_muted config name t) refl
 
 -- ---- among elements with their positions, one that passes a test is found exactly if it passes
 
@@ -165,6 +197,7 @@ named_moment Repeat = 0
 named_moment NothingLeft = 0
 named_moment NothingFiring = 0
 named_moment (NotYet from) = from
+named_moment (RouteMuted until) = 0
 
 module _ (over from : ℕ) where
   -- a repeat after a moment, and whether the reason stays so until another and is a repeat from then on

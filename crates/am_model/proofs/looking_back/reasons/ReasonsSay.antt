@@ -9,11 +9,11 @@ use Rattle.am_alerts.specs.LabelOrder.{same_label_set_equiv}
 use Rattle.am_alerts.specs.declared.labels.Label.{Label}
 use Rattle.am_nflog.specs.Members.{is_empty, is_member, is_subset}
 use Rattle.am_model.specs.declared.reason.Reason.{Reason}
-use Rattle.am_model.specs.declared.reason.Reason.TheVariants.{FirstNotice, NewAlert, AllResolved, NewlyResolved, Repeat, NothingLeft, NothingFiring, NotYet}
+use Rattle.am_model.specs.declared.reason.Reason.TheVariants.{FirstNotice, NewAlert, AllResolved, NewlyResolved, Repeat, NothingLeft, NothingFiring, NotYet, RouteMuted}
 use Rattle.am_model.specs.declared.views.RowView.{RowView}
-use Rattle.am_model.specs.Configured.{route_of}
+use Rattle.am_model.specs.Configured.{route_of, route_muted}
 use Rattle.am_model.specs.look_back.Entry.{firing_in, resolved_in, entry_in}
-use Rattle.am_model.specs.look_back.Reasons.{reason_by, HasMore, HasAllFiring, HasAllResolved, Says, IsSo, ReasonsAreSo}
+use Rattle.am_model.specs.look_back.Reasons.{reason_by, reason_where, HasMore, HasAllFiring, HasAllResolved, Says, SaysWhere, ReasonsAreSo}
 use Rattle.am_model.proofs.lists.Sets.{any-alike}
 
 none-there : {X : Type 0} (xs : List X) → is_empty xs ≡ true → xs ≡ []
@@ -247,13 +247,19 @@ decides NothingFiring = λ o firing resolved send_resolved repeat t (nil, left, 
     ap (λ (fs : List (List Label)). decided o fs resolved send_resolved repeat t) nil
     ∙ none-fires o resolved send_resolved repeat t left none
 decides (NotYet from) = λ o firing resolved send_resolved repeat t. decides-not_yet o firing resolved send_resolved repeat t from
+decides (RouteMuted until) = λ o firing resolved send_resolved repeat t never. absurd never
+
+-- where the route may be muted
+says-where : (muted : Option ℕ) (reason : Reason) (o : Option RowView) (firing resolved : List (List Label)) (send_resolved : Bool) (repeat t : ℕ)
+    → (SaysWhere muted reason o firing resolved send_resolved repeat t → reason_where muted (decided o firing resolved send_resolved repeat t) ≡ reason)
+    × (reason_where muted (decided o firing resolved send_resolved repeat t) ≡ reason → SaysWhere muted reason o firing resolved send_resolved repeat t)
+says-where None reason o firing resolved send_resolved repeat t = (
+  decides reason o firing resolved send_resolved repeat t,
+  λ is. subst (λ (x : Reason). Says x o firing resolved send_resolved repeat t) is (tells o firing resolved send_resolved repeat t),
+)
+says-where (Some until) reason o firing resolved send_resolved repeat t = (λ is. sym is, λ is. sym is)
 
 pub reasons_are_so : ReasonsAreSo
 reasons_are_so config name t past i reason =
-    let entry = entry_in config name i.0 past in
-    let firing = firing_in config name t past in
-    let resolved = resolved_in config name t past in
-    let repeat = (route_of config name).repeat_interval in (
-      decides reason entry firing resolved i.1.send_resolved repeat t,
-      λ is. subst (λ (x : Reason). IsSo x config name t past i) is (tells entry firing resolved i.1.send_resolved repeat t),
-    )
+    says-where (route_muted config name t) reason (entry_in config name i.0 past) (firing_in config name t past)
+    (resolved_in config name t past) i.1.send_resolved (route_of config name).repeat_interval t

@@ -1,0 +1,7 @@
+use Rattle.std.proofs.Common.{◌≡◌, false, take}
+use Rattle.std.specs.List.{list_any}
+use Rattle.am_hours.specs.Intervals.{is_on}
+use Rattle.am_hours.proofs.interval.is_on_one.Given as goal
+
+abbrev pub invariant-loop-range : goal.invariant-loop-range
+invariant-loop-range l = list_any (is_on l.days l.day) (take l.range-index l.ranges) ≡ false

@@ -14,11 +14,12 @@ ghost use Rattle.serde_json.specs.View.{members_view, view};
 use crate::duration::duration_or;
 use crate::fault::InputFault;
 use crate::reader::{FromJson, Object, Reader};
-use crate::refusal::{refuse_config, refuse_routes};
+use crate::refusal::{refuse_config, refuse_receivers, refuse_routes};
 use crate::route::read_root;
-use am_alerts::route::{Child, Route, Routes};
+use am_alerts::limits::MAX_CHILDREN;
+use am_alerts::route::{Child, Route, RouteFault, Routes};
 use am_alerts::sequence::Sequence;
-use am_model::config::{Config, Integration, Limits, Receiver};
+use am_model::config::{Config, Integration, Limits, MAX_RECEIVERS, Receiver};
 use am_mute::inhibit::InhibitRule;
 
 /// How long the notification log keeps an entry: 120 hours, in milliseconds.
@@ -55,6 +56,9 @@ fn read_parts(reader: &Reader<'_, '_>) -> Result<Config, InputFault>
     let root = read_root(&config.required("route")?)?;
     let children = config.list_or_none::<Child>("children")?;
     let rules = config.list_or_none::<InhibitRule>("inhibit")?;
+    if receivers.len() > MAX_RECEIVERS {
+        return Err(refuse_receivers(reader));
+    }
     let routes = make_routes(reader, root, children)?;
     Ok(Config {
         routes,
@@ -65,7 +69,8 @@ fn read_parts(reader: &Reader<'_, '_>) -> Result<Config, InputFault>
     })
 }
 
-/// The routing tree of a root and its children.
+/// The routing tree of a root and its children. They are counted first, since names are compared
+/// pairwise.
 fn make_routes(
     reader: &Reader<'_, '_>,
     root: Route,
@@ -73,6 +78,9 @@ fn make_routes(
 ) -> Result<Routes, InputFault>
     ensures { IfOk result (λ routes. routes ≡ tree_of root children.items) }
 {
+    if children.len() > MAX_CHILDREN {
+        return Err(refuse_routes(reader, RouteFault::TooMany));
+    }
     match Routes::new(root, children) {
         Ok(routes) => Ok(routes),
         Err(cause) => Err(refuse_routes(reader, cause)),

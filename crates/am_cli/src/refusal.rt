@@ -28,6 +28,14 @@ pub(crate) fn refuse_config(
     }
 }
 
+/// The fault that refuses more receivers than a configuration may have: in the strict dialect at their list.
+pub(crate) fn refuse_receivers(reader: &Reader<'_, '_>) -> InputFault {
+    if reader.dialect() == Dialect::Lenient {
+        return reader.refuse(FaultKind::BadValue);
+    }
+    refuse_member(reader, "receivers")
+}
+
 /// The fault that refuses routes that make no routing tree: in the strict dialect at the value at fault.
 pub(crate) fn refuse_routes(reader: &Reader<'_, '_>, cause: RouteFault) -> InputFault {
     if reader.dialect() == Dialect::Lenient {

@@ -92,7 +92,10 @@ def core_loader():
 
     def integer(loader, node):
         text = loader.construct_scalar(node)
-        return int(text, 0) if text[:2] in ("0x", "0o") else int(text, 10)
+        # (am-rehearse reads a whole number that isn't in plain decimal digits as a float)
+        if text[:2] in ("0x", "0o"):
+            return float(int(text, 0))
+        return float(text) if text[0] == "+" or text == "-0" else int(text, 10)
 
     def decimal(loader, node):
         text = loader.construct_scalar(node).lower()

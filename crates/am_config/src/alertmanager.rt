@@ -5,10 +5,12 @@ ghost use Rattle.am_model.specs.Config.{config_fault};
 
 use crate::dropped::IgnoredSettings;
 use crate::faults::{Faults, Refusal};
+use crate::hours::Hours;
 use crate::inhibit::read_rules;
 use crate::optional::{has_items, non_null};
 use crate::receiver::read_receivers;
 use crate::route::{Routing, Tree, read_tree};
+use crate::times::{INTERVALS, MUTE, Times};
 use am_alerts::route::Routes;
 use am_alerts::sequence::Sequence;
 use am_alerts::tree::TreeFault;
@@ -24,8 +26,8 @@ const MEMBERS: [&str; 8] = [
     "route",
     "receivers",
     "inhibit_rules",
-    "mute_time_intervals",
-    "time_intervals",
+    MUTE,
+    INTERVALS,
     "tracing",
 ];
 
@@ -83,6 +85,8 @@ pub struct Alertmanager {
     pub config: Config,
     /// What it says beside.
     pub dropped: IgnoredSettings,
+    /// Whether a route names a time interval.
+    pub timed: bool,
 }
 
 /// The parts of a configuration. They are whole where nothing was refused.
@@ -91,18 +95,25 @@ struct Parts {
     tree: Option<Tree>,
     receivers: Vec<Receiver>,
     rules: Vec<InhibitRule>,
+    timed: bool,
 }
 
 /// Reads Alertmanager's configuration. Where it can't be read exactly all faults are answered, in the
 /// order of reading: unknown members, `global`, `tracing`, `templates`, the times, the routes from the root
 /// down, receivers and inhibition rules.
-pub fn read_alertmanager(reader: &Reader<'_, '_>) -> Result<Alertmanager, Refusal>
+///
+/// Without `hours` time intervals are read, but no route is muted by them; `timed` says whether one
+/// would be. With it a location that isn't among its zones is refused.
+pub fn read_alertmanager(
+    reader: &Reader<'_, '_>,
+    hours: Option<&Hours>,
+) -> Result<Alertmanager, Refusal>
     ensures sound { IfOk result (λ read. config_fault read.config ≡ None) }
     ensures told { IfErr result Tells }
 {
     let mut faults = Faults::none(reader.alloc());
     let mut dropped = IgnoredSettings::nothing();
-    let parts = read_parts(&mut faults, &mut dropped, reader)?;
+    let parts = read_parts(&mut faults, &mut dropped, reader, hours)?;
     match parts {
         Some(parts) if faults.is_empty() => finish(reader, faults, dropped, parts),
         _ => Err(refused(reader, faults)),
@@ -113,20 +124,24 @@ fn read_parts(
     faults: &mut Faults,
     dropped: &mut IgnoredSettings,
     reader: &Reader<'_, '_>,
+    hours: Option<&Hours>,
 ) -> Result<Option<Parts>, InputFault> {
     let Some(top) = faults.kept(reader.object())? else {
         return Ok(None);
     };
     faults.only(&top, &MEMBERS)?;
     drop_parts(faults, dropped, &top)?;
-    let mut routing = Routing::new(&top)?;
+    let times = Times::read(faults, &top, hours)?;
+    let mut routing = Routing::new(&top, times)?;
     let tree = read_tree(faults, &mut routing, &top)?;
+    dropped.time_intervals = routing.times.has_unlisted();
     let receivers = read_receivers(faults, dropped, &top)?;
     let rules = read_rules(faults, &top)?;
     Ok(Some(Parts {
         tree,
         receivers,
         rules,
+        timed: routing.times.is_listed(),
     }))
 }
 
@@ -146,9 +161,6 @@ fn drop_parts(
         dropped.tracing = faults.kept(member.object())?.is_some();
     }
     dropped.templates = has_items(faults, top, "templates")?;
-    let muted = has_items(faults, top, "mute_time_intervals")?;
-    let named = has_items(faults, top, "time_intervals")?;
-    dropped.time_intervals = muted || named;
     Ok(())
 }
 
@@ -166,6 +178,7 @@ fn finish(
         tree,
         receivers,
         rules,
+        timed,
     } = parts;
     let Some(Tree { root, routes }) = tree else {
         return Err(refused(reader, faults));
@@ -183,7 +196,11 @@ fn finish(
         limits: Limits::default(),
     };
     match config.check() {
-        Ok(()) => Ok(Alertmanager { config, dropped }),
+        Ok(()) => Ok(Alertmanager {
+            config,
+            dropped,
+            timed,
+        }),
         Err(_) => Err(refused(reader, faults)),
     }
 }

@@ -1,8 +1,10 @@
-//! The limit of reported faults, as a law that verifiers read.
+//! The limits, as a law that verifiers read.
 ghost use Rattle.std.specs.Prelude.{◌≡◌};
 ghost use Rattle.am_config.specs.declared.faults.TheConstants.{MAX_FAULTS};
+ghost use Rattle.am_config.specs.declared.hours.TheConstants.{MAX_ZONES};
 
-/// How many faults are told at most.
+/// How many faults are told, and how many zones are looked for, at most.
 pub fn limits_are()
-    ensures { MAX_FAULTS ≡ 100 }
+    ensures faults { MAX_FAULTS ≡ 100 }
+    ensures zones { MAX_ZONES ≡ 64 }
 {}

@@ -8,6 +8,7 @@
 pub mod alertmanager;
 pub mod dropped;
 pub mod faults;
+pub mod hours;
 mod inhibit;
 pub mod law;
 mod matchers;
@@ -16,3 +17,5 @@ mod optional;
 mod options;
 mod receiver;
 mod route;
+mod scalar;
+mod times;

@@ -1,12 +1,14 @@
 //! Matchers of an `alertmanager.yml`. `route` and `inhibit` call it.
 use crate::faults::Faults;
 use crate::optional::non_null;
+use crate::scalar::text_of;
 use am_alerts::limits::MAX_MATCHERS;
 use am_alerts::matcher::{Matcher, MatcherFault, MatcherParts, Operator};
 use am_alerts::text::Text;
 use am_cli::fault::{FaultKind, InputFault};
 use am_cli::matcher_text::parts_of_text;
 use am_cli::reader::{Object, Reader};
+use serde_json::Value;
 use std::alloc::{AllocError, Global};
 
 /// The members that hold the matchers of a route, or of one side of an inhibition rule.
@@ -58,7 +60,7 @@ fn read_pairs(
         if !has_room(faults, matchers, &reader)? {
             return Ok(());
         }
-        if let Some(matcher) = faults.kept(matcher_of_pair(&reader, name.as_str(), op))? {
+        if let Some(matcher) = faults.kept(matcher_of_pair(&reader, name.as_str(), op, value))? {
             matchers.push(matcher)?;
         }
     }
@@ -111,11 +113,12 @@ fn matcher_of_pair(
     reader: &Reader<'_, '_>,
     name: &str,
     op: Operator,
+    value: &Value,
 ) -> Result<Matcher, InputFault> {
     let parts = MatcherParts {
         name: Text::new(reader.alloc(), name)?,
         op,
-        value: Text::new(reader.alloc(), reader.text()?)?,
+        value: text_of(reader, value)?,
     };
     matcher_of(reader, parts)
 }

@@ -3,6 +3,7 @@ use crate::faults::Faults;
 use am_cli::duration::{duration, interval};
 use am_cli::fault::{FaultKind, InputFault};
 use am_cli::reader::{Object, Reader};
+use serde_json::Value;
 
 /// A member that says something: `null` says nothing.
 pub(crate) fn non_null<'v, 'q>(
@@ -27,17 +28,33 @@ pub(crate) fn required<'v, 'q>(
     Ok(member)
 }
 
-/// A text that isn't null and isn't empty.
-pub(crate) fn optional_text<'v>(
+/// Refuses a member that is there.
+pub(crate) fn refuse_member(
     faults: &mut Faults,
-    object: &Object<'v, '_>,
+    object: &Object<'_, '_>,
     name: &str,
-) -> Result<Option<&'v str>, InputFault> {
-    let Some(member) = non_null(object, name) else {
+    fault_kind: FaultKind,
+) -> Result<(), InputFault> {
+    match object.optional(name) {
+        None => Ok(()),
+        Some(member) => faults.push(member.refuse(fault_kind)),
+    }
+}
+
+/// The items of an array that may have so many. More are refused unread.
+pub(crate) fn items_up_to<'v>(
+    faults: &mut Faults,
+    member: &Reader<'v, '_>,
+    most: usize,
+) -> Result<Option<&'v [Value]>, InputFault> {
+    let Some(items) = faults.kept(member.array())? else {
         return Ok(None);
     };
-    let text = faults.kept(member.text())?;
-    Ok(text.filter(|text| !text.is_empty()))
+    if items.len() > most {
+        faults.push(member.refuse(FaultKind::BadValue))?;
+        return Ok(None);
+    }
+    Ok(Some(items))
 }
 
 /// A flag, or what it is where it is null or absent.
@@ -53,7 +70,7 @@ pub(crate) fn flag_or(
     }
 }
 
-/// A duration that isn't null, in milliseconds.
+/// A duration that isn't null, in milliseconds. A zero may be a number.
 pub(crate) fn optional_duration(
     faults: &mut Faults,
     object: &Object<'_, '_>,
@@ -61,6 +78,7 @@ pub(crate) fn optional_duration(
 ) -> Result<Option<u64>, InputFault> {
     match non_null(object, name) {
         None => Ok(None),
+        Some(member) if is_zero(&member) => Ok(Some(0)),
         Some(member) => faults.kept(duration(&member)),
     }
 }
@@ -73,8 +91,17 @@ pub(crate) fn optional_interval(
 ) -> Result<Option<u64>, InputFault> {
     match non_null(object, name) {
         None => Ok(None),
+        Some(member) if is_zero(&member) => {
+            faults.push(member.refuse(FaultKind::BadValue))?;
+            Ok(None)
+        }
         Some(member) => faults.kept(interval(&member)),
     }
+}
+
+/// Whether a value is the number 0, the one duration that is written without a unit.
+fn is_zero(member: &Reader<'_, '_>) -> bool {
+    member.number().is_ok_and(|number| number == 0)
 }
 
 /// Whether an array that isn't null has an item. Another kind is refused.

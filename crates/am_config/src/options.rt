@@ -1,8 +1,9 @@
 //! The options of a route that the routes below it inherit. `route` calls it.
 use crate::faults::Faults;
 use crate::inhibit::label_name;
-use crate::optional::{non_null, optional_duration, optional_interval, optional_text};
+use crate::optional::{non_null, optional_duration, optional_interval};
 use crate::route::Routing;
+use crate::scalar::optional_text;
 use am_alerts::limits::MAX_NAMES;
 use am_alerts::route::GroupBy;
 use am_alerts::sequence::Sequence;
@@ -45,10 +46,10 @@ fn read_receiver(
     let Some(name) = optional_text(faults, route, "receiver")? else {
         return Ok(None);
     };
-    if !routing.has_receiver(name) {
+    if !routing.has_receiver(name.as_str()) {
         faults.kept(refuse_receiver(route))?;
     }
-    Ok(Some(Text::new(route.alloc(), name)?))
+    Ok(Some(name))
 }
 
 fn refuse_receiver(route: &Object<'_, '_>) -> Result<(), InputFault> {

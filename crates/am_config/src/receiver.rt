@@ -2,6 +2,7 @@
 use crate::dropped::IgnoredSettings;
 use crate::faults::Faults;
 use crate::optional::{flag_or, non_null, required};
+use crate::scalar::required_text;
 use am_alerts::sequence::Sequence;
 use am_alerts::text::Text;
 use am_cli::fault::{FaultKind, InputFault};
@@ -136,8 +137,9 @@ const MEMBERS: [&str; 19] = [
 ];
 
 /// The names of all receivers, if they can be told.
-pub(crate) fn receiver_names<'v>(top: &Object<'v, '_>) -> Result<Option<Vec<&'v str>>, InputFault> {
+pub(crate) fn receiver_names(top: &Object<'_, '_>) -> Result<Option<Vec<Text>>, InputFault> {
     let mut names = Vec::new(top.alloc());
+    let mut unread = Faults::none(top.alloc());
     let Some(member) = non_null(top, "receivers") else {
         return Ok(Some(names));
     };
@@ -145,7 +147,7 @@ pub(crate) fn receiver_names<'v>(top: &Object<'v, '_>) -> Result<Option<Vec<&'v 
         return Ok(None);
     };
     for (index, value) in items.iter().enumerate() {
-        match name_in(&member.item(index, value)) {
+        match name_in(&mut unread, &member.item(index, value))? {
             None => return Ok(None),
             Some(name) => names.push(name)?,
         }
@@ -153,10 +155,12 @@ pub(crate) fn receiver_names<'v>(top: &Object<'v, '_>) -> Result<Option<Vec<&'v 
     Ok(Some(names))
 }
 
-fn name_in<'v>(reader: &Reader<'v, '_>) -> Option<&'v str> {
-    let receiver = reader.object().ok()?;
-    let name = non_null(&receiver, "name")?;
-    name.text().ok()
+/// The name of a receiver, or why it can't be told.
+fn name_in(unread: &mut Faults, reader: &Reader<'_, '_>) -> Result<Option<Text>, InputFault> {
+    match unread.kept(reader.object())? {
+        None => Ok(None),
+        Some(receiver) => unread.kept(required_text(&receiver, "name")),
+    }
 }
 
 /// Reads the receivers. More than 64 are refused unread.
@@ -210,11 +214,11 @@ fn read_receiver(
 /// Reads the name of a receiver; one that stands before it, or none, is refused.
 fn read_name(before: &[Receiver], receiver: &Object<'_, '_>) -> Result<Text, InputFault> {
     let member = required(receiver, "name")?;
-    let name = member.text()?;
-    if name.is_empty() || before.iter().any(|receiver| receiver.name.as_str() == name) {
+    let name = required_text(receiver, "name")?;
+    if name.as_str().is_empty() || before.iter().any(|receiver| receiver.name == name) {
         return Err(member.refuse(FaultKind::BadValue));
     }
-    Ok(Text::new(receiver.alloc(), name)?)
+    Ok(name)
 }
 
 fn read_integrations(

@@ -8,9 +8,10 @@ ghost use Rattle.std.specs.Prelude.{◌<◌, IfOk, IsTrue};
 use crate::faults::Faults;
 use crate::matchers::{MatcherMembers, read_matchers};
 use crate::names::RouteNames;
-use crate::optional::{flag_or, has_items, has_members, non_null, required};
+use crate::optional::{flag_or, has_items, has_members, non_null, refuse_member, required};
 use crate::options::read_options;
 use crate::receiver::receiver_names;
+use crate::times::{ACTIVE, MUTE, Times};
 use am_alerts::limits::{MAX_DEPTH, MAX_ROUTES};
 use am_alerts::route::{GroupBy, Route};
 use am_alerts::sequence::Sequence;
@@ -31,8 +32,8 @@ const MEMBERS: [&str; 12] = [
     "match",
     "match_re",
     "continue",
-    "mute_time_intervals",
-    "active_time_intervals",
+    MUTE,
+    ACTIVE,
     "routes",
 ];
 
@@ -61,9 +62,10 @@ pub(crate) struct Tree {
 
 /// What is known of the routes that were read.
 #[derive(Drop)]
-pub(crate) struct Routing<'v> {
+pub(crate) struct Routing<'h> {
     /// The names of the receivers, if they can be told.
-    pub(crate) receivers: Option<Vec<&'v str>>,
+    receivers: Option<Vec<Text>>,
+    pub(crate) times: Times<'h>,
     names: RouteNames,
     /// How many routes below the root were begun.
     begun: usize,
@@ -71,10 +73,11 @@ pub(crate) struct Routing<'v> {
     is_full: bool,
 }
 
-impl<'v> Routing<'v> {
-    pub(crate) fn new(top: &Object<'v, '_>) -> Result<Routing<'v>, InputFault> {
+impl<'h> Routing<'h> {
+    pub(crate) fn new(top: &Object<'_, '_>, times: Times<'h>) -> Result<Routing<'h>, InputFault> {
         Ok(Routing {
             receivers: receiver_names(top)?,
+            times,
             names: RouteNames::of_root(top.alloc())?,
             begun: 0,
             is_full: false,
@@ -85,7 +88,7 @@ impl<'v> Routing<'v> {
     pub(crate) fn has_receiver(&self, name: &str) -> bool {
         match &self.receivers {
             None => true,
-            Some(names) => names.iter().any(|known| *known == name),
+            Some(names) => names.iter().any(|known| known.as_str() == name),
         }
     }
 
@@ -166,23 +169,11 @@ fn refuse_receiver(faults: &mut Faults, root: &Object<'_, '_>) -> Result<(), Inp
     }
 }
 
-fn refuse_member(
-    faults: &mut Faults,
-    object: &Object<'_, '_>,
-    name: &str,
-    fault_kind: FaultKind,
-) -> Result<(), InputFault> {
-    match object.optional(name) {
-        None => Ok(()),
-        Some(member) => faults.push(member.refuse(fault_kind)),
-    }
-}
-
-/// Refuses times at which a route is muted, or active alone.
-fn refuse_times(faults: &mut Faults, route: &Object<'_, '_>) -> Result<(), InputFault> {
-    for name in ["mute_time_intervals", "active_time_intervals"] {
-        if has_items(faults, route, name)? {
-            refuse_member(faults, route, name, FaultKind::Unsupported)?;
+/// Refuses times at which a root is muted, or active alone.
+fn refuse_times(faults: &mut Faults, root: &Object<'_, '_>) -> Result<(), InputFault> {
+    for name in [MUTE, ACTIVE] {
+        if has_items(faults, root, name)? {
+            refuse_member(faults, root, name, FaultKind::BadValue)?;
         }
     }
     Ok(())
@@ -253,7 +244,7 @@ fn read_node(
     let options = read_options(faults, routing, &route)?;
     let matchers = read_matchers(faults, &route, &MATCHERS)?;
     let goes_on = flag_or(faults, &route, "continue", false)?;
-    refuse_times(faults, &route)?;
+    let shut = routing.times.read_shut(faults, &route)?;
     let receiver = match &options.receiver {
         None => Text::new(route.alloc(), above)?,
         Some(receiver) => receiver.copy(route.alloc())?,
@@ -266,6 +257,7 @@ fn read_node(
             options,
             matchers: Sequence::from(matchers),
             goes_on,
+            shut,
         },
         routes,
     }))

@@ -1,0 +1,237 @@
+//! The clocks of a configuration's time intervals. `am_rehearse` hands them in, `times` calls them.
+ghost use Rattle.std.specs.Prelude.{◌≤◌, IfOk, vec_len};
+ghost use Rattle.am_config.specs.declared.hours.TheConstants.{MAX_ZONES};
+
+use crate::times::{INTERVALS, LISTS, LOCAL, LOCATION};
+use am_alerts::spans::Spans;
+use am_alerts::text::Text;
+use am_cli::fault::InputFault;
+use am_cli::reader::Reader;
+use am_hours::clock::{Clock, ClockFault};
+use am_hours::fault::HoursFault;
+use am_hours::interval::Interval;
+use am_hours::muting::{Timed, expand_all};
+use am_hours::zone::Zone;
+use jiff::Timestamp;
+use serde_json::{Map, Value};
+use std::alloc::Global;
+use std::marker::Model;
+
+/// How many zones are looked for at most.
+pub const MAX_ZONES: usize = 64;
+
+/// A time zone, and its name in `location`.
+#[derive(Drop)]
+pub struct NamedZone {
+    pub name: Text,
+    pub zone: Zone,
+}
+
+/// The clocks of a configuration's time intervals: from when on, how far, and the zones that are
+/// known by name. UTC and the empty name need no zone.
+#[derive(Drop)]
+pub struct Hours {
+    start: Timestamp,
+    horizon: u64,
+    zones: Vec<NamedZone>,
+}
+
+impl Hours {
+    /// The clocks of these zones, from a start on to a horizon, in milliseconds from it. Of two zones of
+    /// one name the first counts.
+    pub fn new(start: Timestamp, horizon: u64, zones: Vec<NamedZone>) -> Hours {
+        Hours {
+            start,
+            horizon,
+            zones,
+        }
+    }
+
+    /// The place of a zone among those that are known by name.
+    fn place_of(&self, name: &str) -> Option<usize> {
+        self.zones
+            .iter()
+            .position(|known| known.name.as_str() == name)
+    }
+
+    /// The clock of the zone at a place, or of UTC, if there is one so far.
+    fn clock(&self, alloc: Global, zone: Option<usize>) -> Result<Option<Clock>, InputFault> {
+        let utc = Zone::utc();
+        let zone = match zone.and_then(|place| self.zones.get(place)) {
+            None => &utc,
+            Some(known) => &known.zone,
+        };
+        match Clock::new(alloc, zone.time_zone(), self.start, self.horizon) {
+            Ok(clock) => Ok(Some(clock)),
+            Err(ClockFault::NoMemory) => Err(InputFault::NoMemory),
+            Err(_) => Ok(None),
+        }
+    }
+}
+
+/// A clock, and the place of its zone; none is UTC's.
+#[derive(Drop)]
+struct ZoneClock {
+    zone: Option<usize>,
+    clock: Clock,
+}
+
+/// An interval, and the place of its clock, unless it was refused.
+#[derive(Drop)]
+pub(crate) struct Placed {
+    pub(crate) interval: Interval,
+    pub(crate) clock: Option<usize>,
+}
+
+/// The clocks that were made, one for each zone that an interval names.
+#[derive(Drop)]
+pub(crate) struct Clocks<'h> {
+    hours: &'h Hours,
+    made: Vec<ZoneClock>,
+}
+
+impl<'h> Clocks<'h> {
+    pub(crate) fn new(alloc: Global, hours: &'h Hours) -> Clocks<'h> {
+        Clocks {
+            hours,
+            made: Vec::new(alloc),
+        }
+    }
+
+    /// The moment at which they end.
+    pub(crate) fn horizon(&self) -> u64 {
+        self.hours.horizon
+    }
+
+    /// The place of a zone's clock, behind all others if it is new. None where the zone isn't known, or
+    /// has no clock from the start to the horizon.
+    pub(crate) fn place_of(
+        &mut self,
+        alloc: Global,
+        name: &str,
+    ) -> Result<Option<usize>, InputFault> {
+        let zone = if is_utc(name) {
+            None
+        } else {
+            match self.hours.place_of(name) {
+                None => return Ok(None),
+                place => place,
+            }
+        };
+        if let Some(place) = self.made.iter().position(|made| made.zone == zone) {
+            return Ok(Some(place));
+        }
+        let place = self.made.len();
+        match self.hours.clock(alloc, zone)? {
+            None => Ok(None),
+            Some(clock) => {
+                self.made.push(ZoneClock { zone, clock })?;
+                Ok(Some(place))
+            }
+        }
+    }
+
+    /// The spans in which one of these intervals holds.
+    pub(crate) fn expand(&self, alloc: Global, placed: &[Placed]) -> Result<Spans, HoursFault> {
+        let mut timed = Vec::new(alloc);
+        for Placed { interval, clock } in placed {
+            if let Some(made) = clock.and_then(|place| self.made.get(place)) {
+                timed
+                    .push(Timed {
+                        interval,
+                        clock: &made.clock,
+                    })
+                    .map_err(|_| HoursFault::NoMemory)?;
+            }
+        }
+        expand_all(alloc, timed.as_slice())
+    }
+}
+
+fn is_utc(name: &str) -> bool {
+    name.is_empty() || name == "UTC"
+}
+
+/// Whether a text has the form of a zone's name, as Go looks for it in a folder of zones.
+pub(crate) fn may_be_zone(name: &str) -> bool {
+    !name.starts_with(['/', '\\']) && !name.contains("..") && !name.contains('\0')
+}
+
+/// The zones that a configuration's time intervals name in `location`, each once, in their order, but
+/// UTC and the empty name. At most 64 names. Names that can be no zone (`..`, a leading `/` or `\`)
+/// aren't among them, nor is `Local`.
+pub fn zone_names(reader: &Reader<'_, '_>) -> Result<Vec<Text>, InputFault>
+    ensures few { IfOk result (λ names. vec_len names ≤ MAX_ZONES) }
+{
+    let mut names = ZoneNames {
+        list: Vec::new(reader.alloc()),
+    };
+    if let Ok(top) = reader.object() {
+        for name in LISTS {
+            for definition in items_of(top.members(), name) {
+                names.add_zones(reader.alloc(), definition)?;
+            }
+        }
+    }
+    Ok(names.list)
+}
+
+/// Names of zones, each once. Contracts see how many they are.
+#[derive(Drop)]
+struct ZoneNames {
+    list: Vec<Text>,
+}
+
+impl Model for ZoneNames {
+    ghost use Rattle.std.specs.Prelude.{◌≤◌, ℕ, vec_len};
+    ghost use Rattle.am_config.specs.declared.hours.TheConstants.{MAX_ZONES};
+
+    ghost Value = { ℕ };
+
+    ghost view = { λ z. vec_len z.list };
+
+    ghost invariant = { λ z. vec_len z.list ≤ MAX_ZONES };
+}
+
+impl ZoneNames {
+    /// Adds the zones of a definition's intervals.
+    fn add_zones(&mut self, alloc: Global, definition: &Value) -> Result<(), InputFault> {
+        if let Some(members) = definition.as_object() {
+            for interval in items_of(members, INTERVALS) {
+                if let Some(name) = location_of(interval) {
+                    self.add(alloc, name)?;
+                }
+            }
+        }
+        Ok(())
+    }
+
+    /// Adds a zone, if there is room and it isn't there already.
+    fn add(&mut self, alloc: Global, name: &str) -> Result<(), InputFault> {
+        if self.list.len() < MAX_ZONES && is_looked_for(name) && !self.has(name) {
+            self.list.push(Text::new(alloc, name)?)?;
+        }
+        Ok(())
+    }
+
+    fn has(&self, name: &str) -> bool {
+        self.list.iter().any(|known| known.as_str() == name)
+    }
+}
+
+/// The items of a member, if it is an array.
+fn items_of<'v>(members: &'v Map<String, Value>, name: &str) -> &'v [Value] {
+    match members.get(name).and_then(|value| value.as_array()) {
+        None => &[],
+        Some(items) => items.as_slice(),
+    }
+}
+
+fn location_of(interval: &Value) -> Option<&str> {
+    interval.as_object()?.get(LOCATION)?.as_str()
+}
+
+/// Whether a location is a zone that isn't known without its name.
+fn is_looked_for(name: &str) -> bool {
+    !is_utc(name) && name != LOCAL && may_be_zone(name)
+}

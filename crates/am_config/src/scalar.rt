@@ -1,0 +1,56 @@
+//! Scalars that Alertmanager reads into a text. The modules that read texts of its own types call it.
+//!
+//! Its reader of YAML keeps such a scalar as the file has it, so that `7` is the text `7`. An integer
+//! of JSON is written in plain decimal digits, and the reader of YAML here gives an integer only for
+//! those. The text of other numbers and of flags isn't known any more (`True` is a flag too), so they
+//! are refused.
+use crate::faults::Faults;
+use crate::optional::{non_null, required};
+use am_alerts::text::Text;
+use am_cli::fault::InputFault;
+use am_cli::reader::{Object, Reader};
+use serde_json::Value;
+use std::alloc::{AllocError, Global};
+
+/// The text of this value, or `Kind` where it isn't known.
+pub(crate) fn text_of(reader: &Reader<'_, '_>, value: &Value) -> Result<Text, InputFault> {
+    match digits_of(reader.alloc(), value)? {
+        Some(digits) => Ok(Text::from(digits)),
+        None => Ok(Text::new(reader.alloc(), reader.text()?)?),
+    }
+}
+
+/// The digits of an integer, behind its sign.
+fn digits_of(alloc: Global, value: &Value) -> Result<Option<String>, AllocError> {
+    if let Some(number) = value.as_u64() {
+        return Ok(Some(format!(in alloc; "{number}")?));
+    }
+    match value.as_i64() {
+        Some(number) => Ok(Some(format!(in alloc; "{number}")?)),
+        None => Ok(None),
+    }
+}
+
+/// A text that isn't null and isn't empty.
+pub(crate) fn optional_text(
+    faults: &mut Faults,
+    object: &Object<'_, '_>,
+    name: &str,
+) -> Result<Option<Text>, InputFault> {
+    match (non_null(object, name), object.members().get(name)) {
+        (Some(member), Some(value)) => {
+            let text = faults.kept(text_of(&member, value))?;
+            Ok(text.filter(|text| !text.as_str().is_empty()))
+        }
+        _ => Ok(None),
+    }
+}
+
+/// A text that has to be there, or `Missing`.
+pub(crate) fn required_text(object: &Object<'_, '_>, name: &str) -> Result<Text, InputFault> {
+    let member = required(object, name)?;
+    match object.members().get(name) {
+        Some(value) => text_of(&member, value),
+        None => Ok(Text::new(member.alloc(), member.text()?)?),
+    }
+}

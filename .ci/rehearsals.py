@@ -109,8 +109,8 @@ def check_output(name):
         return
     check_folds(name)
     lines = wanted.splitlines(keepends=True)
-    notices = "".join(line for line in lines if line[14:22] in ("notice  ", "failed  "))
-    delivered = "".join(line for line in lines if line[14:22] == "notice  ")
+    notices = "".join(line for line in lines if re.match(r"\d\S* +(notice|failed)  ", line))
+    delivered = "".join(line for line in lines if re.match(r"\d\S* +notice  ", line))
     got = run("", "play", str(forms(name)[-1]), "--output", "notices")
     tell(f"{name}, notices", got[:2] == (status, notices), f"status {got[0]} {got[2]}")
     got = run("", "play", str(forms(name)[-1]), "--output", "notices", "--no-failures")

@@ -156,11 +156,6 @@ fn unknown(alloc: Global, spot: &Spot<'_>) -> Result<String, AllocError> {
 
 fn unsupported(alloc: Global, spot: &Spot<'_>) -> Result<String, AllocError> {
     let name = spot.name.as_str();
-    if name.ends_with("time_intervals") {
-        return format!(in alloc;
-            "`{name}` isn't supported: the program doesn't follow time intervals"
-        );
-    }
     format!(in alloc; "`{name}` isn't supported")
 }
 

@@ -15,11 +15,12 @@ pub(crate) enum Wanted {
 }
 
 /// The fields that are known by name, those of stories first.
-pub(crate) const FIELDS: [(&str, Wanted); 58] = [
+pub(crate) const FIELDS: [(&str, Wanted); 67] = [
     ("config", Wanted::Object),
     ("alertmanager", Wanted::Object),
     ("start", Wanted::Text),
     ("until", Wanted::Duration),
+    ("zones", Wanted::Object),
     ("alerts", Wanted::Objects),
     ("silences", Wanted::Objects),
     ("maintain", Wanted::Duration),
@@ -71,6 +72,14 @@ pub(crate) const FIELDS: [(&str, Wanted); 58] = [
     ("templates", Wanted::Texts),
     ("inhibit_rules", Wanted::Objects),
     ("time_intervals", Wanted::Objects),
+    ("times", Wanted::Objects),
+    ("start_time", Wanted::Text),
+    ("end_time", Wanted::Text),
+    ("weekdays", Wanted::Texts),
+    ("days_of_month", Wanted::Texts),
+    ("months", Wanted::Texts),
+    ("years", Wanted::Texts),
+    ("location", Wanted::Text),
     ("source_matchers", Wanted::Matchers),
     ("target_matchers", Wanted::Matchers),
     ("webhook_configs", Wanted::Objects),

@@ -90,7 +90,11 @@ impl Kind {
             Reason::NewAlert => Kind::New,
             Reason::AllResolved => Kind::AllResolved,
             Reason::NewlyResolved => Kind::SomeResolved,
-            _ => Kind::Repeat,
+            Reason::Repeat
+            | Reason::NothingLeft
+            | Reason::NothingFiring
+            | Reason::NotYet { .. }
+            | Reason::RouteMuted { .. } => Kind::Repeat,
         }
     }
 }
@@ -141,8 +145,10 @@ impl Lane {
     pub(crate) fn add_flush(&mut self, preview: &Preview, event: usize) -> Result<(), AllocError> {
         let at = preview.moment;
         self.flushes.push(Flush { at, event })?;
+        let is_route_muted = is_route_muted(preview.reasons.as_slice());
         for row in self.rows.iter_mut() {
-            row.flush(preview.muted.as_slice(), at, event)?;
+            let is_muted = is_route_muted || has(preview.muted.as_slice(), &row.labels);
+            row.flush(is_muted, at, event)?;
         }
         Ok(())
     }
@@ -172,9 +178,8 @@ impl Row {
         end_or_add(&mut self.spans, span)
     }
 
-    /// Adds a flush that left out these alerts.
-    fn flush(&mut self, muted: &[MutedAlert], at: u64, event: usize) -> Result<(), AllocError> {
-        let is_muted = has(muted, &self.labels);
+    /// Adds a flush, and whether it left out the alert.
+    fn flush(&mut self, is_muted: bool, at: u64, event: usize) -> Result<(), AllocError> {
         if is_muted == is_open(self.muted.as_slice()) {
             return Ok(());
         }
@@ -188,6 +193,13 @@ impl Row {
             },
         )
     }
+}
+
+/// Whether a flush finds its route muted: it leaves out all alerts.
+fn is_route_muted(reasons: &[Reason]) -> bool {
+    reasons
+        .iter()
+        .any(|reason| matches!(reason, Reason::RouteMuted { .. }))
 }
 
 /// Whether one of these alerts has this label set.

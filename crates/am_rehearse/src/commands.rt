@@ -3,6 +3,7 @@ pub mod check;
 pub mod compare;
 mod config;
 mod faults;
+mod given;
 pub mod json;
 pub mod play;
 pub mod routes;

@@ -1,6 +1,7 @@
 //! What a command reads from and prints to.
 use crate::bounds::{bounds, wrong_of};
 use crate::files::{FileFault, PaintedOutput, read};
+use crate::time_words::explain_times;
 use am_cli::device::StandardInput;
 use am_cli::fault::{FaultKind, InputFault};
 use am_cli::transfer::write_all;
@@ -179,7 +180,10 @@ impl Console {
     ) -> Result<(), AllocError> {
         let alloc = rt.alloc();
         let wrong = wrong_of(fault_kind);
-        let message = explain(alloc, &document.value, pointer, wrong, &bounds())?;
+        let message = match explain_times(alloc, &document.value, pointer, fault_kind)? {
+            Some(words) => words,
+            None => explain(alloc, &document.value, pointer, wrong, &bounds())?,
+        };
         let part = if wrong == Wrong::Unknown {
             Part::Key
         } else {

@@ -16,10 +16,14 @@ ghost use Rattle.am_rehearse.specs.Expected.{AreExpectedIn};
 ghost use Rattle.am_rehearse.specs.Request.{DecodesToStart, Requests, IsRequestIn, end_for, maintain_in, output_for};
 
 use crate::input::alert::AlertItem;
+use crate::input::configured::read_configured;
 use crate::input::expectation::read_expectations;
+use crate::input::hours::check_start;
 use crate::input::outage::OutageItem;
 use crate::input::silence::SilenceItem;
 use crate::input::target::check;
+use crate::input::zones::read_zones;
+use crate::zone_files::ZoneFiles;
 use am_board::config::Config;
 use am_cli::duration::{duration, interval};
 use am_cli::fault::{FaultKind, InputFault};
@@ -38,6 +42,8 @@ mod alert;
 mod configured;
 mod expectation;
 mod faults;
+mod form;
+mod hours;
 mod moment;
 mod origin;
 mod outage;
@@ -45,19 +51,22 @@ mod planned;
 mod silence;
 mod span;
 mod target;
+mod zones;
 
-pub use configured::{Configured, read_configured, read_own, read_theirs};
+pub use configured::{Configured, configured_for, read_file};
 pub use faults::{ReceiversOf, story_faults};
+pub use form::{Form, form_of, has_configuration};
 pub use origin::Origin;
 
 /// How often maintenance is made, where the rehearsal doesn't say: every 15 minutes, in milliseconds.
 pub const MAINTAIN: u64 = 900_000;
 
 /// The members of a rehearsal.
-const MEMBERS: [&str; 10] = [
+const MEMBERS: [&str; 11] = [
     "config",
     "alertmanager",
     "start",
+    "zones",
     "until",
     "alerts",
     "silences",
@@ -114,23 +123,29 @@ pub struct Overrides {
 }
 
 /// What stands in place of parts of a story.
-#[derive(Drop)]
-pub struct Changes {
-    pub config: Option<Configured>,
+#[derive(Clone, Copy)]
+pub struct Changes<'c> {
+    /// A file's value, with a configuration in it.
+    pub config: Option<&'c Value>,
     pub overrides: Overrides,
 }
 
 /// Reads a whole rehearsal. The first fault in the order of reading is answered; of Alertmanager's
-/// configuration all faults.
-pub fn read_input(alloc: Global, value: &Value, changes: Changes) -> Result<Input, Refusal>
-    ensures { IfOk result (λ input. IsRequestIn changes.overrides (view value.now) input.output input.start
+/// configuration all faults. The zones that its time intervals name and the rehearsal doesn't tell are those of `files`.
+pub fn read_input<Z: ZoneFiles>(
+    alloc: Global,
+    value: &Value,
+    changes: Changes<'_>,
+    files: &mut Z,
+) -> Result<Input, Refusal>
+    ensures { IfOk result (λ input. IsRequestIn changes.entry.overrides (view value.now) input.output input.start
         input.expectations.items input.rehearsal) }
 {
     let reader = Reader::strict(alloc, value);
     let top = reader.object()?;
     top.only(&MEMBERS)?;
     let Changes { config, overrides } = changes;
-    let configured = read_configured(&top, config)?;
+    let configured = read_configured(&top, config, overrides.until, files)?;
     read_planned(&top, configured, overrides).map_err(Refusal::One)
 }
 
@@ -143,9 +158,15 @@ fn read_planned(
     ensures { IfOk result (λ input.
         Requests overrides (members_view top.now.members) input.output input.start input.expectations.items input.rehearsal) }
 {
-    let Configured { config, ignored } = configured;
+    let Configured {
+        config,
+        ignored,
+        lacks_hours,
+    } = configured;
     let until = read_until(top, overrides.until)?;
+    read_zones(top)?;
     let asked = read_asked(top, &config, until, overrides.output)?;
+    check_start(top, overrides.until, lacks_hours)?;
     let (rehearsal, origins) = read_rehearsal(top, config, until)?;
     let Asked {
         start,

@@ -12,6 +12,8 @@ mod fault;
 mod files;
 mod input;
 mod run;
+mod time_words;
+mod zone_files;
 
 use am_cli::device::{StandardInput, StandardOutput};
 use am_command::completions::completions;

@@ -18,6 +18,7 @@ ghost use Rattle.am_timeline.specs.Undelivered.{undelivered_text};
 
 use crate::fault::RehearseFault;
 use crate::input::{Changes, Input, Origin, Output, read_input};
+use crate::zone_files::ZoneFiles;
 use am_cli::device::{Sink, Source};
 use am_cli::fault::{FaultKind, InputFault};
 use am_cli::place::JsonPointer;
@@ -70,10 +71,11 @@ struct Rendered {
 /// `report` has what was read, once all of it was, and what of Alertmanager's configuration is ignored.
 /// The output is made whole before its first byte is written: on every fault but `Unwritable` and `Unmet` the
 /// sink wasn't asked.
-pub fn run_rehearsal<S: Source, K: Sink>(
+pub fn run_rehearsal<S: Source, Z: ZoneFiles, K: Sink>(
     alloc: Global,
     source: &mut S,
-    changes: Changes,
+    changes: Changes<'_>,
+    files: &mut Z,
     sink: &mut K,
     report: &mut Report,
 ) -> Result<(), RehearseFault>
@@ -89,15 +91,15 @@ pub fn run_rehearsal<S: Source, K: Sink>(
     ensures ended_unmet { IfErr result (λ fault.
         fault ≡ RehearseFault.Unmet → S.ended source.new ≡ S.ended source.old + 1) }
     ensures met { OnOk result
-        (WritesOutput changes.overrides true (S.given source.old) (S.given source.new) (K.taken sink.old) (K.taken sink.new)) }
+        (WritesOutput changes.entry.overrides true (S.given source.old) (S.given source.new) (K.taken sink.old) (K.taken sink.new)) }
     ensures unmet { IfErr result (λ fault. fault ≡ RehearseFault.Unmet →
-        WritesOutput changes.overrides false (S.given source.old) (S.given source.new) (K.taken sink.old) (K.taken sink.new)) }
+        WritesOutput changes.entry.overrides false (S.given source.old) (S.given source.new) (K.taken sink.old) (K.taken sink.new)) }
     ensures refused { IfErr result (λ fault. status_of fault ≡ 2 → (input : List ℕ) × Refuses input fault
         × (S.given source.new ≡ S.given source.old ++ input)
         × (S.ended source.new ≡ S.ended source.old + 1)) }
 {
     let input = read_all(alloc, source)?;
-    let rendered = render(alloc, input.as_slice(), changes, &mut report.ignored);
+    let rendered = render(alloc, input.as_slice(), changes, files, &mut report.ignored);
     report.text = input;
     let rendered = rendered?;
     write_all(sink, rendered.text.as_bytes())?;
@@ -123,17 +125,18 @@ fn refused(alloc: Global, fault: PlayFault, origins: &[Origin]) -> InputFault {
 }
 
 /// What is printed of the rehearsal that these bytes are.
-fn render(
+fn render<Z: ZoneFiles>(
     alloc: Global,
     input: &[u8],
-    changes: Changes,
+    changes: Changes<'_>,
+    files: &mut Z,
     ignored: &mut IgnoredSettings,
 ) -> Result<Rendered, RehearseFault>
-    ensures told { IfOk result (λ rendered. IsOutputFor changes.overrides input.now rendered.is_met (string_bytes rendered.text)) }
+    ensures told { IfOk result (λ rendered. IsOutputFor changes.entry.overrides input.now rendered.is_met (string_bytes rendered.text)) }
     ensures refused { IfErr result (Refuses input.now) }
 {
     let value = read_document(alloc, input)?;
-    let input = read_input(alloc, &value, changes)?;
+    let input = read_input(alloc, &value, changes, files)?;
     *ignored = input.dropped;
     Ok(play_and_render(alloc, input)?)
 }

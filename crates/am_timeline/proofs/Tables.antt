@@ -1,8 +1,8 @@
--- What tables by label set hold after one more alert.
+-- What tables by label set or by group hold after one more alert or begin.
 use Rattle.std.proofs.Common.{◌≡◌, ◌∙◌, ℕ, ◌+◌, ◌-◌, Bool, true, false, cond, ◌||◌, List, [], ◌∷◌, ◌++◌, Option, Some, None, ap, sym, refl, subst, min, find, reverse, sum_by, arith, if◌then◌else◌}
 use Rattle.std.specs.Prelude.{unwrap_or}
 use Rattle.std.specs.List.{list_any}
-use Rattle.std.specs.Option.{option_map}
+use Rattle.std.specs.Option.{option_map, option_or}
 use Rattle.std.proofs.lemmas.List.{reverse-append}
 use Rattle.std.proofs.lemmas.List.Folds.{list_any-append}
 use Rattle.std.proofs.lemmas.List.Sums.{sum_by-append}
@@ -11,10 +11,14 @@ use Rattle.am_alerts.specs.Labels.{same_label_set}
 use Rattle.am_alerts.specs.LabelOrder.{same_label_set-decides}
 use Rattle.am_alerts.specs.declared.labels.Label.{Label}
 use Rattle.am_alerts.specs.declared.limits.TheConstants.{MAX_MOMENT}
+use Rattle.am_model.specs.declared.group.GroupName.{GroupName}
 use Rattle.am_model.specs.declared.preview.MutedAlert.{MutedAlert}
+use Rattle.am_model.specs.State.{same_name}
 use Rattle.am_mute.specs.declared.mute.MuteCause.{MuteCause}
 use Rattle.am_timeline.specs.Expectation.{has_set}
-use Rattle.am_timeline.specs.Undelivered.{fired_for, last_cause, span_of}
+use Rattle.am_rehearsal.specs.declared.event.PreviewedBegin.{PreviewedBegin}
+use Rattle.am_timeline.specs.declared.undelivered.route_mutes.RouteMute.{RouteMute}
+use Rattle.am_timeline.specs.Undelivered.{fired_for, first_route_mute, last_cause, last_route_mute, route_mute_in, route_mute_of, span_of}
 
 -- a test of one more
 or_cond : (here there : Bool) → cond here true there ≡ (there || (here || false))
@@ -41,6 +45,35 @@ last_cause-added muted m labels =
         → cond here (Some m.cause) (last_cause labels muted)
         ≡ option_map (λ (x : MutedAlert). x.cause) (if here then Some m else find (λ (x : MutedAlert). same_label_set x.labels labels) (reverse muted))
     by true = refl
+    by false = refl
+
+-- the last route mute of a group, with one more begin
+last_route_mute-added : (begins : List PreviewedBegin) (b : PreviewedBegin) (group : GroupName)
+    → last_route_mute group (begins ++ b ∷ []) ≡ option_or (route_mute_in group b) (last_route_mute group begins)
+last_route_mute-added begins b group = ap (first_route_mute group) (reverse-append begins (b ∷ []))
+
+-- with one that finds its route muted
+pub route_mute-added : (begins : List PreviewedBegin) (b : PreviewedBegin) (m : RouteMute) (group : GroupName)
+    → route_mute_of b.preview ≡ Some m
+    → cond (same_name b.preview.group group) (Some m) (last_route_mute group begins) ≡ last_route_mute group (begins ++ b ∷ [])
+route_mute-added begins b m group found = by (same_name b.preview.group group) ∙ sym (last_route_mute-added begins b group)
+  where
+    by : (here : Bool)
+        → cond here (Some m) (last_route_mute group begins)
+        ≡ option_or (if here then route_mute_of b.preview else None) (last_route_mute group begins)
+    by true = ap (λ (o : Option RouteMute). option_or o (last_route_mute group begins)) (sym found)
+    by false = refl
+
+-- with one that doesn't
+pub route_mute-none : (begins : List PreviewedBegin) (b : PreviewedBegin) (group : GroupName)
+    → route_mute_of b.preview ≡ None
+    → last_route_mute group begins ≡ last_route_mute group (begins ++ b ∷ [])
+route_mute-none begins b group found = by (same_name b.preview.group group) ∙ sym (last_route_mute-added begins b group)
+  where
+    by : (here : Bool)
+        → last_route_mute group begins
+        ≡ option_or (if here then route_mute_of b.preview else None) (last_route_mute group begins)
+    by true = ap (λ (o : Option RouteMute). option_or o (last_route_mute group begins)) (sym found)
     by false = refl
 
 -- for how long a label set fired by inserts and by one more, where this is what is kept of it

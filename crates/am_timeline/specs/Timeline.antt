@@ -15,7 +15,7 @@ use Rattle.am_model.specs.declared.preview.MutedAlert.{MutedAlert}
 use Rattle.am_model.specs.declared.preview.Preview.{Preview}
 use Rattle.am_model.specs.declared.reason.Reason.{Reason}
 use Rattle.am_model.specs.declared.reason.Reason.TheVariants.{FirstNotice, NewAlert, AllResolved, NewlyResolved, Repeat, NothingLeft}
-use Rattle.am_model.specs.declared.reason.Reason.TheVariants.{NothingFiring, NotYet}
+use Rattle.am_model.specs.declared.reason.Reason.TheVariants.{NothingFiring, NotYet, RouteMuted}
 use Rattle.am_model.specs.Config.{kind_at}
 use Rattle.am_model.specs.Configured.{route_of, integrations_named}
 use Rattle.am_model.specs.look_back.Reasons.{asks}
@@ -62,8 +62,9 @@ reason_words Repeat = codes "repeat"
 reason_words NothingLeft = codes "nothing left"
 reason_words NothingFiring = codes "nothing fires"
 reason_words (NotYet from) = codes "nothing new, repeat from "
+reason_words (RouteMuted until) = codes "route muted until "
 
--- from when on a notice is repeated that isn't yet
+-- from when on a notice is repeated that isn't yet, or until when the route is muted
 abbrev pub repeat_text : TimeFormatData → Reason → List ℕ
 repeat_text times FirstNotice = []
 repeat_text times NewAlert = []
@@ -73,6 +74,7 @@ repeat_text times Repeat = []
 repeat_text times NothingLeft = []
 repeat_text times NothingFiring = []
 repeat_text times (NotYet from) = times.text from
+repeat_text times (RouteMuted until) = times.text until
 
 -- a reason
 abbrev pub reason_text : TimeFormatData → Reason → List ℕ
@@ -229,6 +231,7 @@ is_left Repeat = false
 is_left NothingLeft = true
 is_left NothingFiring = false
 is_left (NotYet from) = false
+is_left (RouteMuted until) = false
 
 -- whether nothing is left of a group, as the reasons of its receiver's integrations say
 abbrev pub nothing_left : List Reason → Bool

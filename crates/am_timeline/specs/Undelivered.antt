@@ -1,8 +1,8 @@
 -- Undelivered: the alerts that no delivered notice has, for how long they fired, and why.
 use Rattle.std.specs.Prelude.{ℕ, ◌-◌, Bool, false, ◌==◌, List, [], ◌∷◌, ◌++◌, length, codes, find, min, reverse, sum_by, Option, Some, None}
-use Rattle.std.specs.Prelude.{unwrap_or, if◌then◌else◌}
+use Rattle.std.specs.Prelude.{nat_le, slice_get, unwrap_or, if◌then◌else◌}
 use Rattle.std.specs.List.{flat_map, list_all}
-use Rattle.std.specs.Option.{option_map, option_map_or}
+use Rattle.std.specs.Option.{option_and_then, option_map, option_map_or, option_or}
 use Rattle.am_alerts.specs.AlertData.{AlertData}
 use Rattle.am_alerts.specs.Labels.{same_label_set}
 use Rattle.am_alerts.specs.RoutingTree.{route_at, routes_of}
@@ -10,16 +10,24 @@ use Rattle.am_alerts.specs.declared.labels.Label.{Label}
 use Rattle.am_alerts.specs.declared.limits.TheConstants.{MAX_MOMENT}
 use Rattle.am_mute.specs.declared.mute.MuteCause.{MuteCause}
 use Rattle.am_model.specs.declared.config.Config.{Config}
+use Rattle.am_model.specs.declared.group.GroupName.{GroupName}
 use Rattle.am_model.specs.declared.preview.MutedAlert.{MutedAlert}
+use Rattle.am_model.specs.declared.preview.Preview.{Preview}
+use Rattle.am_model.specs.declared.reason.Reason.{Reason}
+use Rattle.am_model.specs.declared.reason.Reason.TheVariants.{FirstNotice, NewAlert, AllResolved, NewlyResolved, Repeat, NothingLeft}
+use Rattle.am_model.specs.declared.reason.Reason.TheVariants.{NothingFiring, NotYet, RouteMuted}
 use Rattle.am_model.specs.declared.record.Record.{Record}
 use Rattle.am_model.specs.Configured.{integrations_named}
+use Rattle.am_model.specs.Insert.{name_in}
 use Rattle.am_model.specs.Lists.{without}
 use Rattle.am_model.specs.look_back.Entry.{alert_in, known_in}
 use Rattle.am_model.specs.look_back.Past.{notices_in, past_of}
 use Rattle.am_model.specs.Notice.{NoticeData}
+use Rattle.am_model.specs.State.{same_name}
 use Rattle.am_model.specs.Outcomes.{outcomes_in}
 use Rattle.am_model.specs.Ticket.{outcome_of}
 use Rattle.am_rehearsal.specs.declared.event.PreviewedBegin.{PreviewedBegin}
+use Rattle.am_timeline.specs.declared.undelivered.route_mutes.RouteMute.{RouteMute}
 use Rattle.am_timeline.specs.Expectation.{has_set}
 use Rattle.am_timeline.specs.Playback.{PlaybackData, is_delivered}
 use Rattle.am_timeline.specs.Shown.{set_shown}
@@ -82,6 +90,55 @@ muted_in begins = flat_map (λ b. b.preview.muted) begins
 abbrev pub last_cause : List Label → List MutedAlert → Option MuteCause
 last_cause labels muted = option_map (λ m. m.cause) (find (λ m. same_label_set m.labels labels) (reverse muted))
 
+-- until when the route is muted, as a reason says
+abbrev pub mute_end : Reason → Option ℕ
+mute_end FirstNotice = None
+mute_end NewAlert = None
+mute_end AllResolved = None
+mute_end NewlyResolved = None
+mute_end Repeat = None
+mute_end NothingLeft = None
+mute_end NothingFiring = None
+mute_end (NotYet from) = None
+mute_end (RouteMuted until) = Some until
+
+-- a flush that finds its route muted, as the first of the reasons says: all say the same
+abbrev pub route_mute_of : Preview → Option RouteMute
+route_mute_of o =
+    option_map (λ until. record { begun = o.moment; until = until }) (option_and_then mute_end (slice_get o.reasons 0))
+
+-- a flush of a group that finds its route muted
+abbrev pub route_mute_in : GroupName → PreviewedBegin → Option RouteMute
+route_mute_in group b = if same_name b.preview.group group then route_mute_of b.preview else None
+
+-- the first of these flushes of a group that finds its route muted
+abbrev pub first_route_mute : GroupName → List PreviewedBegin → Option RouteMute
+first_route_mute group [] = None
+first_route_mute group (b ∷ begins) = option_or (route_mute_in group b) (first_route_mute group begins)
+
+-- the last flush of a group that found its route muted
+abbrev pub last_route_mute : GroupName → List PreviewedBegin → Option RouteMute
+last_route_mute group begins = first_route_mute group (reverse begins)
+
+-- until when a route is muted, as a flush found it at this moment or later
+abbrev pub mute_since : ℕ → Option RouteMute → Option ℕ
+mute_since starts None = None
+mute_since starts (Some m) = if nat_le starts m.begun then Some m.until else None
+
+-- the same of an alert's route at a position: a flush of its group, since the alert fired
+abbrev pub mute_at : Config → List PreviewedBegin → AlertData → ℕ → Option ℕ
+mute_at config begins a position = mute_since a.starts (last_route_mute (name_in config a.labels position) begins)
+
+-- the same of the first of the routes at these positions that was muted
+abbrev pub mute_among : Config → List PreviewedBegin → AlertData → List ℕ → Option ℕ
+mute_among config begins a [] = None
+mute_among config begins a (position ∷ positions) =
+    option_or (mute_at config begins a position) (mute_among config begins a positions)
+
+-- until when a route of an alert is muted, as the flushes found it since the alert fired
+abbrev pub alert_route_mute : Config → List PreviewedBegin → AlertData → Option ℕ
+alert_route_mute config begins a = mute_among config begins a (routes_of config.routes a.labels)
+
 -- whether the receiver of the route at a position has no integrations
 abbrev pub has_none_at : Config → ℕ → Bool
 has_none_at config position = length (integrations_named (route_at config.routes position).receiver config.receivers) == 0
@@ -90,15 +147,22 @@ has_none_at config position = length (integrations_named (route_at config.routes
 abbrev pub has_no_integrations : Config → List Label → Bool
 has_no_integrations config labels = list_all (has_none_at config) (routes_of config.routes labels)
 
--- what looking back finds: the alerts in notices, those that were muted, and those of all inserts
+-- what looking back finds: the alerts in notices, those that were muted, the begins, and the alerts of all inserts
 pub record FindingsData : Type 0 where
   pub sent : List AlertData
   pub muted : List MutedAlert
+  pub begins : List PreviewedBegin
   pub inserted : List AlertData
 
 -- findings: what looking back finds of a rehearsal that was played
 abbrev pub findings_of : PlaybackData → FindingsData
-findings_of playback = record { sent = sent_in playback.history; muted = muted_in playback.begins; inserted = inserted_in playback.history }
+findings_of playback =
+    record {
+      sent = sent_in playback.history;
+      muted = muted_in playback.begins;
+      begins = playback.begins;
+      inserted = inserted_in playback.history;
+    }
 
 -- for how long an alert fired before it fires again; nothing where it didn't
 abbrev pub before_text : ℕ → List ℕ
@@ -123,18 +187,33 @@ unseen_text (Some end) = codes "resolved before a flush of its group"
 abbrev pub muted_each_text : TimeFormatData → MuteCause → List ℕ
 muted_each_text times cause = codes "muted at each flush:" ++ cause_text times cause
 
+-- why an alert was muted at some flushes besides, if it was
+abbrev pub muted_besides_text : TimeFormatData → Option MuteCause → List ℕ
+muted_besides_text times None = []
+muted_besides_text times (Some cause) = codes ";" ++ cause_text times cause
+
+-- that the route was muted until a moment, and why the alert was muted besides
+abbrev pub route_muted_text : TimeFormatData → ℕ → Option MuteCause → List ℕ
+route_muted_text times until cause =
+    codes "muted at each flush: route muted until " ++ times.text until ++ muted_besides_text times cause
+
 -- why no begin sent an alert that has this end, where this is why it was muted, if it was
 abbrev pub unsent_text : TimeFormatData → Option MuteCause → Option ℕ → List ℕ
 unsent_text times None ends = unseen_text ends
 unsent_text times (Some cause) ends = muted_each_text times cause
 
--- why no delivered notice has an alert: its receivers have no integrations, each notice that has it failed, it was muted, or no flush
--- came while it fired
+-- the same, where its route was muted until this moment, if it was
+abbrev pub unsent_by_route_text : TimeFormatData → Option ℕ → Option MuteCause → Option ℕ → List ℕ
+unsent_by_route_text times None cause ends = unsent_text times cause ends
+unsent_by_route_text times (Some until) cause ends = route_muted_text times until cause
+
+-- why no delivered notice has an alert: its receivers have no integrations, each notice that has it failed, its route or itself was
+-- muted, or no flush came while it fired
 abbrev pub undelivered_cause : Config → TimeFormatData → FindingsData → AlertData → List ℕ
 undelivered_cause config times found a =
     if has_no_integrations config a.labels then codes "no integrations"
     else (if has_set found.sent a.labels then failed_each_text a.ends
-    else unsent_text times (last_cause a.labels found.muted) a.ends)
+    else unsent_by_route_text times (alert_route_mute config found.begins a) (last_cause a.labels found.muted) a.ends)
 
 -- for how long an alert fired, as looking back finds it
 abbrev pub alert_fired_text : TimeFormatData → FindingsData → AlertData → List ℕ

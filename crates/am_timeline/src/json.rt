@@ -21,7 +21,7 @@ use std::alloc::{AllocError, Global};
 /// start), `time` (as the format shows it), `route` and `group` (the group labels). Where they
 /// apply it has:
 /// - `receiver`, `integration` (as `hook/0`), `outcome`, `attempts`, `reason`;
-/// - `since`, `from`, and the `deadline` that a sending missed (milliseconds);
+/// - `since`, `from`, `until`, and the `deadline` that a sending missed (milliseconds);
 /// - `firing` and `resolved` (lists of label sets);
 /// - `muted` (a list of objects with `labels`, `cause`, and `until` or `by` and `rule`).
 pub fn json_text<C: TimeFormat>(
@@ -114,6 +114,10 @@ fn put_reason(reason: &Reason, object: &mut Object) -> Result<(), AllocError> {
         Reason::NotYet { from } => {
             object.put_text("reason", "nothing new")?;
             object.put_number("from", *from)
+        }
+        Reason::RouteMuted { until } => {
+            object.put_text("reason", "route muted")?;
+            object.put_number("until", *until)
         }
         _ => object.put_text("reason", reason_words(reason)),
     }

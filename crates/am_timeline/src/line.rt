@@ -79,10 +79,11 @@ pub(crate) fn reason_words(reason: &Reason) -> &'static str
         Reason::NothingLeft => "nothing left",
         Reason::NothingFiring => "nothing fires",
         Reason::NotYet { .. } => "nothing new, repeat from ",
+        Reason::RouteMuted { .. } => "route muted until ",
     }
 }
 
-/// Adds from when on a notice is repeated that isn't yet.
+/// Adds from when on a notice is repeated that isn't yet, or until when the route is muted.
 fn push_repeat<C: TimeFormat>(
     clock: &C,
     reason: &Reason,
@@ -93,6 +94,13 @@ fn push_repeat<C: TimeFormat>(
 {
     match reason {
         Reason::NotYet { from } => clock.push_moment(*from, out),
-        _ => Ok(()),
+        Reason::RouteMuted { until } => clock.push_moment(*until, out),
+        Reason::FirstNotice
+        | Reason::NewAlert
+        | Reason::AllResolved
+        | Reason::NewlyResolved
+        | Reason::Repeat
+        | Reason::NothingLeft
+        | Reason::NothingFiring => Ok(()),
     }
 }

@@ -10,7 +10,7 @@ ghost use Rattle.am_timeline.specs.Expectation.{has_set};
 ghost use Rattle.am_timeline.specs.Undelivered.{alert_fired_text, before_text, behind_empty_line, failed_each_text, fired_text};
 ghost use Rattle.am_timeline.specs.Undelivered.{has_no_integrations, has_none_at, muted_each_text, undelivered_cause};
 ghost use Rattle.am_timeline.specs.Undelivered.{undelivered_front, undelivered_in, undelivered_line, undelivered_text};
-ghost use Rattle.am_timeline.specs.Undelivered.{unseen_text, unsent_text};
+ghost use Rattle.am_timeline.specs.Undelivered.{muted_besides_text, route_muted_text, unseen_text, unsent_by_route_text, unsent_text};
 
 mod alert_set;
 mod delivered;
@@ -18,6 +18,7 @@ mod durations;
 mod findings;
 mod known;
 mod muted_alerts;
+mod route_mutes;
 
 use crate::clock::{TimeFormat, push_counted};
 use crate::muted::push_cause;
@@ -235,7 +236,56 @@ fn push_cause_of<C: TimeFormat>(
     if found.was_sent(labels) {
         return out.push_str(failed_each_text(alert.ends()));
     }
-    push_unsent(clock, found.last_cause(labels), alert.ends(), out)
+    let until = found.route_mute(config, alert)?;
+    push_unsent_by_route(clock, until, found.last_cause(labels), alert.ends(), out)
+}
+
+/// Adds why no begin sent an alert that has this end, and whose route was muted until this moment, if it was.
+fn push_unsent_by_route<C: TimeFormat>(
+    clock: &C,
+    until: Option<u64>,
+    cause: Option<&MuteCause>,
+    ends: Option<u64>,
+    out: &mut String,
+) -> Result<(), AllocError>
+    ensures { OnOk result (string_bytes out.new ≡ string_bytes out.old
+        ++ unsent_by_route_text (C.times clock.now) until (option_copied cause.entry) ends) }
+{
+    match until {
+        None => push_unsent(clock, cause, ends, out),
+        Some(until) => push_route_muted(clock, until, cause, out),
+    }
+}
+
+/// Adds that the route of an alert was muted until a moment, and why the alert was muted besides.
+fn push_route_muted<C: TimeFormat>(
+    clock: &C,
+    until: u64,
+    cause: Option<&MuteCause>,
+    out: &mut String,
+) -> Result<(), AllocError>
+    ensures { OnOk result (string_bytes out.new ≡ string_bytes out.old
+        ++ route_muted_text (C.times clock.now) until (option_copied cause.entry)) }
+{
+    out.push_str("muted at each flush: route muted until ")?;
+    clock.push_moment(until, out)?;
+    push_muted_besides(clock, cause, out)
+}
+
+/// Adds why an alert was muted besides, if it was.
+fn push_muted_besides<C: TimeFormat>(
+    clock: &C,
+    cause: Option<&MuteCause>,
+    out: &mut String,
+) -> Result<(), AllocError>
+    ensures { OnOk result (string_bytes out.new ≡ string_bytes out.old
+        ++ muted_besides_text (C.times clock.now) (option_copied cause.entry)) }
+{
+    let Some(cause) = cause else {
+        return Ok(());
+    };
+    out.push_str(";")?;
+    push_cause(clock, cause, out)
 }
 
 /// Adds why no begin sent an alert that has this end.

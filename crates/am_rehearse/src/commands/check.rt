@@ -1,9 +1,10 @@
 //! `am-rehearse check`: says what configurations hold, or all that is wrong in them.
-use crate::commands::config::{Form, form_of, has_configuration, read_configuration};
 use crate::commands::faults::accept;
 use crate::commands::warnings::push_warnings;
 use crate::console::{Console, Document, shown};
-use crate::input::{Configured, Overrides, ReceiversOf};
+use crate::input::{
+    Configured, Form, Overrides, ReceiversOf, form_of, has_configuration, read_file,
+};
 use std::alloc::AllocError;
 use std::rt::Files;
 
@@ -42,7 +43,7 @@ fn check_file<R: Files + Eprint + AllocGlobal>(
         Form::Story => check_story(rt, console, &document, ReceiversOf::Own)?,
         Form::Own | Form::Alertmanager => {}
     }
-    let configured = match read_configuration(rt.alloc(), &document.value) {
+    let configured = match read_file(rt.alloc(), &document.value, None) {
         Ok(configured) => configured,
         Err(refusal) => return Err(console.complain_of_refusal(rt, &document, refusal)),
     };

@@ -1,10 +1,11 @@
 //! `am-rehearse compare`: simulates a story under two configurations, and prints what differs.
-use crate::commands::config::configured;
 use crate::commands::faults::accept;
+use crate::commands::given::given_to;
 use crate::commands::play::until_of;
 use crate::console::{Console, DIFFERS, Document, say_ignored};
-use crate::input::{Changes, Configured, Input, Overrides, ReceiversOf, read_input};
+use crate::input::{Changes, Input, Overrides, ReceiversOf, read_input};
 use crate::run::play_or_refuse;
+use crate::zone_files::{SystemZones, ZoneFiles};
 use am_cli::fault::InputFault;
 use am_command::request::CompareRequest;
 use am_config::dropped::IgnoredSettings;
@@ -93,34 +94,44 @@ fn played_under<R: Files + Eprint + AllocGlobal>(
     path: &str,
     overrides: Overrides,
 ) -> Result<PlayedStory, u8> {
-    let configured = accepted_by(rt, console, story, path, overrides)?;
+    let config = console.read(rt, path)?;
+    accept_under(rt, console, story, &config, overrides)?;
     let changes = Changes {
-        config: Some(configured),
+        config: Some(&config.value),
         overrides,
     };
-    match played(rt.alloc(), story, changes) {
+    match played(rt.alloc(), story, changes, &mut SystemZones::new(rt)) {
         Ok(played) => Ok(played),
         Err(refusal) => Err(console.complain_of_refusal(rt, story, refusal)),
     }
 }
 
-/// Returns the configuration of a file, under which a story has no faults. The error is the status.
-fn accepted_by<R: Files + Eprint + AllocGlobal>(
+/// Complains of the faults of a configuration, and of those of a story under it. The error is the status.
+fn accept_under<R: Files + Eprint + AllocGlobal>(
     rt: &R,
-    console: &mut Console,
+    console: &Console,
     story: &Document<'_>,
-    path: &str,
+    config: &Document<'_>,
     overrides: Overrides,
-) -> Result<Configured, u8> {
-    let configured = configured(rt, console, path)?;
-    let receivers = ReceiversOf::Given(Some(&configured.config));
-    accept(rt, console, story, receivers, overrides)?;
-    Ok(configured)
+) -> Result<(), u8> {
+    let configured = given_to(rt, console, story, config, overrides)?;
+    accept(
+        rt,
+        console,
+        story,
+        ReceiversOf::Given(Some(&configured)),
+        overrides,
+    )
 }
 
 /// Plays a story that these changes are made to.
-fn played(alloc: Global, story: &Document<'_>, changes: Changes) -> Result<PlayedStory, Refusal> {
-    let input = read_input(alloc, &story.value, changes)?;
+fn played<Z: ZoneFiles>(
+    alloc: Global,
+    story: &Document<'_>,
+    changes: Changes<'_>,
+    files: &mut Z,
+) -> Result<PlayedStory, Refusal> {
+    let input = read_input(alloc, &story.value, changes, files)?;
     match play_input(alloc, input) {
         Ok(played) => Ok(played),
         Err(fault) => Err(Refusal::One(fault)),

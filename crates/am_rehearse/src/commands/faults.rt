@@ -1,24 +1,27 @@
 //! The faults of a story, of which `check`, `compare` and `play` complain.
 use crate::console::{Console, Document};
 use crate::input::{Overrides, ReceiversOf, story_faults};
+use crate::zone_files::SystemZones;
 use am_config::faults::Faults;
+use std::rt::Files;
 
 /// Returns the faults of a story. The error is the status where memory was refused.
-pub fn faults_of<R: Eprint + AllocGlobal>(
+pub fn faults_of<R: Files + Eprint + AllocGlobal>(
     rt: &R,
     console: &Console,
     story: &Document<'_>,
     receivers: ReceiversOf<'_>,
     overrides: Overrides,
 ) -> Result<Faults, u8> {
-    match story_faults(rt.alloc(), &story.value, receivers, overrides) {
+    let mut files = SystemZones::new(rt);
+    match story_faults(rt.alloc(), &story.value, receivers, overrides, &mut files) {
         Ok(faults) => Ok(faults),
         Err(_) => Err(console.complain_of_memory(rt)),
     }
 }
 
 /// Complains of the faults of a story, if it has some. The error is the status.
-pub fn accept<R: Eprint + AllocGlobal>(
+pub fn accept<R: Files + Eprint + AllocGlobal>(
     rt: &R,
     console: &Console,
     story: &Document<'_>,

@@ -1,11 +1,12 @@
 //! `am-rehearse play`: simulates a story.
-use crate::commands::config::configured;
 use crate::commands::faults::faults_of;
+use crate::commands::given::given_to;
 use crate::console::{Console, Document, REJECTED, say_ignored};
 use crate::fault::RehearseFault;
 use crate::files::{FileFault, open};
 use crate::input::{Changes, Output, Overrides, ReceiversOf};
 use crate::run::{Report, run_rehearsal};
+use crate::zone_files::SystemZones;
 use am_alerts::duration::read_duration;
 use am_cli::fault::InputFault;
 use am_command::request::{PlayRequest, STANDARD_INPUT};
@@ -38,9 +39,13 @@ fn try_play<R: Files + Eprint + AllocGlobal>(
     };
     let config = match request.config {
         None => None,
-        Some(path) => Some(configured(rt, console, path)?),
+        Some(path) => Some(console.read(rt, path)?),
     };
-    let changes = Changes { config, overrides };
+    let config = config.as_ref();
+    let changes = Changes {
+        config: config.map(|document| &document.value),
+        overrides,
+    };
     let mut report = Report {
         text: Vec::new(rt.alloc()),
         ignored: IgnoredSettings::nothing(),
@@ -49,7 +54,7 @@ fn try_play<R: Files + Eprint + AllocGlobal>(
     say_ignored(rt, request.config.unwrap_or(request.story), report.ignored);
     match ended {
         Ok(()) => Ok(()),
-        Err(fault) => Err(complain(rt, console, &request, overrides, report, fault)),
+        Err(fault) => Err(complain(rt, console, &request, config, overrides, report, fault)),
     }
 }
 
@@ -58,19 +63,21 @@ fn run<R: Files + Eprint + AllocGlobal>(
     rt: &R,
     console: &mut Console,
     story: &str,
-    changes: Changes,
+    changes: Changes<'_>,
     report: &mut Report,
 ) -> Result<Result<(), RehearseFault>, u8> {
     let alloc = rt.alloc();
+    let mut files = SystemZones::new(rt);
     if story == STANDARD_INPUT {
         let Console { input, output, .. } = console;
-        return Ok(run_rehearsal(alloc, input, changes, output, report));
+        return Ok(run_rehearsal(alloc, input, changes, &mut files, output, report));
     }
     let mut file = match open(rt, story) {
         Ok(file) => file,
         Err(fault) => return Err(console.complain_of_file(rt, story, fault)),
     };
-    Ok(run_rehearsal(alloc, &mut file, changes, &mut console.output, report))
+    let output = &mut console.output;
+    Ok(run_rehearsal(alloc, &mut file, changes, &mut files, output, report))
 }
 
 /// Returns the output that the command line asks for. It has checked the name. The error is the status.
@@ -115,6 +122,7 @@ fn complain<R: Files + Eprint + AllocGlobal>(
     rt: &R,
     console: &mut Console,
     request: &PlayRequest<'_>,
+    config: Option<&Document<'_>>,
     overrides: Overrides,
     report: Report,
     fault: RehearseFault,
@@ -144,19 +152,19 @@ fn complain<R: Files + Eprint + AllocGlobal>(
         text: report.text,
         value,
     };
-    complain_of_story(rt, console, request, overrides, &document, refusal)
+    complain_of_story(rt, console, config, overrides, &document, refusal)
 }
 
 /// Complains of all faults of a story that was refused, and returns the status.
 fn complain_of_story<R: Files + Eprint + AllocGlobal>(
     rt: &R,
     console: &mut Console,
-    request: &PlayRequest<'_>,
+    config: Option<&Document<'_>>,
     overrides: Overrides,
     document: &Document<'_>,
     refusal: Refusal,
 ) -> u8 {
-    match faults_under(rt, console, request.config, overrides, document) {
+    match faults_under(rt, console, config, overrides, document) {
         Err(status) => status,
         Ok(faults) => complain_of_all(rt, console, document, &faults, refusal),
     }
@@ -180,20 +188,14 @@ fn complain_of_all<R: Eprint + AllocGlobal>(
 fn faults_under<R: Files + Eprint + AllocGlobal>(
     rt: &R,
     console: &mut Console,
-    config: Option<&str>,
+    config: Option<&Document<'_>>,
     overrides: Overrides,
-    document: &Document<'_>,
+    story: &Document<'_>,
 ) -> Result<Faults, u8> {
-    match config {
-        None => faults_of(rt, console, document, ReceiversOf::Own, overrides),
-        // Standard input can't be read again: nobody knows its receivers here.
-        Some(STANDARD_INPUT) => {
-            faults_of(rt, console, document, ReceiversOf::Given(None), overrides)
-        }
-        Some(path) => {
-            let configured = configured(rt, console, path)?;
-            let receivers = ReceiversOf::Given(Some(&configured.config));
-            faults_of(rt, console, document, receivers, overrides)
-        }
-    }
+    let Some(config) = config else {
+        return faults_of(rt, console, story, ReceiversOf::Own, overrides);
+    };
+    let configured = given_to(rt, console, story, config, overrides)?;
+    let receivers = ReceiversOf::Given(Some(&configured));
+    faults_of(rt, console, story, receivers, overrides)
 }

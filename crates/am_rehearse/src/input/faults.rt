@@ -1,11 +1,14 @@
 //! All faults of a story.
 use crate::input::alert::AlertItem;
-use crate::input::configured::read_configured;
+use crate::input::configured::{Configured, read_configured};
 use crate::input::expectation::expectation_faults;
+use crate::input::hours::check_start;
 use crate::input::outage::OutageItem;
 use crate::input::silence::SilenceItem;
 use crate::input::target::check;
+use crate::input::zones::read_zones;
 use crate::input::{MEMBERS, Overrides, moment, read_maintain, read_output, read_until};
+use crate::zone_files::ZoneFiles;
 use am_board::config::Config;
 use am_cli::fault::InputFault;
 use am_cli::reader::{FromJson, Object, Reader};
@@ -20,28 +23,30 @@ pub enum ReceiversOf<'c> {
     /// Those of the story's own configuration.
     Own,
     /// Those of a configuration in its place. `None`: nobody knows it here, so no receiver is looked for.
-    Given(Option<&'c Config>),
+    Given(Option<&'c Configured>),
 }
 
 /// Returns the faults of a story, a hundred at most, in the order of reading.
-pub fn story_faults(
+pub fn story_faults<Z: ZoneFiles>(
     alloc: Global,
     value: &Value,
     receivers: ReceiversOf<'_>,
     overrides: Overrides,
+    files: &mut Z,
 ) -> Result<Faults, InputFault> {
     let mut faults = Faults::none(alloc);
-    keep_faults(alloc, &mut faults, value, receivers, overrides)?;
+    keep_faults(alloc, &mut faults, value, receivers, overrides, files)?;
     Ok(faults)
 }
 
 /// Keeps the faults of a story.
-fn keep_faults(
+fn keep_faults<Z: ZoneFiles>(
     alloc: Global,
     faults: &mut Faults,
     value: &Value,
     receivers: ReceiversOf<'_>,
     overrides: Overrides,
+    files: &mut Z,
 ) -> Result<(), InputFault> {
     let reader = Reader::strict(alloc, value);
     let Some(top) = faults.kept(reader.object())? else {
@@ -50,19 +55,20 @@ fn keep_faults(
     faults.only(&top, &MEMBERS)?;
     match receivers {
         ReceiversOf::Given(config) => plan_faults(faults, &top, config, overrides),
-        ReceiversOf::Own => faults_with_own(alloc, faults, &top, overrides),
+        ReceiversOf::Own => faults_with_own(alloc, faults, &top, overrides, files),
     }
 }
 
 /// Keeps the faults of a story's own configuration, and of what is planned against it.
-fn faults_with_own(
+fn faults_with_own<Z: ZoneFiles>(
     alloc: Global,
     faults: &mut Faults,
     top: &Object<'_, '_>,
     overrides: Overrides,
+    files: &mut Z,
 ) -> Result<(), InputFault> {
-    match read_configured(top, None) {
-        Ok(configured) => plan_faults(faults, top, Some(&configured.config), overrides),
+    match read_configured(top, None, overrides.until, files) {
+        Ok(configured) => plan_faults(faults, top, Some(&configured), overrides),
         Err(refusal) => {
             keep_all(alloc, faults, refusal)?;
             plan_faults(faults, top, None, overrides)
@@ -89,10 +95,14 @@ fn keep_all(alloc: Global, faults: &mut Faults, refusal: Refusal) -> Result<(), 
 fn plan_faults(
     faults: &mut Faults,
     top: &Object<'_, '_>,
-    config: Option<&Config>,
+    configured: Option<&Configured>,
     overrides: Overrides,
 ) -> Result<(), InputFault> {
+    let config = configured.map(|configured| &configured.config);
+    let lacks_hours = configured.is_some_and(|configured| configured.lacks_hours);
     faults.kept(moment::start(top))?;
+    faults.kept(check_start(top, overrides.until, lacks_hours))?;
+    faults.kept(read_zones(top))?;
     let until = faults.kept(read_until(top, overrides.until))?;
     each::<AlertItem>(faults, top, "alerts")?;
     each::<SilenceItem>(faults, top, "silences")?;

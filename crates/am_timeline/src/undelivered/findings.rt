@@ -1,23 +1,27 @@
 //! `Findings`: what looking back on a rehearsal finds of its alerts. `undelivered` calls it.
 ghost use Rattle.std.specs.Prelude.{◌≡◌, ◌≤◌, IfOk, option_copied};
 ghost use Rattle.am_timeline.specs.Expectation.{has_set};
-ghost use Rattle.am_timeline.specs.Undelivered.{findings_of, fired_for, last_cause};
+ghost use Rattle.am_timeline.specs.Undelivered.{alert_route_mute, findings_of, fired_for, last_cause};
 
 use crate::playback::Playback;
 use crate::undelivered::alert_set::AlertSet;
 use crate::undelivered::delivered::sent_alerts;
 use crate::undelivered::durations::Durations;
 use crate::undelivered::muted_alerts::MutedAlerts;
+use crate::undelivered::route_mutes::RouteMutes;
+use am_alerts::alert::Alert;
 use am_alerts::labels::Labels;
+use am_board::config::Config;
 use am_mute::mute::MuteCause;
 use std::alloc::{AllocError, Global};
 use std::marker::Model;
 
-/// What looking back finds: the alerts in notices, why alerts were muted, and for how long they fired.
+/// What looking back finds: the alerts in notices, why alerts and routes were muted, and for how long alerts fired.
 #[derive(Drop)]
 pub(super) struct Findings {
     sent: AlertSet,
     muted: MutedAlerts,
+    begins: RouteMutes,
     inserted: Durations,
 }
 
@@ -26,7 +30,7 @@ impl Model for Findings {
 
     ghost Value = { FindingsData };
 
-    ghost view = { λ f. record { sent = f.sent; muted = f.muted; inserted = f.inserted } };
+    ghost view = { λ f. record { sent = f.sent; muted = f.muted; begins = f.begins; inserted = f.inserted } };
 }
 
 impl Findings {
@@ -37,11 +41,14 @@ impl Findings {
         let sent = sent_alerts(alloc, playback.history)?;
         let mut muted = MutedAlerts::new(alloc);
         muted.add_all(playback.begins)?;
+        let mut begins = RouteMutes::new(alloc);
+        begins.add_all(playback.begins)?;
         let mut inserted = Durations::new(alloc);
         inserted.add_all(playback.history)?;
         Ok(Findings {
             sent,
             muted,
+            begins,
             inserted,
         })
     }
@@ -58,6 +65,18 @@ impl Findings {
         ensures { option_copied result ≡ last_cause labels.now self.now.muted }
     {
         self.muted.last_cause(labels)
+    }
+
+    /// Returns until when a route of an alert is muted, in milliseconds, if a flush of its group found that since the alert
+    /// fired.
+    pub(super) fn route_mute(
+        &self,
+        config: &Config,
+        alert: &Alert,
+    ) -> Result<Option<u64>, AllocError>
+        ensures { IfOk result (λ until. until ≡ alert_route_mute config.now self.now.begins alert.now) }
+    {
+        self.begins.until(config, alert)
     }
 
     /// Returns for how long an alert of this label set fired, in milliseconds.

@@ -7,7 +7,8 @@ use Rattle.am_hours.specs.declared.piece.Piece.{Piece}
 use Rattle.am_hours.specs.Intervals.{IntervalData, any_of, contains, is_during, is_on_date}
 use Rattle.am_alerts.specs.Spans.{holds, is_shut}
 use Rattle.am_hours.specs.Pieces.{day_at, is_in, local_at, minute_at, shown, shown_on}
-use Rattle.am_hours.proofs.Apart.{same_tests, holds-says, holds-made}
+use Rattle.am_alerts.proofs.Shut.{holds-says, holds-made}
+use Rattle.am_hours.proofs.Apart.{same_tests}
 
 -- between two minutes of a day, on a local clock
 pub minutes-in : (L day f g q r k z : ℕ) → 86400000 * q + r ≡ L → r < 86400000 → 60000 * k + z ≡ r → z < 60000

@@ -6,7 +6,8 @@ use Rattle.std.proofs.lemmas.Bool.{and_parts, and_from, or_cases, or_parts, or_f
 use Rattle.am_alerts.specs.declared.spans.Span.{Span}
 use Rattle.am_alerts.specs.Spans.{holds, is_shut, are_apart, begins_behind}
 use Rattle.am_hours.specs.Merging.{begin_by}
-use Rattle.am_hours.proofs.Apart.{same_tests, or_regroup, holds-says, holds-made, not_held, apart-parts, quiet-before, begin_by-later}
+use Rattle.am_alerts.proofs.Shut.{holds-says, holds-made, not_held, apart-parts, quiet-before}
+use Rattle.am_hours.proofs.Apart.{same_tests, or_regroup, begin_by-later}
 
 -- the first span, if there is one, begins at a moment or behind it
 abbrev pub begins_from : ℕ → List Span → Bool

@@ -9,7 +9,7 @@ use Rattle.am_alerts.specs.declared.spans.SpansFault.TheVariants as Given
 use Rattle.am_alerts.specs.Spans.{holds, is_shut, are_apart, end_in_time, spans_fault}
 use Rattle.am_hours.specs.declared.fault.HoursFault.{HoursFault}
 use Rattle.am_hours.specs.Muting.{IsNoSpans, any_shut, hours_fault, is_muted_by_time}
-use Rattle.am_hours.proofs.Apart.{apart-parts, holds-made}
+use Rattle.am_alerts.proofs.Shut.{apart-parts, holds-made}
 
 and_rest : (a b : Bool) → a ≡ true → (a && b) ≡ false → b ≡ false
 and_rest true b p h = h

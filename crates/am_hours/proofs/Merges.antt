@@ -6,7 +6,8 @@ use Rattle.std.proofs.lemmas.List.Folds.{list_any-append}
 use Rattle.am_alerts.specs.declared.spans.Span.{Span}
 use Rattle.am_alerts.specs.Spans.{holds, is_shut, are_apart}
 use Rattle.am_hours.specs.Merging.{begin_by, begins_after, IsNext}
-use Rattle.am_hours.proofs.Apart.{same_tests, or_regroup, holds-says, holds-made, not_held, apart-parts, begin_by-later}
+use Rattle.am_alerts.proofs.Shut.{holds-says, holds-made, not_held, apart-parts}
+use Rattle.am_hours.proofs.Apart.{same_tests, or_regroup, begin_by-later}
 
 pub or_false : (a : Bool) → (a || false) ≡ a
 or_false true = refl

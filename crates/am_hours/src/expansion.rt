@@ -1,5 +1,6 @@
 //! The spans of time in which an interval holds on a clock.
-ghost use Rattle.std.specs.Prelude.{◌≡◌, ◌≤◌, ◌<◌, ℕ, ◌+◌, ◌*◌, ◌&&◌, ◌||◌, ◌==◌, IfErr, IfOk, IsTrue, OnOk, [], length, option_map, vec_len};
+ghost use Rattle.std.specs.Prelude.{◌≡◌, ◌≤◌, ◌<◌, ℕ, ◌+◌, ◌*◌, ◌&&◌, ◌||◌};
+ghost use Rattle.std.specs.Prelude.{◌==◌, IfErr, IfOk, IsTrue, OnOk, [], length, option_map, vec_len};
 ghost use Rattle.std.specs.List.{list_all, list_any, sum_by};
 ghost use Rattle.am_hours.specs.Intervals.{any_of, contains, is_during};
 ghost use Rattle.am_hours.specs.Merging.{IsRefusal};

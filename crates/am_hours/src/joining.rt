@@ -1,5 +1,6 @@
 //! Lists of spans that are apart: adding a span, the union of two lists, and the time outside one.
-ghost use Rattle.std.specs.Prelude.{◌≡◌, ◌≤◌, ℕ, ◌+◌, [], ◌∷◌, ◌++◌, ◌&&◌, ◌||◌, not, nat_lt, length, IfErr, IfOk, IsTrue, OnOk, IsNone, IfSome, IfNone, vec_len};
+ghost use Rattle.std.specs.Prelude.{◌≡◌, ◌≤◌, ℕ, ◌+◌, [], ◌∷◌, ◌++◌, ◌&&◌, ◌||◌, not};
+ghost use Rattle.std.specs.Prelude.{nat_lt, length, IfErr, IfOk, IsTrue, OnOk, IsNone, IfSome, IfNone, vec_len};
 ghost use Rattle.am_alerts.specs.Spans.{are_apart, holds, is_shut};
 ghost use Rattle.am_hours.specs.Merging.{IsNext, IsRefusal, begin_by};
 

@@ -73,6 +73,23 @@ def given(words, text=""):
     return ran.returncode, ran.stdout.decode(), ran.stderr.decode()
 
 
+def with_texts(value, wants_texts=False):
+    """The value with a text for each whole number in `match` and `match_re`, where the program reads YAML as its text."""
+    if isinstance(value, dict):
+        return {name: with_texts(it, wants_texts or name in ("match", "match_re")) for name, it in value.items()}
+    if isinstance(value, list):
+        return [with_texts(it, wants_texts) for it in value]
+    return str(value) if wants_texts and type(value) is int else value
+
+
+def printed(words):
+    """What the program gives with these words, as a text."""
+    status, out, err = given(words)
+    if words[0] == "json" and status == 0:
+        out = json.dumps(with_texts(json.loads(out)))
+    return f"{status}{out}{err}"
+
+
 def check_yaml(file, rows):
     """What differs between a file in YAML and the same in JSON: what they are read as, what `check` and `routes` print, and
     what a story of the label sets gives with each as its configuration."""
@@ -81,8 +98,8 @@ def check_yaml(file, rows):
         written.write(story)
         written.flush()
         for words in (["check", file], ["routes", file], ["json", file], ["play", written.name, "--config", file]):
-            in_json = "".join(map(str, given(words))).replace(file.name, file.stem + ".yml")
-            in_yaml = "".join(map(str, given([it if it != file else file.with_suffix(".yml") for it in words])))
+            in_json = printed(words).replace(file.name, file.stem + ".yml")
+            in_yaml = printed([it if it != file else file.with_suffix(".yml") for it in words])
             if in_yaml != in_json or not in_json.startswith("0") or in_json == "0":
                 pairs = zip_longest(in_yaml.splitlines(), in_json.splitlines())
                 ours, theirs = next((it for it in pairs if it[0] != it[1]), (in_yaml, in_json))

@@ -104,6 +104,18 @@ def core_loader():
             raise Refused("no JSON number")
         return found
 
+    def as_written(node):
+        # (am-rehearse reads flags and numbers there as the texts that they are)
+        if isinstance(node, yaml.ScalarNode):
+            if node.tag.rsplit(":", 1)[1] in ("bool", "int", "float"):
+                node.tag = "tag:yaml.org,2002:str"
+        elif isinstance(node, yaml.SequenceNode):
+            for item in node.value:
+                as_written(item)
+        else:
+            for _, value in node.value:
+                as_written(value)
+
     def mapping(loader, node):
         keys = [it.value for it, _ in node.value if isinstance(it, yaml.ScalarNode)]
         if len(keys) != len(node.value) or len(keys) != len(set(keys)):
@@ -112,6 +124,8 @@ def core_loader():
         # (a key is its text as it is written)
         found = {}
         for key, value in node.value:
+            if key.value in ("match", "match_re"):
+                as_written(value)
             found[key.value] = loader.construct_object(value, deep=True)
         return found
 
@@ -143,7 +157,7 @@ def is_same(ours, theirs):
 
 # Generated documents.
 
-WORDS = ["", "a", "team", "5m", "yes", "null", "true", "12", "-3", "1.5", "0x1f", "a: b", "# no", "- x", "two words", "x\ny", " lead", "'q'", '"d"', "é", "...", "a#b", "*", "{x}", "[", "09:30", "1e3", "~"]
+WORDS = ["", "a", "match", "team", "5m", "yes", "null", "true", "12", "-3", "1.5", "0x1f", "a: b", "# no", "- x", "two words", "x\ny", " lead", "'q'", '"d"', "é", "...", "a#b", "*", "{x}", "[", "09:30", "1e3", "~"]
 
 
 def random_value(chance, depth):

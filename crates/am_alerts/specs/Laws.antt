@@ -2,7 +2,8 @@
 use Rattle.std.specs.Prelude.{◌≡◌, [], ◌∷◌}
 use Rattle.am_alerts.specs.declared.limits.TheConstants.{MAX_MOMENT, MAX_DURATION, MAX_LABELS, MAX_LABEL_BYTES, MAX_MATCHERS, MAX_NAMES}
 use Rattle.am_alerts.specs.declared.limits.TheConstants.{MAX_CHILDREN, MAX_ROUTES, MAX_DEPTH, MAX_SPANS}
-use Rattle.am_alerts.specs.declared.law.TheConstants.{LABEL_FAULTS, ALERT_FAULTS, MATCHER_FAULTS, ROUTE_FAULTS, SPANS_FAULTS, DURATION_FAULTS}
+use Rattle.am_alerts.specs.declared.law.TheConstants.{LABEL_FAULTS, ALERT_FAULTS, MATCHER_FAULTS}
+use Rattle.am_alerts.specs.declared.law.TheConstants.{ROUTE_FAULTS, SPANS_FAULTS, DURATION_FAULTS}
 use Rattle.am_alerts.specs.declared.labels.LabelFault.TheVariants as label
 use Rattle.am_alerts.specs.declared.alert.AlertFault.TheVariants as alert
 use Rattle.am_alerts.specs.declared.matcher.MatcherFault.TheVariants as matcher

@@ -1,5 +1,6 @@
 //! The limits, the faults' numbers and the laws of routing trees, which verifiers read.
-ghost use Rattle.am_alerts.specs.Laws.{LimitsAre, LabelFaultsAre, AlertFaultsAre, MatcherFaultsAre, RouteFaultsAre, SpansFaultsAre, DurationFaultsAre};
+ghost use Rattle.am_alerts.specs.Laws.{LimitsAre, LabelFaultsAre, AlertFaultsAre, MatcherFaultsAre};
+ghost use Rattle.am_alerts.specs.Laws.{RouteFaultsAre, SpansFaultsAre, DurationFaultsAre};
 ghost use Rattle.am_alerts.specs.Spans.{OneLevelIsNeverShut, SpansEndWhereTheySay};
 ghost use Rattle.am_alerts.specs.TreeLaws.{OneLevelIsTriedInOrder, OptionsAreTheNearest, TheRestIsItsOwn, EachRouteIsReachedOrNot};
 

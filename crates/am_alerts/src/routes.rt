@@ -3,7 +3,8 @@
 //!
 //! The routes below the root lie in a list, each before those below it. A route is known by its
 //! position there. Cost of `Routes::of`: the routes whose parents match, and their matchers.
-ghost use Rattle.std.specs.Prelude.{◌≡◌, ◌⊎◌, ◌+◌, ◌<◌, ◌≤◌, ◌++◌, ◌&&◌, All, IfErr, IfOk, IsTrue, None, Some, length, nat_le, string_bytes};
+ghost use Rattle.std.specs.Prelude.{◌≡◌, ◌⊎◌, ◌+◌, ◌<◌, ◌≤◌, ◌++◌, ◌&&◌};
+ghost use Rattle.std.specs.Prelude.{All, IfErr, IfOk, IsTrue, None, Some, length, nat_le, string_bytes};
 ghost use Rattle.std.specs.List.Sorted.{IsStrictlyIncreasing};
 ghost use Rattle.am_alerts.specs.Fault.{ok_unless};
 ghost use Rattle.am_alerts.specs.Nested.{forest, nested_of};

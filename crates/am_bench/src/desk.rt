@@ -7,10 +7,10 @@ use am_alerts::alert::Alert;
 use am_board::begin::Begun;
 use am_board::board::Board;
 use am_board::config::{Config, MAX_GROUPS};
-use am_board::fault::{BoardFault, Fault, FinishFault};
+use am_board::fault::{BoardFault, Fault};
 use am_board::notice::Report;
+use am_board::own_ticket::OwnTicket;
 use am_board::record::Maintained;
-use am_board::ticket::Ticket;
 use am_mute::silence::Silence;
 use am_retry::Outcome;
 use std::alloc::Global;
@@ -26,12 +26,6 @@ const PASS: u32 = 0;
 pub struct Desk {
     board: Board,
     ghost ours: { board.id ≡ HOME },
-}
-
-/// A ticket that the board gave.
-struct OwnTicket {
-    ticket: Ticket,
-    ghost ours: { ticket.desk ≡ HOME },
 }
 
 impl Desk {
@@ -93,7 +87,7 @@ impl Desk {
                 Ok(true)
             }
             Ok(Begun::Flush(ticket)) => {
-                self.send(OwnTicket { ticket }, now, tally);
+                self.send(OwnTicket::new(ticket), now, tally);
                 Ok(true)
             }
             Err(fault) => Err(fault),
@@ -101,14 +95,12 @@ impl Desk {
     }
 
     /// Records each notice as delivered, and finishes the flush.
-    fn send(&mut self, own: OwnTicket, now: u64, tally: &mut Tally) {
+    fn send(&mut self, own: OwnTicket<HOME>, now: u64, tally: &mut Tally) {
         let mut own = own;
-        own.deliver_all(now, tally);
-        let OwnTicket { ticket } = own;
-        match self.board.finish(PASS, ticket, now) {
+        deliver_all(&mut own, now, tally);
+        match self.board.finish_own(PASS, own, now) {
             Ok(finished) => tally.add_flush(finished.removed),
-            Err(FinishFault::NotOpen) => tally.add_flush(0),
-            Err(FinishFault::Foreign(_ticket)) => unreachable!(),
+            Err(_not_open) => tally.add_flush(0),
         }
     }
 
@@ -118,23 +110,21 @@ impl Desk {
     }
 }
 
-impl OwnTicket {
-    /// Records each notice as delivered.
-    fn deliver_all(&mut self, now: u64, tally: &mut Tally) {
-        for place in 0..self.ticket.notices().len() {
-            if let Some(notice) = self.ticket.notices().get(place) {
-                let alerts = notice.firing.len().saturating_add(notice.resolved.len());
-                let report = Report {
-                    desk: notice.desk,
-                    ticket: notice.ticket,
-                    integration: notice.integration,
-                    outcome: Outcome::Delivered,
-                    attempts: 1,
-                    ended: now,
-                };
-                tally.add_notice(alerts);
-                let _ = self.ticket.record(report);
-            }
+/// Records each notice of a ticket as delivered.
+fn deliver_all(own: &mut OwnTicket<HOME>, now: u64, tally: &mut Tally) {
+    for place in 0..own.ticket().notices().len() {
+        if let Some(notice) = own.ticket().notices().get(place) {
+            let alerts = notice.firing.len().saturating_add(notice.resolved.len());
+            let report = Report {
+                desk: notice.desk,
+                ticket: notice.ticket,
+                integration: notice.integration,
+                outcome: Outcome::Delivered,
+                attempts: 1,
+                ended: now,
+            };
+            tally.add_notice(alerts);
+            let _ = own.record(report);
         }
     }
 }

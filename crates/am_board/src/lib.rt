@@ -36,6 +36,7 @@ mod maintain;
 mod members;
 mod note;
 mod order;
+pub mod own_ticket;
 mod plan;
 pub mod preview;
 mod silence;

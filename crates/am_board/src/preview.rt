@@ -14,9 +14,10 @@ ghost use Rattle.am_model.specs.Insert.{same_member};
 ghost use Rattle.am_model.specs.State.{moment};
 ghost use Rattle.am_model.specs.declared.config.TheConstants.{MAX_INTEGRATIONS};
 ghost use Rattle.am_model.specs.look_back.Preview.{muted_alert, preview, preview_at, preview_on, reason_of};
+ghost use Rattle.am_model.specs.look_back.Reasons.{reason_of_update};
 ghost use Rattle.am_board.specs.Refinement.{group_state, member_state, state_of};
 ghost use Rattle.am_board.specs.LogRows.{log_rows};
-ghost use Rattle.am_board.specs.Preview.{reason_among, reason_by_row, reason_ended, reason_told_by};
+ghost use Rattle.am_board.specs.Preview.{EndsInTime, reason_among, reason_told_by};
 ghost use Rattle.am_board.specs.Step.{StateInvariant};
 
 use crate::board::Board;
@@ -31,9 +32,9 @@ use am_alerts::labels::Labels;
 use am_alerts::limits::MAX_MOMENT;
 use am_alerts::sequence::Sequence;
 pub use am_model::preview::{MutedAlert, Preview};
-use am_mute::mute::mute_cause_with;
+use am_mute::mute::mute_cause_under;
 use am_mute::sources::Sources;
-use am_nflog::{LogKey, LogRow, NfLog, is_subset};
+use am_nflog::{LogKey, LogRow, NfLog, UpdateReason, update_reason};
 use std::alloc::{AllocError, Global};
 
 impl Board {
@@ -135,10 +136,10 @@ fn muted_in(
     let mut muted = Vec::new(alloc);
     for member in members {
         let labels = member.alert.labels();
-        let silences = state.silences.as_slice();
+        let silences = &state.silences;
         let rules = config.rules.as_slice();
         let known = state.known.as_slice();
-        let found = mute_cause_with(alloc, labels, t, silences, rules, known, sources)?;
+        let found = mute_cause_under(alloc, labels, t, silences, rules, known, sources)?;
         if let Some(cause) = found {
             muted.push(MutedAlert {
                 labels: labels.copy(alloc)?,
@@ -243,52 +244,29 @@ fn reason(
     requires { IfSome (option_copied logged) (λ row. row.moment + repeat_interval + 1 < 2 ^ 64) }
     ensures { result ≡ reason_told_by (option_copied logged.entry) sets.now send_resolved repeat_interval t }
 {
-    let is_quiet = sets.firing.as_slice().is_empty();
-    if is_quiet && sets.resolved.as_slice().is_empty() {
+    let firing = sets.firing.as_slice();
+    let resolved = sets.resolved.as_slice();
+    if firing.is_empty() && resolved.is_empty() {
         return Reason::NothingLeft;
     }
-    match logged {
-        None if is_quiet => Reason::NothingFiring,
-        None => Reason::FirstNotice,
-        Some(row) => reason_by(row, sets, send_resolved, repeat_interval, t),
-    }
+    let update = update_reason(logged, firing, resolved, send_resolved, repeat_interval, t);
+    reason_of_update(update, repeat_interval)
 }
 
-/// Returns why an integration with this row is notified, or why not, where alerts are left.
-fn reason_by(
-    row: &LogRow<Labels>,
-    sets: &AlertSets,
-    send_resolved: bool,
-    repeat_interval: u64,
-    t: u64,
-) -> Reason
-    requires { row.now.moment + repeat_interval + 1 < 2 ^ 64 }
-    ensures { result ≡ reason_by_row row.now sets.now send_resolved repeat_interval t }
+/// Returns the reason of an update, or of none, under this repeat interval.
+fn reason_of_update(update: UpdateReason, repeat_interval: u64) -> Reason
+    requires { EndsInTime repeat_interval update }
+    ensures { result ≡ reason_of_update repeat_interval update }
 {
-    let firing = sets.firing.as_slice();
-    if !is_subset(firing, row.firing.as_slice()) {
-        return Reason::NewAlert;
-    }
-    if firing.is_empty() {
-        return ended(row);
-    }
-    if send_resolved && !is_subset(sets.resolved.as_slice(), row.resolved.as_slice()) {
-        return Reason::NewlyResolved;
-    }
-    let over = row.moment + repeat_interval;
-    if over < t {
-        return Reason::Repeat;
-    }
-    Reason::NotYet { from: over + 1 }
-}
-
-/// Returns why an integration is notified where no alert fires, or why not.
-fn ended(row: &LogRow<Labels>) -> Reason
-    ensures { result ≡ reason_ended row.now }
-{
-    if row.firing.as_slice().is_empty() {
-        Reason::NothingFiring
-    } else {
-        Reason::AllResolved
+    match update {
+        UpdateReason::FirstNotice => Reason::FirstNotice,
+        UpdateReason::NewAlert => Reason::NewAlert,
+        UpdateReason::AllResolved => Reason::AllResolved,
+        UpdateReason::NewlyResolved => Reason::NewlyResolved,
+        UpdateReason::Repeat => Reason::Repeat,
+        UpdateReason::NothingFiring => Reason::NothingFiring,
+        UpdateReason::NotYet { since } => Reason::NotYet {
+            from: since + repeat_interval + 1,
+        },
     }
 }

@@ -1,4 +1,10 @@
+-- what is made unless there is a fault
 pub mod Made
+-- the members of an object, and the items of an array
 pub mod Members
+-- names of labels that are read, and what stands for all of them
 pub mod Names
+-- members that are read, and what stands for one that isn't there
 pub mod Decoding
+-- texts of matchers: what is written plainly, with a quote or with an escape
+pub mod MatcherTexts

@@ -1,16 +1,14 @@
 -- What the JSON value of a configuration tells, a line for each member.
-use Rattle.std.specs.Prelude.{◌≡◌, ℕ, List, [], Some, None, true, false, codes}
+use Rattle.std.specs.Prelude.{◌≡◌, ℕ, List, [], ◌∷◌, Some, true, false, codes, MatchOption}
 use Rattle.std.specs.Borrow.{Bor}
 use Rattle.std.specs.List.{list_any}
 use Rattle.std.specs.Str.{bytes_eq}
-use Rattle.serde_json.specs.Data.{Data, no_items, item, string, Members}
+use Rattle.serde_json.specs.Data.{Data, no_items, item, string, Members, no_members, member}
 use Rattle.serde_json.specs.Find.{as_array, as_object, as_str}
 use Rattle.am_alerts.specs.Labels.{IsReadOf, labels_in}
 use Rattle.am_alerts.specs.RoutingTree.{tree_of}
 use Rattle.am_alerts.specs.declared.labels.Label.{Label}
 use Rattle.am_alerts.specs.declared.matcher.MatcherParts.{MatcherParts}
-use Rattle.am_alerts.specs.declared.matcher.Operator.{Operator}
-use Rattle.am_alerts.specs.declared.matcher.Operator.TheVariants.{Equal, NotEqual, Like, NotLike}
 use Rattle.am_alerts.specs.declared.route.Child.{Child}
 use Rattle.am_alerts.specs.declared.route.GroupBy.{GroupBy}
 use Rattle.am_alerts.specs.declared.route.GroupBy.TheVariants.{All, Names}
@@ -22,6 +20,7 @@ use Rattle.am_model.specs.declared.config.Limits.{Limits}
 use Rattle.am_model.specs.declared.config.Receiver.{Receiver}
 use Rattle.am_mute.specs.Inhibit.{RuleData}
 use Rattle.am_cli.specs.Decoding.{IsText, IsFlag, IsNumber, IsDuration, IsInterval, IsList, Has, HasOr}
+use Rattle.am_cli.specs.MatcherText.{IsMatcherText, operator_text}
 use Rattle.am_cli.specs.declared.reader.Dialect.{Dialect}
 use Rattle.am_cli.specs.declared.reader.Dialect.TheVariants.{Lenient, Strict}
 
@@ -29,22 +28,21 @@ use Rattle.am_cli.specs.declared.reader.Dialect.TheVariants.{Lenient, Strict}
 abbrev pub IsPair : Data → Bor (List ℕ) × Bor (List ℕ) → Type 0
 IsPair value pair = as_array value ≡ Some (item (string pair.0.now) (item (string pair.1.now) no_items))
 
--- an array of pairs; in the strict dialect an object can stand for it too
+-- the members of an object that has these names with these texts
+abbrev pub text_members : List (Bor (List ℕ) × Bor (List ℕ)) → Members
+text_members [] = no_members
+text_members (p ∷ ps) = member p.0.now (string p.1.now) (text_members ps)
+
+-- an array of pairs; in the strict dialect an object can stand for it too, whose members are the pairs
 abbrev pub DecodesToPairs : Dialect → Data → List (Bor (List ℕ) × Bor (List ℕ)) → Type 0
 DecodesToPairs Lenient value pairs = IsList IsPair value pairs
-DecodesToPairs Strict value pairs = as_object value ≡ None → IsList IsPair value pairs
+DecodesToPairs Strict value pairs = MatchOption (as_object value) (IsList IsPair value pairs) (λ members. members ≡ text_members pairs)
 
 -- the labels of these pairs, of which those without a value are dropped
 pub record DecodesToLabels (dialect : Dialect) (value : Data) (labels : List Label) : Type 0 where
   pub pairs : List (Bor (List ℕ) × Bor (List ℕ))
   pub written : DecodesToPairs dialect value pairs
   pub read : IsReadOf (labels_in pairs) labels
-
-abbrev pub operator_text : Operator → List ℕ
-operator_text Equal = codes "="
-operator_text NotEqual = codes "!="
-operator_text Like = codes "=~"
-operator_text NotLike = codes "!~"
 
 -- a name, an operator and a value: an array of three texts
 abbrev pub IsMatcher : Data → MatcherParts → Type 0
@@ -53,7 +51,7 @@ IsMatcher value m = as_array value ≡ Some (item (string m.name) (item (string 
 -- in the strict dialect one text can stand for a matcher too
 abbrev pub DecodesToMatcher : Dialect → Data → MatcherParts → Type 0
 DecodesToMatcher Lenient value m = IsMatcher value m
-DecodesToMatcher Strict value m = as_str value ≡ None → IsMatcher value m
+DecodesToMatcher Strict value m = MatchOption (as_str value) (IsMatcher value m) (λ text. IsMatcherText text m)
 
 pub record DecodesToRule (dialect : Dialect) (value : Data) (rule : RuleData) : Type 0 where
   pub members : Members

@@ -1,8 +1,10 @@
--- What JSON values tell: texts, numbers, lists, and members with what stands for one that isn't there.
-use Rattle.std.specs.Prelude.{◌≡◌, ℕ, Bool, List, [], ◌∷◌, Some, MatchOption}
+-- What JSON values tell: texts, numbers, answers, lists, and members with what stands for one that isn't there.
+use Rattle.std.specs.Prelude.{◌≡◌, ℕ, Bool, List, [], ◌∷◌, Option, Some, None, IsSomeAnd, MatchOption, codes}
 use Rattle.serde_json.specs.Data.{Data, Items, no_items, item, Members}
 use Rattle.serde_json.specs.Find.{as_array, as_bool, as_str, get_member}
 use Rattle.am_cli.specs.Read.{number_in, duration_in, interval_in}
+use Rattle.am_retry.specs.declared.outcome.Answer.{Answer}
+use Rattle.am_retry.specs.declared.outcome.Answer.TheVariants.{Done, Again, Never}
 
 abbrev pub IsText : Data → List ℕ → Type 0
 IsText value text = as_str value ≡ Some text
@@ -22,6 +24,15 @@ IsDuration value duration = duration_in value ≡ Some duration
 abbrev pub IsInterval : Data → ℕ → Type 0
 IsInterval value interval = interval_in value ≡ Some interval
 
+abbrev pub answer_text : Answer → List ℕ
+answer_text Done = codes "done"
+answer_text Again = codes "again"
+answer_text Never = codes "never"
+
+-- the word for an answer
+abbrev pub IsAnswer : Data → Answer → Type 0
+IsAnswer value answer = as_str value ≡ Some (answer_text answer)
+
 -- the items of an array tell those of a list, one by one
 abbrev pub DecodeEach : {X : Type 0} → (Data → X → Type 0) → Items → List X → Type 0
 DecodeEach decodes_to no_items [] = Unit {0}
@@ -40,3 +51,11 @@ Has decodes_to name members x = MatchOption (get_member name members) ⊥ (λ va
 -- the member of this name tells this, or it isn't there, and this is what stands for it
 abbrev pub HasOr : {X : Type 0} → (Data → X → Type 0) → X → List ℕ → Members → X → Type 0
 HasOr decodes_to absent name members x = MatchOption (get_member name members) (x ≡ absent) (λ value. decodes_to value x)
+
+-- the member of this name is there, and tells this, or it isn't there, and this is none
+abbrev pub HasIf : {X : Type 0} → (Data → X → Type 0) → List ℕ → Members → Option X → Type 0
+HasIf decodes_to name members found = MatchOption (get_member name members) (found ≡ None) (λ value. IsSomeAnd found (decodes_to value))
+
+-- there is no member of this name
+abbrev pub HasNone : List ℕ → Members → Type 0
+HasNone name members = get_member name members ≡ None

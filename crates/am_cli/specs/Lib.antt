@@ -2,9 +2,11 @@
 pub mod Bytes
 -- what the JSON value of a configuration tells, a line for each member
 pub mod Configured
+-- matchers that are written as one text
+pub mod MatcherText
 -- what a reader is at, and how it refuses
 pub mod Read
 -- a route, from what is read of it
 pub mod Routed
--- what JSON values tell: texts, numbers, lists, and members with what stands for one that isn't there
+-- what JSON values tell: texts, numbers, answers, lists, and members with what stands for one that isn't there
 pub mod Decoding

@@ -21,6 +21,16 @@ impl<'v> FromJson<'v> for (&'v str, &'v str) {
     }
 }
 
+impl<'v> FromJson<'v> for Labels {
+    ghost use Rattle.am_cli.specs.Configured.{DecodesToLabels};
+
+    ghost decodes_to = { λ dialect value labels. DecodesToLabels dialect value labels };
+
+    fn read(reader: &Reader<'v, '_>) -> Result<Labels, InputFault> {
+        read_labels(reader)
+    }
+}
+
 /// Reads a label set: an array of pairs of a name and a value, or in the strict dialect also an object
 /// whose members are the labels. Refused as a whole, or in the strict dialect at the label at fault: of
 /// two of one name the second.

@@ -2,6 +2,7 @@
 //! form of a configuration. `am_scenario`, `am_config`, `am_play` and `am_rehearse` call it.
 #![tactic(auto)]
 
+mod answer;
 pub mod config;
 pub mod device;
 pub mod duration;

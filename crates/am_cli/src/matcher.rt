@@ -1,7 +1,9 @@
 //! Matchers and inhibition rules in JSON. `config`, and readers of silences, call it.
-ghost use Rattle.std.specs.Prelude.{◌≡◌, IfOk, IfSome};
+ghost use Rattle.std.specs.Prelude.{◌≡◌, IfOk, IfSome, IsSomeAnd};
 ghost use Rattle.serde_json.specs.View.{view};
-ghost use Rattle.am_cli.specs.Configured.{IsMatcher, operator_text};
+ghost use Rattle.serde_json.specs.Find.{as_str};
+ghost use Rattle.am_cli.specs.Configured.{IsMatcher};
+ghost use Rattle.am_cli.specs.MatcherText.{IsMatcherText, operator_text};
 
 use crate::fault::{FaultKind, InputFault};
 use crate::matcher_text::parts_of_text;
@@ -34,7 +36,9 @@ impl<'v> FromJson<'v> for Matcher {
     }
 }
 
-fn read_one_text(reader: &Reader<'_, '_>) -> Result<Matcher, InputFault> {
+fn read_one_text(reader: &Reader<'_, '_>) -> Result<Matcher, InputFault>
+    ensures { IfOk result (λ matcher. IsSomeAnd (as_str (view reader.now.value)) (λ text. IsMatcherText text matcher)) }
+{
     let Some(parts) = parts_of_text(reader.alloc(), reader.text()?)? else {
         return Err(reader.refuse(FaultKind::BadValue));
     };

@@ -4,6 +4,11 @@
 //! They are read as Alertmanager's classic parser does: escapes count with quotes and without, and
 //! a backslash that escapes nothing is itself. A comma outside of quotes, a backslash at the end
 //! and a lone quote are rejected. What the name can be is the matcher's own rule.
+ghost use Rattle.std.specs.Prelude.{◌≡◌, ◌≢◌, ◌<◌, ◌≤◌, ◌++◌, ℕ, List, Some, true, false, length, slice_index, string_bytes};
+ghost use Rattle.std.specs.Prelude.{IfOk, IfSome, option_map};
+ghost use Rattle.std.specs.List.{position};
+ghost use Rattle.am_cli.specs.MatcherText.{IsMatcherText, IsUnquoted, begins_operator, operator_text, unescaped};
+
 use am_alerts::matcher::{MatcherParts, Operator};
 use am_alerts::text::Text;
 use std::alloc::{AllocError, Global};
@@ -14,7 +19,9 @@ use std::alloc::{AllocError, Global};
 /// A name, an operator and a value, with ASCII blanks around each. The value stands in quotes, or it has no
 /// quote in it and no comma, which would begin another matcher. In both forms `\"`, `\\` and `\n` stand
 /// for a quote, a backslash and a line feed, and another backslash for itself; none stands at the end.
-pub fn parts_of_text(alloc: Global, text: &str) -> Result<Option<MatcherParts>, AllocError> {
+pub fn parts_of_text(alloc: Global, text: &str) -> Result<Option<MatcherParts>, AllocError>
+    ensures { IfOk result (λ parts. IfSome parts (IsMatcherText text.now)) }
+{
     let Some((name, op, written)) = split(text) else {
         return Ok(None);
     };
@@ -31,26 +38,48 @@ pub fn parts_of_text(alloc: Global, text: &str) -> Result<Option<MatcherParts>, 
     }))
 }
 
-/// What stands before the first operator, that operator, and what stands behind it.
-fn split(text: &str) -> Option<(&str, Operator, &str)> {
-    let (name, behind) = text.split_once(['=', '!'])?;
-    let begins = text.as_bytes().get(name.len())?;
-    let (op, value) = if let Some(value) = behind.strip_prefix('~') {
-        if *begins == b'=' {
-            (Operator::Like, value)
-        } else {
-            (Operator::NotLike, value)
-        }
-    } else if *begins == b'=' {
-        (Operator::Equal, behind)
-    } else {
-        (Operator::NotEqual, behind.strip_prefix('=')?)
-    };
+/// What stands before the operator, the operator, and what stands behind it.
+fn split(text: &str) -> Option<(&str, Operator, &str)>
+    ensures is { IfSome result (λ parts. text.now ≡ parts.0.now ++ (operator_text parts.1 ++ parts.2.now)) }
+    ensures begins { IfSome result (λ parts. position begins_operator text.now ≡ Some (length parts.0.now)) }
+    ensures longest { IfSome result (λ parts. parts.1 ≡ Operator.Equal → slice_index parts.2.now 0 ≢ 126) }
+{
+    let (name, rest) = text.split_at(operator_place(text)?);
+    let (op, value) = operator_in(rest)?;
     Some((name, op, value))
 }
 
+/// Where the operator begins: with the first `=` or `!`.
+fn operator_place(text: &str) -> Option<usize>
+    ensures { result ≡ position begins_operator text.now }
+{
+    text.bytes().position(|byte| byte == b'=' || byte == b'!')
+}
+
+/// The longest operator with which a text begins, and what stands behind it.
+fn operator_in(text: &str) -> Option<(Operator, &str)>
+    ensures is { IfSome result (λ read. text.now ≡ operator_text read.0 ++ read.1.now) }
+    ensures longest { IfSome result (λ read. read.0 ≡ Operator.Equal → slice_index read.1.now 0 ≢ 126) }
+{
+    if let Some(value) = text.strip_prefix("=~") {
+        return Some((Operator::Like, value));
+    }
+    if let Some(value) = text.strip_prefix("!~") {
+        return Some((Operator::NotLike, value));
+    }
+    if let Some(value) = text.strip_prefix("!=") {
+        return Some((Operator::NotEqual, value));
+    }
+    match text.strip_prefix("=") {
+        None => None,
+        Some(value) => Some((Operator::Equal, value)),
+    }
+}
+
 /// What stands in the quotes of a value, or the whole where it is in none and needs none.
-fn without_quotes(written: &str) -> Option<&str> {
+fn without_quotes(written: &str) -> Option<&str>
+    ensures { IfSome result (λ inner. IsUnquoted written.now inner.now) }
+{
     match written.strip_prefix('"') {
         Some(quoted) => quoted.strip_suffix('"'),
         None if written.contains('"') || written.contains(',') => None,
@@ -60,32 +89,46 @@ fn without_quotes(written: &str) -> Option<&str> {
 
 /// What is written so with escapes. `None` where a quote has no backslash before it, or where the last
 /// backslash has nothing behind it.
-fn unescaped(alloc: Global, written: &str) -> Result<Option<String>, AllocError> {
+fn unescaped(alloc: Global, written: &str) -> Result<Option<String>, AllocError>
+    ensures { IfOk result (λ value. option_map string_bytes value ≡ unescaped false written.now) }
+{
     let mut value = String::new(alloc);
-    let mut is_escaped = false;
-    for character in written.chars() {
-        if is_escaped {
-            push_escaped(character, &mut value)?;
-            is_escaped = false;
-        } else if character == '\\' {
-            is_escaped = true;
-        } else if character == '"' {
+    let mut rest = written;
+    while let Some((plain, behind)) = rest.split_once('\\') {
+        if plain.contains('"') {
             return Ok(None);
-        } else {
-            value.push(character)?;
         }
+        if behind.is_empty() {
+            return Ok(None);
+        }
+        value.push_str(plain)?;
+        rest = push_escaped(behind, &mut value)?;
     }
-    Ok(if is_escaped { None } else { Some(value) })
+    if rest.contains('"') {
+        return Ok(None);
+    }
+    value.push_str(rest)?;
+    Ok(Some(value))
 }
 
-/// Adds what a backslash and this character stand for.
-fn push_escaped(character: char, value: &mut String) -> Result<(), AllocError> {
-    match character {
-        'n' => value.push('\n'),
-        '"' | '\\' => value.push(character),
-        _ => {
-            value.push('\\')?;
-            value.push(character)
-        }
+/// Adds what a backslash before this text stands for, with the character that it escapes; answers what is left.
+fn push_escaped<'t>(behind: &'t str, value: &mut String) -> Result<&'t str, AllocError>
+    requires { 0 < length behind.now }
+    ensures stands { IfOk result (λ rest. (added : List ℕ) × (string_bytes value.new ≡ string_bytes value.old ++ added)
+        × (unescaped true behind.now ≡ option_map (λ r. added ++ r) (unescaped false rest.now))) }
+    ensures less { IfOk result (λ rest. length rest.now ≤ length behind.now) }
+{
+    if let Some(rest) = behind.strip_prefix('n') {
+        value.push('\n')?;
+        return Ok(rest);
+    }
+    if let Some(rest) = behind.strip_prefix('"') {
+        value.push('"')?;
+        return Ok(rest);
+    }
+    value.push('\\')?;
+    match behind.strip_prefix('\\') {
+        Some(rest) => Ok(rest),
+        None => Ok(behind),
     }
 }

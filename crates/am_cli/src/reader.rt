@@ -7,8 +7,7 @@
 //! A type that is read (`FromJson`) has a relation `decodes_to` between a JSON value and itself,
 //! with a line for each field and its default. The reader of a list hands the relation of its items
 //! on. It is a relation and not a function: a reference to a text and a built pattern have no value
-//! to compute. In the strict dialect it says nothing of a matcher that is one text and of labels
-//! that are an object.
+//! to compute.
 ghost use Rattle.std.specs.Prelude.{◌≡◌, ◌<◌, ◌≤◌, [], Some, IfErr, IfOk, IfSome, MatchOption};
 ghost use Rattle.std.specs.Prelude.{find, is_ok, is_some, not, option_map, string_bytes, vec_len};
 ghost use Rattle.std.specs.BTreeMap.{keys};
@@ -19,6 +18,7 @@ ghost use Rattle.serde_json.specs.Find.{as_array, as_bool, as_null, as_object, a
 ghost use Rattle.serde_json.specs.Read.{read as read_text};
 ghost use Rattle.serde_json.specs.View.{items_view, members_view, view};
 ghost use Rattle.am_cli.specs.Read.{HasItems, IsRefusedBy, RefusesText, are_named, is_one_of, number_in};
+ghost use Rattle.am_cli.specs.Configured.{text_members};
 ghost use Rattle.am_cli.specs.Decoding.{Has, HasOr, IsList, IsText};
 
 use crate::fault::{FaultKind, InputFault, ParseFault};
@@ -363,7 +363,9 @@ impl<'v> Object<'v, '_> {
     }
 
     /// The names of the members with their texts, by name. `Kind` for a member that is none.
-    pub fn texts(&self) -> Result<Vec<(&'v str, &'v str)>, InputFault> {
+    pub fn texts(&self) -> Result<Vec<(&'v str, &'v str)>, InputFault>
+        ensures { IfOk result (λ texts. members_view self.now.members ≡ text_members texts.items) }
+    {
         let mut texts = Vec::new(self.alloc);
         for (name, value) in self.members.iter() {
             let member = self.member(name.as_str(), value);

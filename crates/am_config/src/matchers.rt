@@ -1,7 +1,7 @@
 //! Matchers of an `alertmanager.yml`. `route` and `inhibit` call it.
 use crate::faults::Faults;
 use crate::optional::non_null;
-use crate::scalar::text_of;
+use crate::scalar::matched_text_of;
 use am_alerts::limits::MAX_MATCHERS;
 use am_alerts::matcher::{Matcher, MatcherFault, MatcherParts, Operator};
 use am_alerts::text::Text;
@@ -118,7 +118,7 @@ fn matcher_of_pair(
     let parts = MatcherParts {
         name: Text::new(reader.alloc(), name)?,
         op,
-        value: text_of(reader, value)?,
+        value: matched_text_of(reader, value)?,
     };
     matcher_of(reader, parts)
 }

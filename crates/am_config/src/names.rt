@@ -1,81 +1,159 @@
 //! The names of routes, which Alertmanager doesn't name. `route` gives each one its receiver's
-//! name.
+//! name, with its path where several routes have the receiver.
+use crate::scalar::known_text;
+use am_alerts::limits::{MAX_DEPTH, MAX_ROUTES};
 use am_alerts::text::Text;
+use am_cli::fault::InputFault;
+use am_cli::reader::Object;
+use serde_json::Value;
 use std::alloc::{AllocError, Global};
 
 /// The names that routes have been given.
 #[derive(Drop)]
 pub(crate) struct RouteNames {
     given: Vec<Text>,
-    /// The receivers' names that were asked for, as label names, each with the number to try next.
-    bases: Vec<(Text, usize)>,
+    shared: SharedNames,
 }
 
 impl RouteNames {
-    /// The name of the root alone.
-    pub(crate) fn of_root(alloc: Global) -> Result<RouteNames, AllocError> {
+    /// The name of the root alone, and which receivers' names the routes of a file share.
+    pub(crate) fn of_file(top: &Object<'_, '_>) -> Result<RouteNames, InputFault> {
+        let alloc = top.alloc();
         let mut given = Vec::new(alloc);
         given.push(Text::new(alloc, "root")?)?;
-        Ok(RouteNames {
-            given,
-            bases: Vec::new(alloc),
-        })
+        let mut shared = SharedNames::of_root(alloc)?;
+        if let Some(root) = top.members().get("route") {
+            let receiver = receiver_of(alloc, root)?;
+            let above = receiver.as_ref().map_or("", Text::as_str);
+            shared.add_routes(alloc, root, above, MAX_DEPTH)?;
+        }
+        Ok(RouteNames { given, shared })
     }
 
-    /// Gives the name of a route with this receiver: the receiver's as a label name, and where a route
-    /// has that already, the first of it with `_2`, `_3`, .. that none has.
-    pub(crate) fn give(&mut self, alloc: Global, receiver: &str) -> Result<Text, AllocError> {
-        let name = self.free(alloc, receiver)?;
+    /// Gives the name of the route with this receiver at this path. It is the receiver's name as a label name. Where
+    /// several routes have that, the path is behind it: `team_at_3_0` is the route at `routes[3].routes[0]`. Where
+    /// another route has this name too, it is the first of it with `_2`, `_3`, .. that none has.
+    pub(crate) fn give(
+        &mut self,
+        alloc: Global,
+        receiver: &str,
+        path: &[usize],
+    ) -> Result<Text, AllocError> {
+        let mut name = label_name_of(alloc, receiver)?;
+        if self.shared.has(name.as_str()) {
+            push_path(&mut name, path)?;
+        }
+        let name = self.free(alloc, Text::from(name))?;
         self.given.push(name.copy(alloc)?)?;
         Ok(name)
     }
 
-    fn free(&mut self, alloc: Global, receiver: &str) -> Result<Text, AllocError> {
-        let base = Text::from(label_name_of(alloc, receiver)?);
-        let place = self.place_of(alloc, &base)?;
-        if !self.is_given(base.as_str()) {
-            return Ok(base);
+    fn free(&self, alloc: Global, wanted: Text) -> Result<Text, AllocError> {
+        if !self.is_given(wanted.as_str()) {
+            return Ok(wanted);
         }
-        // (each number is tried once for a base, since none is taken back)
-        let first = self.next_of(place);
-        for number in first..=first.saturating_add(self.given.len()) {
-            let name = numbered(alloc, &base, number)?;
+        for number in 2..=self.given.len().saturating_add(2) {
+            let name = numbered(alloc, &wanted, number)?;
             if !self.is_given(name.as_str()) {
-                self.set_next(place, number.saturating_add(1));
                 return Ok(name);
             }
         }
-        Ok(base)
-    }
-
-    /// Returns the place of a base among those that were asked for, behind which it is put if it is new.
-    fn place_of(&mut self, alloc: Global, base: &Text) -> Result<usize, AllocError> {
-        for (place, (known, _)) in self.bases.iter().enumerate() {
-            if known == base {
-                return Ok(place);
-            }
-        }
-        let place = self.bases.len();
-        self.bases.push((base.copy(alloc)?, 2))?;
-        Ok(place)
-    }
-
-    fn next_of(&self, place: usize) -> usize {
-        match self.bases.get(place) {
-            None => 2,
-            Some((_, next)) => *next,
-        }
-    }
-
-    fn set_next(&mut self, place: usize, number: usize) {
-        if let Some((_, next)) = self.bases.get_mut(place) {
-            *next = number;
-        }
+        Ok(wanted)
     }
 
     fn is_given(&self, name: &str) -> bool {
         self.given.iter().any(|given| given.as_str() == name)
     }
+}
+
+/// How many routes have a name.
+#[derive(Drop)]
+struct NameCount {
+    name: Text,
+    count: usize,
+}
+
+/// The names of the receivers of a file's routes as label names, and how many routes have each. They are those of the
+/// first 1,023 routes below the root: further ones aren't read.
+#[derive(Drop)]
+struct SharedNames {
+    counts: Vec<NameCount>,
+    /// How many routes were counted.
+    counted: usize,
+}
+
+impl SharedNames {
+    /// The root's name alone.
+    fn of_root(alloc: Global) -> Result<SharedNames, AllocError> {
+        let mut counts = Vec::new(alloc);
+        let name = Text::new(alloc, "root")?;
+        counts.push(NameCount { name, count: 1 })?;
+        Ok(SharedNames { counts, counted: 0 })
+    }
+
+    /// Whether several routes have a name.
+    fn has(&self, name: &str) -> bool {
+        self.counts
+            .iter()
+            .any(|known| known.count > 1 && known.name.as_str() == name)
+    }
+
+    /// Counts the routes below a route with this receiver, under which so many levels may be.
+    fn add_routes(
+        &mut self,
+        alloc: Global,
+        route: &Value,
+        receiver: &str,
+        levels: usize,
+    ) -> Result<(), AllocError> {
+        let Some(below) = levels.checked_sub(1) else {
+            return Ok(());
+        };
+        let Some(routes) = route.get("routes").and_then(Value::as_array) else {
+            return Ok(());
+        };
+        for route in routes {
+            if self.counted >= MAX_ROUTES {
+                return Ok(());
+            }
+            self.counted = self.counted.saturating_add(1);
+            let own = receiver_of(alloc, route)?;
+            let receiver = own.as_ref().map_or(receiver, Text::as_str);
+            self.add(alloc, receiver)?;
+            self.add_routes(alloc, route, receiver, below)?;
+        }
+        Ok(())
+    }
+
+    /// Counts a route with this receiver.
+    fn add(&mut self, alloc: Global, receiver: &str) -> Result<(), AllocError> {
+        let name = Text::from(label_name_of(alloc, receiver)?);
+        for known in self.counts.iter_mut() {
+            if known.name == name {
+                known.count = known.count.saturating_add(1);
+                return Ok(());
+            }
+        }
+        self.counts.push(NameCount { name, count: 1 })?;
+        Ok(())
+    }
+}
+
+/// The receiver that a route names, if it is known. The empty text names none.
+fn receiver_of(alloc: Global, route: &Value) -> Result<Option<Text>, AllocError> {
+    match route.get("receiver") {
+        None => Ok(None),
+        Some(value) => known_text(alloc, value),
+    }
+}
+
+/// Adds the places of a route and of those above it, each in its list.
+fn push_path(name: &mut String, path: &[usize]) -> Result<(), AllocError> {
+    name.push_str("_at")?;
+    for place in path {
+        write!(name, "_{place}")?;
+    }
+    Ok(())
 }
 
 /// A name with a number behind it.

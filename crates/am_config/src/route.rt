@@ -67,6 +67,8 @@ pub(crate) struct Routing<'h> {
     receivers: Option<Vec<Text>>,
     pub(crate) times: Times<'h>,
     names: RouteNames,
+    /// The places of the route that is read and of those above it, each in its list; the lowest one behind.
+    path: Vec<usize>,
     /// How many routes below the root were begun.
     begun: usize,
     /// Whether one wasn't, for want of capacity.
@@ -78,7 +80,8 @@ impl<'h> Routing<'h> {
         Ok(Routing {
             receivers: receiver_names(top)?,
             times,
-            names: RouteNames::of_root(top.alloc())?,
+            names: RouteNames::of_file(top)?,
+            path: Vec::new(top.alloc()),
             begun: 0,
             is_full: false,
         })
@@ -220,9 +223,11 @@ fn read_routes(
     for (index, value) in items.iter().enumerate() {
         let item = member.item(index, value);
         if routing.begins(faults, &item, levels)? {
+            routing.path.push(index)?;
             if let Some(node) = read_node(faults, routing, &item, receiver, levels - 1)? {
                 routes.push(node)?;
             }
+            let _ = routing.path.pop();
         }
     }
     Ok(routes)
@@ -249,7 +254,8 @@ fn read_node(
         None => Text::new(route.alloc(), above)?,
         Some(receiver) => receiver.copy(route.alloc())?,
     };
-    let name = routing.names.give(route.alloc(), receiver.as_str())?;
+    let path = routing.path.as_slice();
+    let name = routing.names.give(route.alloc(), receiver.as_str(), path)?;
     let routes = read_routes(faults, routing, &route, receiver.as_str(), levels)?;
     Ok(Some(Node {
         rule: RouteSpec {

@@ -3,7 +3,8 @@
 //! Its reader of YAML keeps such a scalar as the file has it, so that `7` is the text `7`. An integer
 //! of JSON is written in plain decimal digits, and the reader of YAML here gives an integer only for
 //! those. The text of other numbers and of flags isn't known any more (`True` is a flag too), so they
-//! are refused.
+//! are refused. In `match` and `match_re` the reader of YAML keeps each text itself; there a flag is
+//! one of JSON, which has one text.
 use crate::faults::Faults;
 use crate::optional::{non_null, required};
 use am_alerts::text::Text;
@@ -18,6 +19,25 @@ pub(crate) fn text_of(reader: &Reader<'_, '_>, value: &Value) -> Result<Text, In
         Some(digits) => Ok(Text::from(digits)),
         None => Ok(Text::new(reader.alloc(), reader.text()?)?),
     }
+}
+
+/// The text of this value of `match` or `match_re`, or `Kind` where it isn't known.
+pub(crate) fn matched_text_of(reader: &Reader<'_, '_>, value: &Value) -> Result<Text, InputFault> {
+    match value.as_bool() {
+        Some(true) => Ok(Text::new(reader.alloc(), "true")?),
+        Some(false) => Ok(Text::new(reader.alloc(), "false")?),
+        None => text_of(reader, value),
+    }
+}
+
+/// The text of this value, if it is known and isn't empty.
+pub(crate) fn known_text(alloc: Global, value: &Value) -> Result<Option<Text>, AllocError> {
+    let text = match (digits_of(alloc, value)?, value.as_str()) {
+        (Some(digits), _) => Text::from(digits),
+        (None, Some(text)) => Text::new(alloc, text)?,
+        (None, None) => return Ok(None),
+    };
+    Ok(Some(text).filter(|text| !text.as_str().is_empty()))
 }
 
 /// The digits of an integer, behind its sign.

@@ -11,13 +11,12 @@ ghost use Rattle.am_desk.specs.Known.{Observes};
 use crate::desk::Desk;
 use crate::name::Name;
 use crate::pass::Pass;
-use am_board::fault::{FinishFault, ReportFault};
+use am_board::fault::{FinishFault, NotOpen, ReportFault};
 use am_board::notice::Report;
 use am_board::record::Finished;
 use am_board::ticket::Ticket;
 use std::marker::{Model, PhantomData};
 use std::sync::Wait;
-use thiserror::Error;
 
 /// A ticket of this desk. Contracts see the ticket.
 ///
@@ -27,11 +26,6 @@ pub struct OwnTicket<N: Name> {
     ticket: Ticket,
     of: PhantomData<N>,
 }
-
-/// The fault that no open flush has the ticket's number. The ticket is spent.
-#[derive(Clone, Copy, Debug, PartialEq, Eq, Error)]
-#[error("no open flush has the ticket's number")]
-pub struct NotOpen;
 
 impl<N: Name> Model for OwnTicket<N> {
     ghost use Rattle.std.specs.Prelude.{◌≡◌};

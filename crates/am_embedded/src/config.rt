@@ -7,34 +7,62 @@ use std::alloc::{AllocError, Global};
 
 /// One route, which groups by alertname and waits 30s, 5m and 4h, and one receiver with `page/0`.
 pub fn base(alloc: Global) -> Result<Config, AllocError> {
-    let mut grouping = Vec::new(alloc);
-    grouping.push(Text::new(alloc, "alertname")?)?;
-    let root = Route {
-        name: Text::new(alloc, "root")?,
-        receiver: Text::new(alloc, "team")?,
-        group_by: GroupBy::Names(Sequence::from(grouping)),
-        group_wait: 30_000,
-        group_interval: 300_000,
-        repeat_interval: 14_400_000,
-    };
-    let Ok(routes) = Routes::new(root, Vec::new(alloc)) else {
-        return Err(AllocError);
-    };
-    let mut integrations = Vec::new(alloc);
-    integrations.push(Integration {
-        kind: Text::new(alloc, "page")?,
-        send_resolved: true,
-    })?;
-    let mut receivers = Vec::new(alloc);
-    receivers.push(Receiver {
-        name: Text::new(alloc, "team")?,
-        integrations: Sequence::from(integrations),
-    })?;
+    let receivers = receivers(alloc)?;
     Ok(Config {
-        routes,
-        receivers: Sequence::from(receivers),
+        routes: routes(alloc)?,
+        receivers,
         rules: Sequence::empty(alloc),
         retention: 432_000_000,
         limits: Limits::default(),
     })
+}
+
+fn routes(alloc: Global) -> Result<Routes, AllocError> {
+    match Routes::new(root(alloc)?, Vec::new(alloc)) {
+        Ok(routes) => Ok(routes),
+        Err(_) => Err(AllocError),
+    }
+}
+
+fn root(alloc: Global) -> Result<Route, AllocError> {
+    let name = Text::new(alloc, "root")?;
+    let receiver = Text::new(alloc, "team")?;
+    Ok(Route {
+        name,
+        receiver,
+        group_by: GroupBy::Names(grouping(alloc)?),
+        group_wait: 30_000,
+        group_interval: 300_000,
+        repeat_interval: 14_400_000,
+    })
+}
+
+fn grouping(alloc: Global) -> Result<Sequence<Text>, AllocError> {
+    let name = Text::new(alloc, "alertname")?;
+    listed(alloc, name)
+}
+
+fn receivers(alloc: Global) -> Result<Sequence<Receiver>, AllocError> {
+    let integrations = integrations(alloc)?;
+    let name = Text::new(alloc, "team")?;
+    listed(alloc, Receiver { name, integrations })
+}
+
+fn integrations(alloc: Global) -> Result<Sequence<Integration>, AllocError> {
+    let kind = Text::new(alloc, "page")?;
+    let send_resolved = true;
+    listed(
+        alloc,
+        Integration {
+            kind,
+            send_resolved,
+        },
+    )
+}
+
+/// Returns a list of one value.
+fn listed<T: Drop>(alloc: Global, value: T) -> Result<Sequence<T>, AllocError> {
+    let mut list = Vec::new(alloc);
+    list.push(value)?;
+    Ok(Sequence::from(list))
 }

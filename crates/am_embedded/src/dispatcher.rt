@@ -9,10 +9,10 @@ use am_alerts::limits::MAX_MOMENT;
 use am_board::begin::Begun;
 use am_board::board::Board;
 use am_board::config::{Config, MAX_FLUSHES};
-use am_board::fault::{BoardFault, Fault, FinishFault};
+use am_board::fault::{BoardFault, Fault};
 use am_board::notice::{Notice, Report};
+use am_board::own_ticket::OwnTicket;
 use am_board::record::Inserted;
-use am_board::ticket::Ticket;
 use am_board::views::Summary;
 use am_pool::{Courier, Job, PoolFault, run_jobs};
 use std::alloc::{AllocError, Global};
@@ -30,12 +30,6 @@ const PASS: u32 = 0;
 pub struct Dispatcher {
     board: Board,
     ghost ours: { board.id ≡ HOME },
-}
-
-/// A ticket that the board gave.
-struct OwnTicket {
-    ticket: Ticket,
-    ghost ours: { ticket.desk ≡ HOME },
 }
 
 /// What a round of flushes did.
@@ -109,7 +103,7 @@ impl Dispatcher {
         &mut self,
         alloc: Global,
         now: u64,
-        open: &mut Vec<OwnTicket>,
+        open: &mut Vec<OwnTicket<HOME>>,
         round: &mut Round,
     ) -> Result<(), Fault> {
         for _ in 0..MAX_FLUSHES {
@@ -118,7 +112,7 @@ impl Dispatcher {
             match self.board.begin(alloc, PASS, now) {
                 Ok(Begun::Flush(ticket)) => {
                     round.flushed = round.flushed.saturating_add(1);
-                    open.push_reserved(OwnTicket { ticket });
+                    open.push_reserved(OwnTicket::new(ticket));
                 }
                 Ok(
                     Begun::Quiet {
@@ -135,14 +129,12 @@ impl Dispatcher {
     }
 
     /// Finishes the flushes, at the time when the last sending was over.
-    fn finish_all(&mut self, open: Vec<OwnTicket>, round: &mut Round) {
+    fn finish_all(&mut self, open: Vec<OwnTicket<HOME>>, round: &mut Round) {
         let mut left = open;
         while !left.is_empty() {
-            let OwnTicket { ticket } = left.remove(0);
-            match self.board.finish(PASS, ticket, round.ended) {
+            match self.board.finish_own(PASS, left.remove(0), round.ended) {
                 Ok(finished) => round.logged = round.logged.saturating_add(finished.logged),
-                Err(FinishFault::NotOpen) => {}
-                Err(FinishFault::Foreign(_ticket)) => unreachable!(),
+                Err(_not_open) => {}
             }
         }
         left.destroy_empty();
@@ -159,7 +151,7 @@ fn send_all<R: Threads + Wait + Sync, C: Courier + Send>(
     rt: &R,
     alloc: Global,
     couriers: &mut [C],
-    open: &mut Vec<OwnTicket>,
+    open: &mut Vec<OwnTicket<HOME>>,
     round: &mut Round,
 ) -> Result<(), PoolFault> {
     let start = round.ended.min(MAX_MOMENT);
@@ -175,7 +167,7 @@ fn send<R: Threads + Wait + Sync, C: Courier + Send>(
     rt: &R,
     alloc: Global,
     couriers: &mut [C],
-    open: &[OwnTicket],
+    open: &[OwnTicket<HOME>],
     start: u64,
 ) -> Result<Vec<Report>, PoolFault>
     requires { start ≤ MAX_MOMENT }
@@ -185,13 +177,17 @@ fn send<R: Threads + Wait + Sync, C: Courier + Send>(
 }
 
 /// Returns the notices that have something to send, each to be sent from this time on.
-fn jobs_of<'t>(alloc: Global, open: &'t [OwnTicket], start: u64) -> Result<Vec<Job<'t>>, AllocError>
+fn jobs_of<'t>(
+    alloc: Global,
+    open: &'t [OwnTicket<HOME>],
+    start: u64,
+) -> Result<Vec<Job<'t>>, AllocError>
     requires { start ≤ MAX_MOMENT }
     ensures { IfOk result (λ jobs. All IsReady jobs.items) }
 {
     let mut jobs = Vec::new(alloc);
     for own in open {
-        add_jobs(own.ticket.notices(), start, &mut jobs)?;
+        add_jobs(own.ticket().notices(), start, &mut jobs)?;
     }
     Ok(jobs)
 }
@@ -214,10 +210,10 @@ fn add_jobs<'t>(
 }
 
 /// Records a report in its ticket. A report that is refused counts as not delivered.
-fn record(open: &mut Vec<OwnTicket>, report: Report) {
+fn record(open: &mut Vec<OwnTicket<HOME>>, report: Report) {
     for own in open.iter_mut() {
-        if own.ticket.number() == report.ticket {
-            let _ = own.ticket.record(report);
+        if own.ticket().number() == report.ticket {
+            let _ = own.record(report);
         }
     }
 }

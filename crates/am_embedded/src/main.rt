@@ -75,9 +75,16 @@ fn main(rt: HostRuntime) -> ExitCode {
 
 fn run<R: Threads + Wait + Sync + Print + AllocGlobal>(rt: &R) -> Result<(), Trouble> {
     let mut dispatcher = Dispatcher::open(rt.alloc(), base(rt.alloc())?)?;
-    insert(&mut dispatcher, rt.alloc(), "A", 0)?;
-    insert(&mut dispatcher, rt.alloc(), "B", 20_000)?;
-    make_rounds(rt, &mut dispatcher, 20_000)?;
+    run_on(rt, &mut dispatcher)
+}
+
+fn run_on<R: Threads + Wait + Sync + Print + AllocGlobal>(
+    rt: &R,
+    dispatcher: &mut Dispatcher,
+) -> Result<(), Trouble> {
+    insert(dispatcher, rt.alloc(), "A", 0)?;
+    insert(dispatcher, rt.alloc(), "B", 20_000)?;
+    make_rounds(rt, dispatcher, 20_000)?;
     let entries = dispatcher.summary().entries;
     print(println!(rt; "entries {entries}"))
 }
@@ -101,12 +108,22 @@ fn make_rounds<R: Threads + Wait + Sync + Print + AllocGlobal>(
     for _ in 0..ROUNDS {
         if let Some(due) = dispatcher.next_due() {
             now = due.max(now);
-            let round = dispatcher.send_due(rt, rt.alloc(), &mut couriers, now)?;
-            let (flushed, quiet, logged) = (round.flushed, round.quiet, round.logged);
-            print(println!(rt; "{now}: flushed {flushed}, quiet {quiet}, logged {logged}"))?;
+            make_round(rt, dispatcher, &mut couriers, now)?;
         }
     }
     Ok(())
+}
+
+/// Makes a round, and prints what it did.
+fn make_round<R: Threads + Wait + Sync + Print + AllocGlobal>(
+    rt: &R,
+    dispatcher: &mut Dispatcher,
+    couriers: &mut [Pager],
+    now: u64,
+) -> Result<(), Trouble> {
+    let round = dispatcher.send_due(rt, rt.alloc(), couriers, now)?;
+    let (flushed, quiet, logged) = (round.flushed, round.quiet, round.logged);
+    print(println!(rt; "{now}: flushed {flushed}, quiet {quiet}, logged {logged}"))
 }
 
 fn print(printed: io::Result<()>) -> Result<(), Trouble> {

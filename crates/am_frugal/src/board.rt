@@ -3,13 +3,14 @@ ghost use Rattle.std.specs.Prelude.{◌≡◌};
 ghost use Rattle.am_frugal.specs.declared.board.TheConstants.{HOME};
 
 use crate::probe::Probe;
-use crate::ticket::OwnTicket;
+use crate::ticket;
 use crate::values::{alert, config};
 use am_alerts::alert::Alert;
 use am_board::begin::Begun;
 use am_board::board::Board;
 use am_board::config::Config;
 use am_board::fault::{BoardFault, FinishFault};
+use am_board::own_ticket::OwnTicket;
 use std::alloc::{AllocError, Global};
 
 /// The id of the board, which its tickets name.
@@ -78,7 +79,7 @@ impl Desk {
     fn flush(&mut self, probe: &Probe, alloc: Global, now: u64) -> Result<(), AllocError> {
         match self.begin(probe, alloc, now) {
             Some(mut own) => {
-                own.make_calls(probe);
+                ticket::make_calls(&mut own, probe);
                 self.finish(probe, own, now);
                 Ok(())
             }
@@ -86,12 +87,12 @@ impl Desk {
         }
     }
 
-    fn begin(&mut self, probe: &Probe, alloc: Global, now: u64) -> Option<OwnTicket> {
+    fn begin(&mut self, probe: &Probe, alloc: Global, now: u64) -> Option<OwnTicket<HOME>> {
         probe.ask("with memory: Board::begin");
         let begun = self.board.begin(alloc, PASS, now);
         probe.tell(&begun.is_ok());
         match begun {
-            Ok(Begun::Flush(ticket)) => Some(OwnTicket { ticket }),
+            Ok(Begun::Flush(ticket)) => Some(OwnTicket::new(ticket)),
             Ok(
                 Begun::Quiet {
                     group: _,
@@ -103,13 +104,11 @@ impl Desk {
         }
     }
 
-    fn finish(&mut self, probe: &Probe, own: OwnTicket, now: u64) {
-        let OwnTicket { ticket } = own;
+    fn finish(&mut self, probe: &Probe, own: OwnTicket<HOME>, now: u64) {
         probe.ask("Board::finish");
-        match self.board.finish(PASS, ticket, now) {
+        match self.board.finish_own(PASS, own, now) {
             Ok(finished) => probe.tell(&finished),
-            Err(FinishFault::NotOpen) => probe.tell(&"NotOpen"),
-            Err(FinishFault::Foreign(_ticket)) => unreachable!(),
+            Err(_not_open) => probe.tell(&"NotOpen"),
         }
     }
 
@@ -139,7 +138,7 @@ fn finish_elsewhere(
     probe: &Probe,
     abroad: &mut Board,
     namesake: &mut Desk,
-    own: OwnTicket,
+    own: OwnTicket<HOME>,
     now: u64,
 ) {
     if let Some(own) = finish_abroad(probe, abroad, own, now) {
@@ -147,8 +146,13 @@ fn finish_elsewhere(
     }
 }
 
-fn finish_abroad(probe: &Probe, abroad: &mut Board, own: OwnTicket, now: u64) -> Option<OwnTicket> {
-    let OwnTicket { ticket } = own;
+fn finish_abroad(
+    probe: &Probe,
+    abroad: &mut Board,
+    own: OwnTicket<HOME>,
+    now: u64,
+) -> Option<OwnTicket<HOME>> {
+    let ticket = own.into_ticket();
     probe.ask("Board::finish, of a ticket of another board");
     match abroad.finish(PASS, ticket, now) {
         Ok(finished) => {
@@ -161,7 +165,7 @@ fn finish_abroad(probe: &Probe, abroad: &mut Board, own: OwnTicket, now: u64) ->
         }
         Err(FinishFault::Foreign(ticket)) => {
             probe.tell(&"Foreign");
-            Some(OwnTicket { ticket })
+            Some(OwnTicket::new(ticket))
         }
     }
 }

@@ -1,1 +1,2 @@
+-- steps that the walks of `src/trail.rt` share
 pub mod Walks

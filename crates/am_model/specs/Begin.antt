@@ -1,4 +1,4 @@
--- Begin: a flush of the group that was due first (Alertmanager's aggrGroup.run and flush, with its MuteStages, its time stages and DedupStage).
+-- Begin: a flush of the group that was due first (Alertmanager's aggrGroup.run and flush, with its stages of muting, times and DedupStage).
 use Rattle.std.specs.Prelude.{ℕ, ◌+◌, max, Bool, true, false, not, ◌&&◌, nat_le, List, [], ◌∷◌, ◌++◌, map, filter, find, count_by, Option}
 use Rattle.std.specs.Prelude.{Some, None, ◌==◌, if◌then◌else◌}
 use Rattle.std.specs.Option.{option_map}

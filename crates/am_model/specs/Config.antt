@@ -1,5 +1,5 @@
 -- Config: which configurations are valid, and the first fault of one that isn't.
-use Rattle.std.specs.Prelude.{ℕ, ◌≤◌, Bool, not, ◌&&◌, ◌||◌, ◌==◌, nat_lt, nat_le, List, [], ◌++◌, length, map, codes, decimal, Option}
+use Rattle.std.specs.Prelude.{ℕ, ◌≤◌, Bool, not, ◌&&◌, ◌||◌, ◌==◌, nat_lt, nat_le, List, [], length, map, Option}
 use Rattle.std.specs.Prelude.{Some, None, slice_get, unwrap_or, if◌then◌else◌}
 use Rattle.std.specs.List.{list_all, list_any}
 use Rattle.std.specs.Option.{option_map, option_or}
@@ -90,7 +90,3 @@ config_fault config = option_or (receivers_fault config) (bounds_fault config)
 -- the kind of the integration at a position; none at a position that isn't there
 abbrev pub kind_at : List Integration → ℕ → List ℕ
 kind_at integrations position = unwrap_or (option_map (λ i. i.kind) (slice_get integrations position)) []
-
--- the text of an integration: its kind, `/` and its position
-abbrev pub integration_text : Receiver → ℕ → List ℕ
-integration_text r position = kind_at r.integrations position ++ codes "/" ++ decimal position

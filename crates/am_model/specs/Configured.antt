@@ -1,11 +1,12 @@
 -- Configured: a group's route, receiver and integrations in a configuration.
-use Rattle.std.specs.Prelude.{ℕ, ◌+◌, ◌*◌, ◌≤◌, min, All, List, [], ◌∷◌, length, Option, if◌then◌else◌}
+use Rattle.std.specs.Prelude.{ℕ, ◌+◌, ◌*◌, ◌≤◌, min, codes, decimal, All, List, [], ◌∷◌, ◌++◌, length, Option, if◌then◌else◌}
 use Rattle.std.specs.List.{enumerate_from}
 use Rattle.std.specs.Str.{bytes_eq}
 use Rattle.am_alerts.specs.RoutingTree.{route_at}
 use Rattle.am_alerts.specs.Spans.{shut_at, shut_until}
 use Rattle.am_alerts.specs.declared.route.Route.{Route}
 use Rattle.am_mute.specs.Inhibit.{RuleData}
+use Rattle.am_model.specs.Config.{kind_at}
 use Rattle.am_model.specs.declared.config.Config.{Config}
 use Rattle.am_model.specs.declared.config.Integration.{Integration}
 use Rattle.am_model.specs.declared.config.Receiver.{Receiver}
@@ -36,6 +37,11 @@ HaveFewIntegrations config = All (λ r. length r.integrations ≤ MAX_INTEGRATIO
 -- the integrations of a group's receiver, each with its position
 abbrev pub integrations_of : Config → GroupName → List (ℕ × Integration)
 integrations_of config name = enumerate_from 0 (integrations_named (route_of config name).receiver config.receivers)
+
+-- an integration of a group's receiver: its kind, `/` and its position
+abbrev pub integration_text : Config → GroupName → ℕ → List ℕ
+integration_text config name position =
+    kind_at (integrations_named (route_of config name).receiver config.receivers) position ++ codes "/" ++ decimal position
 
 -- the expiry of a log row of a group at t: twice the repeat interval later, or the retention if that is less (Alertmanager's
 -- SetNotifiesStage)

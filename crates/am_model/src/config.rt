@@ -1,6 +1,6 @@
 //! The configuration of a dispatcher: receivers, rules, limits. Embedders and readers of JSON make
 //! one, and `Board::new` checks it.
-ghost use Rattle.std.specs.Prelude.{◌≡◌, ◌≤◌, ◌↔◌, length, IfOk, IsTrue, OnOk, find, string_bytes};
+ghost use Rattle.std.specs.Prelude.{◌≡◌, ◌≤◌, ◌↔◌, ◌++◌, length, IsTrue, OnOk, find, string_bytes};
 ghost use Rattle.std.specs.List.{list_all, list_any};
 ghost use Rattle.std.specs.Option.{option_copied};
 ghost use Rattle.std.specs.Str.{bytes_eq};
@@ -8,8 +8,8 @@ ghost use Rattle.am_alerts.specs.Fault.{ok_unless};
 ghost use Rattle.am_alerts.specs.RoutingTree.{last_of};
 ghost use Rattle.am_model.specs.Config.{AreAllowed, IsWithin, is_within, are_allowed, has_receiver, has_receivers, has_receiver_twice};
 ghost use Rattle.am_model.specs.Config.{has_many_integrations, has_good_kinds, greatest_limits, receivers_fault, bounds_fault};
-ghost use Rattle.am_model.specs.Config.{config_fault, kind_at, integration_text};
-ghost use Rattle.am_model.specs.Configured.{route_of, route_muted, integrations_named};
+ghost use Rattle.am_model.specs.Config.{config_fault, kind_at};
+ghost use Rattle.am_model.specs.Configured.{route_of, route_muted, integrations_named, integration_text};
 
 use crate::group::GroupName;
 use am_alerts::labels::is_label_name;
@@ -121,23 +121,13 @@ pub enum ConfigFault {
     BadLimit = 8,
 }
 
-impl Receiver {
-    /// Returns the text of an integration: its kind, `/` and its position.
-    pub fn integration_text(&self, alloc: Global, position: u32) -> Result<String, AllocError>
-        ensures { IfOk result (λ text. string_bytes text ≡ integration_text self.now position) }
-    {
-        let kind = self.kind_at(position);
-        format!(in alloc; "{kind}/{position}")
-    }
-
-    /// The kind of the integration at a position; nothing at a position that isn't there.
-    fn kind_at(&self, position: u32) -> &str
-        ensures { result.now ≡ kind_at self.now.integrations position }
-    {
-        match self.integrations.as_slice().get(position as usize) {
-            None => "",
-            Some(integration) => integration.kind.as_str(),
-        }
+/// Returns the kind of the integration at a position, or the empty text where there is none.
+pub fn kind_at(integrations: &[Integration], position: usize) -> &str
+    ensures { result.now ≡ kind_at integrations.now position }
+{
+    match integrations.get(position) {
+        None => "",
+        Some(integration) => integration.kind.as_str(),
     }
 }
 
@@ -186,6 +176,21 @@ impl Config {
             None => &[],
             Some(receiver) => receiver.integrations.as_slice(),
         }
+    }
+
+    /// Adds an integration of a group's receiver: its kind, `/` and its position.
+    pub fn push_integration(
+        &self,
+        group: &GroupName,
+        position: usize,
+        out: &mut String,
+    ) -> Result<(), AllocError>
+        ensures { OnOk result (string_bytes out.new
+            ≡ string_bytes out.old ++ integration_text self.now group.now position) }
+    {
+        out.push_str(kind_at(self.integrations_of(group), position))?;
+        out.push_str("/")?;
+        write!(out, "{position}")
     }
 
     /// Returns whether a dispatcher can have this configuration. Never allocates.

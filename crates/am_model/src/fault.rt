@@ -83,6 +83,11 @@ pub enum ReportFault {
     Twice = 2,
 }
 
+/// Why an own ticket isn't finished: no open flush has its number. The ticket is spent.
+#[derive(Clone, Copy, Debug, PartialEq, Eq, Error)]
+#[error("no open flush has the ticket's number")]
+pub struct NotOpen;
+
 impl BoardFault {
     /// Returns the number of this fault: 1 or 2.
     pub fn number(&self) -> u8

@@ -1,6 +1,6 @@
 -- A silence that asks for a label mutes only label sets that have it, so that it is found by one of their labels.
 use Rattle.std.proofs.Common.{◌≡◌, ℕ, suc, ◌<◌, Bool, true, false, true≢false, cond, ◌||◌, List, [], ◌∷◌, length, get_or, take, drop, ◌-◌}
-use Rattle.std.proofs.Common.{find, unwrap_or, Option, Some, None, option_map, is_some, refl, sym, ap, ◌∙◌, subst, arith}
+use Rattle.std.proofs.Common.{find, unwrap_or, Option, Some, None, option_map, is_some, inl, inr, ◌⊎◌, refl, sym, ap, ◌∙◌, subst, arith}
 use Rattle.std.specs.Prelude.{nat_lt}
 use Rattle.std.specs.List.{list_all, list_any}
 use Rattle.std.specs.Str.{bytes_eq}
@@ -123,6 +123,38 @@ rest_compares silences n all =
     ∙ (and_parts (list_all compare (take n silences)) (list_all compare (drop n silences))
     (sym (list_all-append compare (take n silences) (drop n silences)) ∙ (ap (list_all compare) (take-append-drop n silences) ∙ all))).1
 
+-- ---- where a silence stands
+
+-- a place under one of the first n labels
+pub record IsUnder (index : SilenceIndex) (labels : List Label) (n place : ℕ) : Type 0 where
+  pub label_place : ℕ
+  pub label : Label
+  pub at : IsAt labels label_place label
+  pub less : label_place < n
+  pub has : HasPlace index (label_hash label.name label.value) place
+
+-- a silence that was indexed is under one of the labels that it matches, or asks for none
+pub its_place : (silences : List SilenceData) (index : SilenceIndex) → IsIndexed silences index → (labels : List Label)
+    → (i : ℕ) (s : SilenceData) → IsAt silences i s → i < index.indexed → match_all s.matchers labels ≡ true
+    → IsUnder index labels (length labels) i ⊎ HasPlace index NO_LABEL i
+its_place silences index indexed labels i s at less matched =
+    elim (find asks_label s.matchers) as (λ o. find asks_label s.matchers ≡ o
+    → IsUnder index labels (length labels) i ⊎ HasPlace index NO_LABEL i) [
+      | None ↦ λ e. inr (subst (λ k. HasPlace index k i) (ap key_by e) (indexed.found i s at less))
+      | Some m ↦ λ e.
+          let both = found_both asks_label (λ (x : MatcherParts). matches_parts x labels) s.matchers m matched e in
+          let has = asked m labels both.0 both.1 in
+          let key : key_of s.matchers ≡ label_hash has.label.name has.label.value =
+          ap key_by e ∙ (λ j. label_hash (sym has.name_is j) (sym has.value_is j)) in
+          inl (record {
+            label_place = has.place;
+            label = has.label;
+            at = has.at;
+            less = has.at.0;
+            has = subst (λ k. HasPlace index k i) key (indexed.found i s at less);
+          })
+    ] refl
+
 -- ---- what the look-ups tell of all silences
 
 module _ (silences : List SilenceData) (index : SilenceIndex) (indexed : IsIndexed silences index) (labels : List Label) (t : ℕ)
@@ -132,15 +164,10 @@ module _ (silences : List SilenceData) (index : SilenceIndex) (indexed : IsIndex
   found_by : (i : ℕ) (s : SilenceData) → IsAt silences i s → i < index.indexed → match_all s.matchers labels ≡ true
       → silence_mutes s t labels ≡ false
   found_by i s at less matched =
-      elim (find asks_label s.matchers) as (λ o. find asks_label s.matchers ≡ o → silence_mutes s t labels ≡ false) [
-        | None ↦ λ e. others i s (subst (λ k. HasPlace index k i) (ap key_by e) (indexed.found i s at less)) at
-        | Some m ↦ λ e.
-            let both = found_both asks_label (λ (x : MatcherParts). matches_parts x labels) s.matchers m matched e in
-            let has = asked m labels both.0 both.1 in
-            let key : key_of s.matchers ≡ label_hash has.label.name has.label.value =
-            ap key_by e ∙ (λ j. label_hash (sym has.name_is j) (sym has.value_is j)) in
-            by_label has.place has.label has.at i s (subst (λ k. HasPlace index k i) key (indexed.found i s at less)) at
-      ] refl
+      elim (its_place silences index indexed labels i s at less matched) [
+        | inl under ↦ by_label under.label_place under.label under.at i s under.has at
+        | inr none ↦ others i s none at
+      ]
 
   none_mutes : (i : ℕ) (s : SilenceData) → IsAt silences i s → i < index.indexed → silence_mutes s t labels ≡ false
   none_mutes i s at less =

@@ -8,7 +8,7 @@ use Rattle.std.specs.Ordering.{MatchOrdering, is_eq, is_gt, is_le, nat_cmp, orde
 use Rattle.std.specs.declared.cmp.Ordering.{Ordering}
 use Rattle.std.specs.declared.cmp.Ordering.TheVariants.{Less, Equal, Greater}
 use Rattle.std.proofs.lemmas.Cmp.{ranked}
-use Rattle.std.proofs.lemmas.List.{get_or_default}
+use Rattle.std.proofs.lemmas.List.{get_or_default, take_all}
 use Rattle.std.proofs.lemmas.List.Elements.{All-head, All-tail}
 use Rattle.std.proofs.lemmas.Map.Keys.{sorted_tail}
 use Rattle.am_alerts.proofs.Finding.{find_here}
@@ -95,6 +95,12 @@ module _ (number hash : ℕ) where
       ap is_gt (sym (after_tie (nat_cmp k.rule number) _ tie_too)) ∙ high in
       (rule, between hash k.hash _ _ low_hash high_hash)
 
+  -- a key of the bucket that is before the key at a place has a place below it
+  pub place_below : (j : ℕ) (k : SourceKey) → IsOfBucket k → key_cmp k (at_place j) ≡ Less → k.place < j
+  place_below j k of less =
+      let after : nat_cmp k.place j ≡ Less = sym (by_place k.place j) ∙ (ap (λ q. key_cmp q (at_place j)) (sym (its k of)) ∙ less) in
+      less_number (nat_cmp k.place j) k.place j (ranked k.place j (nat_cmp k.place j) refl) after
+
   low : (o : Ordering) (i : ℕ) → MatchOrdering o (0 < i) (0 ≡ i) (i < 0) → is_le o ≡ true
   low Less i h = refl
   low Equal i h = refl
@@ -158,24 +164,26 @@ next_or_behind k keys sorted q h =
 
 -- ---- the walk, where these keys of the bucket are left
 
-module _ {X : Type 0} (test : X → Bool) (xs : List X) (n number hash : ℕ) where
-  -- each of the first elements that passes has its key among them
+module _ {X : Type 0} (test : X → Bool) (xs : List X) (number hash : ℕ) where
+  -- each element that passes has its key among them
   abbrev pub IsAhead : List SourceKey → Type 0
-  IsAhead keys = (i : ℕ) (x : X) → IsAt xs i x → i < n → test x ≡ true → has_key keys (at_place number hash i) ≡ true
+  IsAhead keys = (i : ℕ) (x : X) → IsAt xs i x → test x ≡ true → has_key keys (at_place number hash i) ≡ true
 
-  -- a key of the bucket, of one of the first elements or the next
+  -- a key of the bucket, of one of the elements
   abbrev pub IsNear : SourceKey → Type 0
-  IsNear k = IsOfBucket number hash k × (k.place < length xs) × (k.place ≤ n)
+  IsNear k = IsOfBucket number hash k × (k.place < length xs)
 
-  -- these keys are left: they are in order, and each of the first elements that passes has its own among them
+  -- these keys are left: they are in order, and each element that passes has its own among them
   pub record AreLeft (keys : List SourceKey) : Type 0 where
     pub sorted : IsStrictlySortedBy key_cmp keys
     pub near : All IsNear keys
     pub ahead : IsAhead keys
 
   -- all keys were passed
-  pub walk_ends : AreLeft [] → find test (take n xs) ≡ None
-  walk_ends left = none_before test xs n (λ j y at less. not_true (test y) (λ passes. true≢false (sym (left.ahead j y at less passes))))
+  pub walk_ends : AreLeft [] → find test xs ≡ None
+  walk_ends left =
+      sym (ap (find test) (take_all (length xs) xs (omega arith)))
+      ∙ none_before test xs (length xs) (λ j y at less. not_true (test y) (λ passes. true≢false (sym (left.ahead j y at passes))))
 
   module _ (k : SourceKey) (keys : List SourceKey) (x : X) (here : x ≡ get_or xs k.place x) (left : AreLeft (k ∷ keys)) where
     near : IsNear k
@@ -186,7 +194,7 @@ module _ {X : Type 0} (test : X → Bool) (xs : List X) (n number hash : ℕ) wh
     walk_passes fails = record { sorted = sorted_tail key_cmp k keys left.sorted; near = All-tail IsNear k keys left.near; ahead = ahead }
       where
         ahead : IsAhead keys
-        ahead i y at less passes =
+        ahead i y at passes =
             elim (is_eq (key_cmp (at_place number hash i) k)) as
             (λ b. is_eq (key_cmp (at_place number hash i) k) ≡ b → (b || has_key keys (at_place number hash i)) ≡ true
             → has_key keys (at_place number hash i) ≡ true) [
@@ -195,7 +203,7 @@ module _ {X : Type 0} (test : X → Bool) (xs : List X) (n number hash : ℕ) wh
                   let same : y ≡ x = at.1 ∙ (ap (λ j. get_or xs j y) place ∙ (get_or_default xs k.place y x near.1 ∙ sym here)) in
                   absurd (true≢false (sym passes ∙ (ap test same ∙ fails)))
               | false ↦ λ tied there. there
-            ] refl (left.ahead i y at less passes)
+            ] refl (left.ahead i y at passes)
 
     -- the element of the next key passes
     pub walk_takes : test x ≡ true → find test xs ≡ Some x
@@ -204,11 +212,9 @@ module _ {X : Type 0} (test : X → Bool) (xs : List X) (n number hash : ℕ) wh
         before : (j : ℕ) (y : X) → IsAt xs j y → j < k.place → test y ≡ false
         before j y at less =
             not_true (test y) (λ passes_too.
-            elim (next_or_behind k keys left.sorted (at_place number hash j) (left.ahead j y at (omega (arith, less, near.2)) passes_too)) [
+            elim (next_or_behind k keys left.sorted (at_place number hash j) (left.ahead j y at passes_too)) [
               | inl e ↦ let place : j ≡ k.place = ap (λ (q : SourceKey). q.place) e in omega (arith, place, less)
               | inr e ↦
-                  let after : nat_cmp k.place j ≡ Less = sym (by_place number hash k.place j)
-                  ∙ (ap (λ q. key_cmp q (at_place number hash j)) (sym (its number hash k near.0)) ∙ e) in
-                  let up : k.place < j = less_number (nat_cmp k.place j) k.place j (ranked k.place j (nat_cmp k.place j) refl) after in
+                  let up : k.place < j = place_below number hash j k near.0 e in
                   omega (arith, up, less)
             ])

@@ -1,6 +1,6 @@
 -- The keys of one bucket of an index: each source for a target has its own among them.
-use Rattle.std.proofs.Common.{◌≡◌, ℕ, ◌<◌, true, true≢false, not, ◌&&◌, List, [], ◌∷◌, length, filter, fold, get_or, unwrap_or, Option}
-use Rattle.std.proofs.Common.{Some, None, refl, sym, ap, ◌∙◌, subst}
+use Rattle.std.proofs.Common.{◌≡◌, ℕ, ◌<◌, Bool, true, false, true≢false, cond, not, ◌&&◌, List, [], ◌∷◌, length, filter, fold, get_or}
+use Rattle.std.proofs.Common.{take, unwrap_or, Option, Some, None, refl, sym, ap, ◌∙◌, subst, arith}
 use Rattle.std.specs.Prelude.{All, IsTrue}
 use Rattle.std.specs.List.Sorted.{IsStrictlySortedBy}
 use Rattle.std.specs.BTreeMap.Range.{range_contains, IsInRange}
@@ -14,6 +14,7 @@ use Rattle.std.specs.declared.hash.FoldHasher.{FoldHasher}
 use Rattle.std.specs.declared.ops.Bound.{Bound}
 use Rattle.std.specs.declared.ops.Bound.TheVariants.{Included, Excluded}
 use Rattle.std.proofs.lemmas.Bool.{and_parts}
+use Rattle.std.proofs.lemmas.List.{get_or-take, length-take-le}
 use Rattle.std.proofs.lemmas.List.Kept.{IsStrictlySortedBy-filter}
 use Rattle.am_alerts.specs.AlertData.{AlertData, is_resolved}
 use Rattle.am_alerts.specs.Labels.{value_in, value_of}
@@ -21,10 +22,10 @@ use Rattle.am_alerts.specs.Matcher.{match_all}
 use Rattle.am_alerts.specs.declared.labels.Label.{Label}
 use Rattle.am_mute.specs.Inhibit.{RuleData, agrees_on, agrees_on_name, is_inhibited_by, matches_both}
 use Rattle.am_mute.specs.SourceIndex.{SourceIndex}
-use Rattle.am_mute.specs.Sources.{HasKey, IsAt, IsLearnt, has_key, key_cmp}
-use Rattle.am_mute.specs.Target.{values_hash}
+use Rattle.am_mute.specs.Sources.{HasKey, HasKeys, HaveSources, IsAt, IsLearnt, has_key, is_one_sided, key_cmp, key_of}
+use Rattle.am_mute.specs.Target.{TargetData, values_hash}
 use Rattle.am_mute.specs.declared.sources.SourceKey.{SourceKey}
-use Rattle.am_mute.proofs.BucketWalk.{AreLeft, at_place, in_bucket, kept_key, of_bucket}
+use Rattle.am_mute.proofs.BucketWalk.{AreLeft, at_place, in_bucket, kept_key, of_bucket, place_below}
 
 -- ---- label sets that agree have one hash
 
@@ -51,38 +52,83 @@ same_hash names a b e = ap finish (same_writes names a b initial e)
 
 -- ---- the bucket of a target
 
-module _ (number : ℕ) (rule : RuleData) (t : ℕ) (labels : List Label) (known : List AlertData) (index : SourceIndex)
-    (learnt : IsLearnt number rule known index) (hash : ℕ) (hashed : hash ≡ values_hash rule.equal labels) where
+-- a source for a target, of a rule
+module _ (rule : RuleData) (t : ℕ) (labels : List Label) (a : AlertData) (passes : is_inhibited_by rule t labels a ≡ true) where
+  parts : (not (is_resolved a t) && match_all rule.source a.labels && agrees_on rule.equal labels a.labels ≡ true)
+      × (not (matches_both rule labels && matches_both rule a.labels) ≡ true)
+  parts =
+      and_parts (not (is_resolved a t) && match_all rule.source a.labels && agrees_on rule.equal labels a.labels)
+      (not (matches_both rule labels && matches_both rule a.labels)) passes
+
+  agreed : (not (is_resolved a t) && match_all rule.source a.labels ≡ true) × (agrees_on rule.equal labels a.labels ≡ true)
+  agreed = and_parts (not (is_resolved a t) && match_all rule.source a.labels) (agrees_on rule.equal labels a.labels) parts.0
+
+  -- it is matched by the source matchers
+  pub source_matches : match_all rule.source a.labels ≡ true
+  source_matches = (and_parts (not (is_resolved a t)) (match_all rule.source a.labels) agreed.0).1
+
+  -- it has the hash of the target
+  pub source_hash : values_hash rule.equal a.labels ≡ values_hash rule.equal labels
+  source_hash = sym (same_hash rule.equal labels a.labels agreed.1)
+
+  -- it isn't matched by the target matchers, if the target is matched by both
+  pub source_alone : matches_both rule labels ≡ true → is_one_sided rule a.labels ≡ true
+  source_alone both =
+      alone (match_all rule.source a.labels) (match_all rule.target a.labels) source_matches
+      (ap (λ b. not (b && matches_both rule a.labels)) (sym both) ∙ parts.1)
+    where
+      alone : (s t : Bool) → s ≡ true → not (true && (s && t)) ≡ true → s && not t ≡ true
+      alone true t e h = h
+      alone false t e h = absurd (true≢false (sym e))
+
+-- what was learnt of known alerts has the keys of each source for a target
+pub have_sources : (number : ℕ) (rule : RuleData) (known : List AlertData) (index : SourceIndex) → IsLearnt number rule known index
+    → (x : TargetData) → x.rule ≡ rule → match_all rule.target x.labels ≡ true
+    → HaveSources number x (take index.learnt known) (cond (match_all x.rule.source x.labels) index.one_sided index.all)
+have_sources number rule known index learnt x ruled targeted i a at passes =
+    let n : length (take index.learnt known) ≡ index.learnt = length-take-le index.learnt known learnt.learnt in
+    let less : i < index.learnt = omega (arith, at.0, n) in
+    let here : IsAt known i a =
+    (omega (arith, less, learnt.learnt), at.1 ∙ get_or-take index.learnt known i a less) in
+    let has : HasKeys number x.rule i a.labels index =
+    subst (λ (r : RuleData). HasKeys number r i a.labels index) (sym ruled) (learnt.sources i a here less) in
+    let target : match_all x.rule.target x.labels ≡ true = ap (λ (r : RuleData). match_all r.target x.labels) ruled ∙ targeted in
+    elim (match_all x.rule.source x.labels) as (λ b. match_all x.rule.source x.labels ≡ b
+    → HasKey (cond b index.one_sided index.all) (key_of number x.rule.equal i a.labels)) [
+      | true ↦ λ both.
+          has.one_sided (source_alone x.rule x.t x.labels a passes
+          (ap (λ b. b && match_all x.rule.target x.labels) both ∙ target))
+      | false ↦ λ e. has.all (source_matches x.rule x.t x.labels a passes)
+    ] refl
+
+module _ (number : ℕ) (x : TargetData) (alerts : List AlertData) (all : List SourceKey) (have : HaveSources number x alerts all)
+    (hash : ℕ) (hashed : hash ≡ values_hash x.rule.equal x.labels) where
   abbrev first : Bound SourceKey
   first = Included (at_place number hash 0)
 
   abbrev last : Bound SourceKey
-  last = Excluded (at_place number hash (length known))
+  last = Excluded (at_place number hash (length alerts))
 
-  -- a source that was learnt has its key in the bucket
-  had : (i : ℕ) (a : AlertData) → IsAt known i a → i < index.learnt → is_inhibited_by rule t labels a ≡ true
-      → has_key index.keys (at_place number hash i) ≡ true
-  had i a at less passes =
-      let alone = and_parts (not (is_resolved a t) && match_all rule.source a.labels && agrees_on rule.equal labels a.labels)
-      (not (matches_both rule labels && matches_both rule a.labels)) passes in
-      let agreed = and_parts (not (is_resolved a t) && match_all rule.source a.labels) (agrees_on rule.equal labels a.labels) alone.0 in
-      let matched = and_parts (not (is_resolved a t)) (match_all rule.source a.labels) agreed.0 in
-      let same : values_hash rule.equal a.labels ≡ hash = sym (same_hash rule.equal labels a.labels agreed.1) ∙ sym hashed in
-      subst (HasKey index) (λ j. record { rule = number; hash = same j; place = i }) (learnt.sources i a at less matched.1)
+  -- a source has its key in the bucket
+  had : (i : ℕ) (a : AlertData) → IsAt alerts i a → is_inhibited_by x.rule x.t x.labels a ≡ true
+      → has_key all (at_place number hash i) ≡ true
+  had i a at passes =
+      let same : values_hash x.rule.equal a.labels ≡ hash = source_hash x.rule x.t x.labels a passes ∙ sym hashed in
+      subst (HasKey all) (λ j. record { rule = number; hash = same j; place = i }) (have i a at passes)
 
-  pub left_first : (keys : List SourceKey) → keys ≡ filter (range_contains key_cmp first last) index.keys
-      → All (λ k. IsInRange key_cmp first last k × IsTrue (has_key index.keys k)) keys
-      → IsStrictlySortedBy key_cmp index.keys → AreLeft (is_inhibited_by rule t labels) known index.learnt number hash keys
+  pub left_first : (keys : List SourceKey) → keys ≡ filter (range_contains key_cmp first last) all
+      → All (λ k. IsInRange key_cmp first last k × IsTrue (has_key all k)) keys
+      → IsStrictlySortedBy key_cmp all → AreLeft (is_inhibited_by x.rule x.t x.labels) alerts number hash keys
   left_first keys between in_range ordered =
       record {
         sorted = subst (IsStrictlySortedBy key_cmp) (sym between)
-            (IsStrictlySortedBy-filter key_cmp (range_contains key_cmp first last) index.keys ordered);
+            (IsStrictlySortedBy-filter key_cmp (range_contains key_cmp first last) all ordered);
         near = λ j d less.
             let is = in_range j d less in
-            let near = learnt.within (get_or keys j d) is.1 in
-            (of_bucket number hash 0 (length known) (get_or keys j d) is.0.0 (ap is_gt is.0.1), near.0, near.1);
-        ahead = λ i a at less passes.
+            let of = of_bucket number hash 0 (length alerts) (get_or keys j d) is.0.0 (ap is_gt is.0.1) in
+            (of, place_below number hash (length alerts) (get_or keys j d) of is.0.1);
+        ahead = λ i a at passes.
             ap (λ ks. has_key ks (at_place number hash i)) between
-            ∙ kept_key (range_contains key_cmp first last) index.keys (at_place number hash i) (in_bucket number hash (length known) i at.0)
-            (had i a at less passes);
+            ∙ kept_key (range_contains key_cmp first last) all (at_place number hash i) (in_bucket number hash (length alerts) i at.0)
+            (had i a at passes);
       }

@@ -1,12 +1,11 @@
 -- Keys of sources: their order, and what an index has after one more.
-use Rattle.std.proofs.Common.{◌≡◌, ℕ, Bool, true, false, true≢false, cond, refl, inl, inr, ◌⊎◌, sym, ap, ◌∙◌, eqb-true}
+use Rattle.std.proofs.Common.{◌≡◌, ℕ, Bool, true, false, true≢false, cond, List, refl, sym, ◌∙◌, eqb-true}
 use Rattle.std.specs.Cmp.{IsTotalOrder, unsigned_ties}
 use Rattle.std.specs.Ordering.{is_eq, ordering_then, nat_cmp}
 use Rattle.std.specs.declared.cmp.Ordering.{Ordering}
 use Rattle.std.specs.declared.cmp.Ordering.TheVariants.{Less, Equal, Greater}
 use Rattle.std.proofs.lemmas.Cmp.{nat_cmp_total, on_total, then_total}
-use Rattle.am_mute.specs.SourceIndex.{SourceIndex}
-use Rattle.am_mute.specs.Sources.{key_cmp, has_key, HasKey, GrowsAt}
+use Rattle.am_mute.specs.Sources.{key_cmp, has_key, HasKey}
 use Rattle.am_mute.specs.declared.sources.SourceKey.{SourceKey}
 
 -- ---- the order of keys
@@ -42,20 +41,8 @@ had_or : (b had : Bool) → had ≡ true → cond b true had ≡ true
 had_or true had h = refl
 had_or false had h = h
 
-module _ (key : SourceKey) (old new : SourceIndex) (learnt : new.learnt ≡ old.learnt)
-    (updates : (q : SourceKey) → has_key new.keys q ≡ cond (is_eq (key_cmp key q)) true (has_key old.keys q)) where
-  one_more : (k : SourceKey) → HasKey new k → (k.place ≡ key.place) ⊎ HasKey old k
-  one_more k had =
-      elim (is_eq (key_cmp key k)) as (λ b. is_eq (key_cmp key k) ≡ b → cond b true (has_key old.keys k) ≡ true → (k.place ≡ key.place)
-      ⊎ HasKey old k) [
-        | true ↦ λ tied h. inl (ap (λ (x : SourceKey). x.place) (sym (key-is key k tied)))
-        | false ↦ λ tied h. inr h
-      ] refl (sym (updates k) ∙ had)
-
-  pub grows_by : GrowsAt key.place old new
-  grows_by = record {
-    learnt = learnt;
-    keeps = λ k had. updates k ∙ had_or (is_eq (key_cmp key k)) (has_key old.keys k) had;
-    only =
-        one_more;
-  }
+-- the keys that there were are there, after one more was put in
+pub keeps_keys : (key : SourceKey) (old new : List SourceKey)
+    → ((q : SourceKey) → has_key new q ≡ cond (is_eq (key_cmp key q)) true (has_key old q))
+    → (k : SourceKey) → HasKey old k → HasKey new k
+keeps_keys key old new updates k had = updates k ∙ had_or (is_eq (key_cmp key k)) (has_key old k) had

@@ -70,3 +70,9 @@ pub record IsIndexed (silences : List SilenceData) (index : SilenceIndex) : Type
 abbrev pub AreUnmuted : (ℕ → Type 0) → List Label → ℕ → List SilenceData → Type 0
 AreUnmuted Here labels t silences =
     (i : ℕ) (s : SilenceData) → Here i → IsAt silences i s → silence_mutes s t labels ≡ false
+
+-- of the silences before a bound that stand at such places, the first that mutes a label set at t; the bound, if none does
+pub record IsFirst (Here : ℕ → Type 0) (labels : List Label) (t : ℕ) (silences : List SilenceData) (bound first : ℕ) : Type 0 where
+  pub within : first ≤ bound
+  pub mutes : (s : SilenceData) → first < bound → IsAt silences first s → silence_mutes s t labels ≡ true
+  pub none : (i : ℕ) (s : SilenceData) → Here i → i < first → IsAt silences i s → silence_mutes s t labels ≡ false

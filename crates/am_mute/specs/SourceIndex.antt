@@ -2,7 +2,8 @@
 use Rattle.std.specs.Prelude.{ℕ, List}
 use Rattle.am_mute.specs.declared.sources.SourceKey.{SourceKey}
 
--- keys of alerts, and how many alerts were learnt
+-- keys of alerts that are sources, keys of those that the target matchers don't match, and how many alerts were learnt
 pub record SourceIndex : Type 0 where
-  pub keys : List SourceKey
+  pub all : List SourceKey
+  pub one_sided : List SourceKey
   pub learnt : ℕ

@@ -3,9 +3,9 @@
 //!
 //! Cost of `muted` and `mute_cause`: the silences, and the rules times the known alerts. With
 //! `Sources` the second part is the rules times the logarithm of the known alerts, and the sources
-//! that agree up to the first that isn't resolved. With `Silences` (`muted_under`) the first part
-//! is one look-up a label and the silences that it finds. What searches for a rule's patterns is
-//! made once for each label set.
+//! that agree up to the first that isn't resolved. With `Silences` (`muted_under`,
+//! `mute_cause_under`) the first part is one look-up a label and the silences that it finds. What
+//! searches for a rule's patterns is made once for each label set.
 ghost use Rattle.std.specs.Prelude.{◌≡◌, IfOk, IsOk, IsTrue, is_some, option_copied};
 ghost use Rattle.am_mute.specs.Inhibit.{is_inhibited};
 ghost use Rattle.am_mute.specs.Silence.{is_silenced};
@@ -139,6 +139,31 @@ pub fn mute_cause_with(
         is_some cause ≡ is_muted labels.now t silences.now rules.now known.now) }
 {
     match silence_for(alloc, labels, t, silences)? {
+        None => inhibition(alloc, labels, t, rules, known, sources),
+        Some(silence) => Ok(Some(MuteCause::Silenced {
+            id: silence.id(),
+            until: silence.end(),
+        })),
+    }
+}
+
+/// The same, with silences that are found by the labels that they ask for.
+pub fn mute_cause_under(
+    alloc: Global,
+    labels: &Labels,
+    t: u64,
+    silences: &Silences,
+    rules: &[InhibitRule],
+    known: &[Alert],
+    sources: &Sources,
+) -> Result<Option<MuteCause>, AllocError>
+    requires { AreLearnt rules.now known.now sources.now }
+    ensures cause { IfOk result (λ cause.
+        cause ≡ mute_cause_of labels.now t silences.now.items rules.now known.now) }
+    ensures muted { IfOk result (λ cause.
+        is_some cause ≡ is_muted labels.now t silences.now.items rules.now known.now) }
+{
+    match silences.silence_for(alloc, labels, t)? {
         None => inhibition(alloc, labels, t, rules, known, sources),
         Some(silence) => Ok(Some(MuteCause::Silenced {
             id: silence.id(),

@@ -10,10 +10,10 @@
 //! Invariant: each place is one of the list, and the silences up to the first whose place lacked
 //! memory are under what they need. Each alert walks the silences behind it, and the next one that
 //! is set takes them in again.
-ghost use Rattle.std.specs.Prelude.{◌≡◌, ◌⊎◌, ◌<◌, ℕ, [], false, true, All, List, find, length, option_copied, set};
+ghost use Rattle.std.specs.Prelude.{◌≡◌, ◌⊎◌, ◌<◌, ◌≤◌, ℕ, [], false, true, ⊤, All, List, find, length, option_copied, set};
 ghost use Rattle.std.specs.Prelude.{IfOk, IsOk, IsTrue, OnOk};
 ghost use Rattle.am_mute.specs.Silence.{SilenceData, is_silenced};
-ghost use Rattle.am_mute.specs.SilenceIndex.{ArePlaced, AreUnmuted, HasPlace, IsIndexed, IsOneOf};
+ghost use Rattle.am_mute.specs.SilenceIndex.{ArePlaced, AreUnmuted, HasPlace, IsFirst, IsIndexed, IsOneOf};
 ghost use Rattle.am_mute.specs.SilenceIndex.{asks_label, key_of, label_hash, places_at};
 ghost use Rattle.am_mute.specs.Matching.{silences_compare_texts};
 
@@ -132,6 +132,45 @@ impl SilenceIndex {
         is_silenced(alloc, &silences[self.indexed..], labels, t)
     }
 
+    /// The place of the first of these silences that mutes a label set at `t`; their number, if none
+    /// does.
+    pub(crate) fn first(
+        &self,
+        alloc: Global,
+        silences: &[Silence],
+        labels: &Labels,
+        t: u64,
+    ) -> Result<usize, AllocError>
+        requires { IsIndexed silences.now self.now }
+        ensures { IfOk result (λ first. IsFirst (λ i. ⊤) labels.now t silences.now (length silences.now) first) }
+    {
+        let mut first = silences.len();
+        for i in 0..labels.len() {
+            let pair = labels.pair(i);
+            let key = label_hash(pair.0, pair.1);
+            first = self.first_by(alloc, key, silences, labels, t, first)?;
+        }
+        let first = self.first_by(alloc, NO_LABEL, silences, labels, t, first)?;
+        first_from(alloc, silences, self.indexed, labels, t, first)
+    }
+
+    /// The first place before a bound whose silence is found by this and mutes a label set at `t`; the
+    /// bound, if there is none.
+    fn first_by(
+        &self,
+        alloc: Global,
+        key: u64,
+        silences: &[Silence],
+        labels: &Labels,
+        t: u64,
+        bound: usize,
+    ) -> Result<usize, AllocError>
+        requires { ArePlaced silences.now self.now }
+        ensures { IfOk result (λ first. IsFirst (HasPlace self.now key) labels.now t silences.now bound first) }
+    {
+        first_at(alloc, self.at(key), silences, labels, t, bound)
+    }
+
     /// Whether one of the silences that are found by this mutes a label set at `t`.
     fn is_silenced_by(
         &self,
@@ -187,6 +226,68 @@ fn is_silenced(
         }
     }
     Ok(false)
+}
+
+/// The first of these places before a bound whose silence mutes a label set at `t`; the bound, if
+/// there is none.
+fn first_at(
+    alloc: Global,
+    places: &[usize],
+    silences: &[Silence],
+    labels: &Labels,
+    t: u64,
+    bound: usize,
+) -> Result<usize, AllocError>
+    requires { All (λ p. p < length silences.now) places.now }
+    ensures { IfOk result (λ first. IsFirst (IsOneOf places.now) labels.now t silences.now bound first) }
+{
+    let mut first = bound;
+    for place in places {
+        first = earlier(alloc, silences, *place, labels, t, first)?;
+    }
+    Ok(first)
+}
+
+/// A place, if it is before a bound and its silence mutes a label set at `t`; else the bound.
+fn earlier(
+    alloc: Global,
+    silences: &[Silence],
+    place: usize,
+    labels: &Labels,
+    t: u64,
+    bound: usize,
+) -> Result<usize, AllocError>
+    requires { place < length silences.now }
+    ensures { IfOk result (λ first. IsFirst (λ i. i ≡ place) labels.now t silences.now bound first) }
+{
+    if bound <= place {
+        return Ok(bound);
+    }
+    if silences[place].mutes(alloc, labels, t)? {
+        return Ok(place);
+    }
+    Ok(bound)
+}
+
+/// The first place from one on, and before a bound, whose silence mutes a label set at `t`; the
+/// bound, if there is none.
+fn first_from(
+    alloc: Global,
+    silences: &[Silence],
+    from: usize,
+    labels: &Labels,
+    t: u64,
+    bound: usize,
+) -> Result<usize, AllocError>
+    requires { bound ≤ length silences.now }
+    ensures { IfOk result (λ first. IsFirst (λ i. from ≤ i) labels.now t silences.now bound first) }
+{
+    for place in from..bound {
+        if silences[place].mutes(alloc, labels, t)? {
+            return Ok(place);
+        }
+    }
+    Ok(bound)
 }
 
 /// What a silence of these matchers is found by: the hash of the first label that they ask for.

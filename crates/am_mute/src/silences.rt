@@ -1,11 +1,14 @@
 //! `Silences`: the list of a board's silences, with its index. Contracts see the list and its
 //! capacity.
 //!
-//! Cost of `add` and `replace`: one look-up. Why an alert is muted has to name the first silence of
-//! the list, and walks it (`mute_cause_with`).
-ghost use Rattle.std.specs.Prelude.{◌≡◌, ◌<◌, ◌≤◌, ◌++◌, ◌==◌, [], ◌∷◌, length, set, IfOk, IfSome, IsOk, IsTrue, OnOk};
+//! Cost of `add` and `replace`: one look-up. `is_silenced` stops at the first silence that it finds.
+//! `silence_for` names the first of the list: it compares the places of all that it finds, and
+//! tests those before the best so far.
+ghost use Rattle.std.specs.Prelude.{◌≡◌, ◌<◌, ◌≤◌, ◌++◌, ◌==◌, [], ◌∷◌, length, set, is_some, option_copied, IfOk, IfSome, IsOk, IsTrue};
+ghost use Rattle.std.specs.Prelude.{OnOk};
 ghost use Rattle.std.specs.List.{position};
 ghost use Rattle.am_mute.specs.Silence.{is_silenced};
+ghost use Rattle.am_mute.specs.Mute.{silence_for};
 ghost use Rattle.am_mute.specs.Matching.{silences_compare_texts};
 
 use crate::silence::Silence;
@@ -101,5 +104,23 @@ impl Silences {
         ensures answers { IsTrue (silences_compare_texts self.now.items) → IsOk result }
     {
         self.index.is_silenced(alloc, self.as_slice(), labels, t)
+    }
+
+    /// The first silence that mutes a label set at `t` (milliseconds).
+    pub fn silence_for(
+        &self,
+        alloc: Global,
+        labels: &Labels,
+        t: u64,
+    ) -> Result<Option<&Silence>, AllocError>
+        ensures value { IfOk result (λ found. option_copied found ≡ silence_for labels.now t self.now.items) }
+        ensures some { IfOk result (λ found. is_some found ≡ is_silenced labels.now t self.now.items) }
+    {
+        let silences = self.silences.as_slice();
+        let first = self.index.first(alloc, silences, labels, t)?;
+        if first < silences.len() {
+            return Ok(Some(&silences[first]));
+        }
+        Ok(None)
     }
 }

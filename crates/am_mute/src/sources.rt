@@ -7,16 +7,20 @@
 //! of it. Whoever writes the labels can make them collide: then a look-up walks those that collide,
 //! and no more than all.
 //!
+//! A source that the target matchers match too mutes no target that both sides match. The others
+//! have keys of their own: such a target looks up only these, and doesn't pass over its like one by
+//! one.
+//!
 //! Matchers and labels don't change with time, so an alert is learned once: u matches for u rules,
-//! and one insertion for each rule whose source matches. What searches for a source's pattern is
-//! made for each new label set, as for a route's. Where memory for a key is refused, this alert and
-//! those after it are left to a later call, and each target walks them. Invariant: each of the
-//! first alerts that a rule's source matches has its key.
-ghost use Rattle.std.specs.Prelude.{◌≡◌, ◌+◌, ◌<◌, List, true, length, is_some, option_copied, IfOk, IsOk, IsTrue, OnOk};
+//! and a second match and at most two insertions for each rule whose source matches. What searches
+//! for a pattern is made for each new label set, as for a route's. Where memory for a key is
+//! refused, this alert and those after it are left to a later call, and each target walks them.
+//! Invariant: each of the first alerts that a rule's source matches has its keys.
+ghost use Rattle.std.specs.Prelude.{◌≡◌, ◌+◌, ◌<◌, List, cond, length, find, is_some, option_copied, IfOk, IsOk, IsTrue, OnOk};
 ghost use Rattle.am_alerts.specs.AlertData.{AlertData};
 ghost use Rattle.am_alerts.specs.Matcher.{compare_texts, match_all};
 ghost use Rattle.am_mute.specs.Inhibit.{RuleData, inhibits, is_inhibited_by, source_for};
-ghost use Rattle.am_mute.specs.Sources.{AreLearnt, GrowsAt, HasKey, IsFirstOf, IsLearnt, key_of};
+ghost use Rattle.am_mute.specs.Sources.{AreLearnt, Grows, HasKeys, HaveSources, IsLearnt};
 
 use crate::inhibit::InhibitRule;
 use crate::target::{Target, values_hash};
@@ -45,7 +49,10 @@ pub struct SourceKey {
 /// This only saves time: alerts that weren't learnt are looked at in turn.
 #[derive(Debug, Drop)]
 pub struct Sources {
-    keys: BTreeSet<SourceKey>,
+    /// Of each source.
+    all: BTreeSet<SourceKey>,
+    /// Of each source that the rule's target matchers don't match.
+    one_sided: BTreeSet<SourceKey>,
     /// How many alerts were learnt.
     learnt: usize,
 }
@@ -55,7 +62,7 @@ impl Model for Sources {
 
     ghost Value = { SourceIndex };
 
-    ghost view = { λ s. record { keys = s.keys.keys; learnt = s.learnt } };
+    ghost view = { λ s. record { all = s.all.keys; one_sided = s.one_sided.keys; learnt = s.learnt } };
 }
 
 impl Sources {
@@ -64,7 +71,8 @@ impl Sources {
         ensures { (rules : List RuleData) (known : List AlertData) → AreLearnt rules known result }
     {
         Sources {
-            keys: BTreeSet::new(alloc),
+            all: BTreeSet::new(alloc),
+            one_sided: BTreeSet::new(alloc),
             learnt: 0,
         }
     }
@@ -125,17 +133,22 @@ impl Sources {
         rule: &InhibitRule,
         labels: &Labels,
     ) -> Result<(), AllocError>
-        ensures grows { GrowsAt self.old.learnt self.old self.new }
-        ensures has { OnOk result (match_all rule.now.source labels.now ≡ true
-            → HasKey self.new (key_of number rule.now.equal self.old.learnt labels.now)) }
+        ensures grows { Grows self.old self.new }
+        ensures has { OnOk result (HasKeys number rule.now self.old.learnt labels.now self.new) }
     {
-        if all_match(alloc, rule.source(), labels)? {
-            self.keys.insert(SourceKey {
-                rule: number,
-                hash: values_hash(rule.equal(), labels),
-                place: self.learnt,
-            })?;
+        if !all_match(alloc, rule.source(), labels)? {
+            return Ok(());
         }
+        let key = SourceKey {
+            rule: number,
+            hash: values_hash(rule.equal(), labels),
+            place: self.learnt,
+        };
+        self.all.insert(key)?;
+        if all_match(alloc, rule.target(), labels)? {
+            return Ok(());
+        }
+        self.one_sided.insert(key)?;
         Ok(())
     }
 
@@ -159,47 +172,58 @@ impl Sources {
         let Some(mut target) = Target::new(alloc, rule, labels, t)? else {
             return Ok(None);
         };
-        let found = self.first_learnt(alloc, number, &mut target, known)?;
+        let keys = self.keys_for(&target);
+        let found = first_among(alloc, keys, number, &mut target, &known[..self.learnt])?;
         if found.is_some() {
             return Ok(found);
         }
-        let rest = &known[self.learnt..];
-        target.first_source(alloc, rest)
+        target.first_source(alloc, &known[self.learnt..])
     }
 
-    /// The first of these known alerts that is a source for a target of the rule at a place, if it was
-    /// learnt.
-    fn first_learnt<'k>(
-        &self,
-        alloc: Global,
-        number: usize,
-        target: &mut Target<'_>,
-        known: &'k [Alert],
-    ) -> Result<Option<&'k Alert>, AllocError>
-        requires { IsLearnt number target.old.rule known.now self.now }
-        ensures first { IfOk result (λ found. IsFirstOf
-            (is_inhibited_by target.old.rule target.old.t target.old.labels) self.now.learnt known.now (option_copied found)) }
-        ensures answers { IsTrue (compare_texts target.old.rule.source) →
-            IsTrue (compare_texts target.old.rule.target) → IsOk result }
-        ensures kept { target.new ≡ target.old }
+    /// The keys among which each source for a target is that was learnt.
+    fn keys_for(&self, target: &Target<'_>) -> &BTreeSet<SourceKey>
+        ensures { result.now.keys ≡ cond (match_all target.now.rule.source target.now.labels) self.now.one_sided self.now.all }
     {
-        let hash = target.hash();
-        let first = SourceKey {
-            rule: number,
-            hash,
-            place: 0,
-        };
-        let last = SourceKey {
-            rule: number,
-            hash,
-            place: known.len(),
-        };
-        for key in self.keys.range(first..last) {
-            let alert = &known[key.place];
-            if target.is_inhibited_by(alloc, alert)? {
-                return Ok(Some(alert));
-            }
+        if target.is_source_too() {
+            &self.one_sided
+        } else {
+            &self.all
         }
-        Ok(None)
     }
+}
+
+/// The first of these alerts that is a source for a target of the rule at a place, by keys that each
+/// such source has.
+fn first_among<'k>(
+    alloc: Global,
+    keys: &BTreeSet<SourceKey>,
+    number: usize,
+    target: &mut Target<'_>,
+    alerts: &'k [Alert],
+) -> Result<Option<&'k Alert>, AllocError>
+    requires { HaveSources number target.old alerts.now keys.now.keys }
+    ensures value { IfOk result (λ found. option_copied found
+        ≡ find (is_inhibited_by target.old.rule target.old.t target.old.labels) alerts.now) }
+    ensures answers { IsTrue (compare_texts target.old.rule.source) →
+        IsTrue (compare_texts target.old.rule.target) → IsOk result }
+    ensures kept { target.new ≡ target.old }
+{
+    let hash = target.hash();
+    let first = SourceKey {
+        rule: number,
+        hash,
+        place: 0,
+    };
+    let last = SourceKey {
+        rule: number,
+        hash,
+        place: alerts.len(),
+    };
+    for key in keys.range(first..last) {
+        let alert = &alerts[key.place];
+        if target.is_inhibited_by(alloc, alert)? {
+            return Ok(Some(alert));
+        }
+    }
+    Ok(None)
 }

@@ -1,6 +1,6 @@
 //! Label sets that a rule can mute. `mute` and `sources` test them.
 ghost use Rattle.std.specs.Prelude.{◌≡◌, IfOk, IsOk, IsTrue, find, option_copied};
-ghost use Rattle.am_alerts.specs.Matcher.{compare_texts};
+ghost use Rattle.am_alerts.specs.Matcher.{compare_texts, match_all};
 ghost use Rattle.am_mute.specs.Inhibit.{agrees_on, agrees_on_name, is_inhibited_by};
 ghost use Rattle.am_mute.specs.Target.{IsTargetOf, values_hash};
 
@@ -66,6 +66,13 @@ impl<'r> Target<'r> {
             target,
             is_source_too,
         }))
+    }
+
+    /// Whether the rule's source matchers match the target too.
+    pub(crate) fn is_source_too(&self) -> bool
+        ensures { result ≡ match_all self.now.rule.source self.now.labels }
+    {
+        self.is_source_too
     }
 
     /// The hash of the target's values under the names of `equal`, which each of its sources has too.

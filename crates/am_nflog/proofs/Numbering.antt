@@ -4,8 +4,9 @@ use Rattle.std.proofs.lemmas.List.Folds.{list_any-append}
 use Rattle.std.specs.Cmp.{IsEquivalence, both_ways, first_so, second_so}
 use Rattle.std.specs.Cmp.Derive.{both_true}
 use Rattle.am_nflog.specs.Members.{is_empty, is_member, is_subset, AreSameSet}
-use Rattle.am_nflog.specs.Needed.{needed, members_of, IsOneToOne, IsNumberedRow, AreNumbersOf, NumberingKeepsNeeded}
+use Rattle.am_nflog.specs.Needed.{is_update, needed, members_of, IsOneToOne, IsNumberedRow, AreNumbersOf, NumberingKeepsNeeded}
 use Rattle.am_nflog.specs.declared.row.LogRow.{LogRow}
+use Rattle.am_nflog.specs.declared.update.UpdateReason.TheVariants.{FirstNotice, NewAlert, AllResolved, NewlyResolved, Repeat, NothingFiring, NotYet}
 
 or_left : (a b : Bool) → a ≡ true → (a || b) ≡ true
 or_left a b h = ap (λ c. c || b) h
@@ -97,7 +98,8 @@ module _ {M N : Type 0} {same : M → M → Bool} {equal : N → N → Bool} (la
       → AreNumbersOf same equal number firing firing_numbers
       → AreNumbersOf same equal number resolved resolved_numbers
       → needed equal numbered firing_numbers resolved_numbers send_resolved repeat t ≡ needed same row firing resolved send_resolved repeat t
-  needed_numbers None None firing resolved fs rs send_resolved repeat t one r f q = ap not (empty_numbers firing fs f)
+  needed_numbers None None firing resolved fs rs send_resolved repeat t one r f q =
+      ap (λ b. is_update (if b then NothingFiring else FirstNotice)) (empty_numbers firing fs f)
   needed_numbers None (Some n) firing resolved fs rs send_resolved repeat t one r f q = absurd r
   needed_numbers (Some m) None firing resolved fs rs send_resolved repeat t one r f q = absurd r
   needed_numbers (Some m) (Some n) firing resolved fs rs send_resolved repeat t one r f q =
@@ -111,10 +113,11 @@ module _ {M N : Type 0} {same : M → M → Bool} {equal : N → N → Bool} (la
       (λ x y k l. one x y (member_right same x (m.firing ++ m.resolved ++ firing) resolved k) (in_row y (member_right same y m.firing m.resolved l))) q r.2 in
       let none_fires : is_empty fs ≡ is_empty firing = empty_numbers firing fs f in
       let none_fired : is_empty n.firing ≡ is_empty m.firing = empty_numbers m.firing n.firing r.1 in
-      (λ i. if not (firing_known i) then true
-      else if none_fires i then not (none_fired i)
-      else if send_resolved && not (resolved_known i) then true
-      else nat_lt (r.0 i + repeat) t)
+      (λ i. is_update (if not (firing_known i) then NewAlert
+      else if none_fires i then (if none_fired i then NothingFiring else AllResolved)
+      else if send_resolved && not (resolved_known i) then NewlyResolved
+      else if nat_lt (r.0 i + repeat) t then Repeat
+      else NotYet (r.0 i)))
 
 pub numbering_keeps_needed : {M N : Type 0} {same : M → M → Bool} {equal : N → N → Bool} → IsEquivalence same → IsEquivalence equal → NumberingKeepsNeeded same equal
 numbering_keeps_needed laws_same laws number = needed_numbers laws_same laws number

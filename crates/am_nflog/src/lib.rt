@@ -14,4 +14,4 @@ pub use key::LogKey;
 pub use log::NfLog;
 pub use members::Members;
 pub use row::LogRow;
-pub use update::{is_subset, needs_update, numbering_keeps_needed};
+pub use update::{UpdateReason, is_subset, needs_update, numbering_keeps_needed, update_reason};

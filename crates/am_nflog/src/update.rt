@@ -1,26 +1,109 @@
-//! Whether an integration needs an update about a group (`notify.DedupStage`). `am_board` asks it
-//! at each begin. Cost: the two lists and those of the row, once each.
+//! Why an integration needs an update about a group, or why not (`notify.DedupStage`). `am_board`
+//! asks it at each begin, and for each preview. Cost: the two lists and those of the row, once each.
 ghost use Rattle.std.specs.Prelude.{◌≡◌, IsTrue};
 ghost use Rattle.std.specs.Option.{option_copied};
 ghost use Rattle.am_nflog.specs.Members.{is_ascending, is_subset};
-ghost use Rattle.am_nflog.specs.Needed.{needed, NumberingKeepsNeeded};
+ghost use Rattle.am_nflog.specs.Needed.{is_update, needed, reason_ended, reason_unlogged, update_reason, NumberingKeepsNeeded};
 
 use crate::row::LogRow;
 use std::cmp::Ordering;
 
-/// Whether an integration needs an update, given the row that was logged for it, the alerts that fire now and those that are
-/// resolved now, both strictly ascending.
+/// Why an integration needs an update about a group, or why not.
+#[derive(Clone, Copy)]
+pub enum UpdateReason {
+    /// There is no row, and an alert fires.
+    FirstNotice,
+    /// An alert fires that the row doesn't have as firing.
+    NewAlert,
+    /// No alert fires, and the row has some as firing, whether or not resolved alerts are sent.
+    AllResolved,
+    /// Resolved alerts are sent, and one is resolved that the row doesn't have as resolved.
+    NewlyResolved,
+    /// The row is older than the repeat interval.
+    Repeat,
+    /// No update is needed: no alert fires, and no row has any as firing.
+    NothingFiring,
+    /// No update is needed: nothing is new, and the row, of this moment, isn't older than the repeat interval.
+    NotYet { since: u64 },
+}
+
+impl UpdateReason {
+    /// Whether an update is needed for this reason.
+    pub fn is_update(&self) -> bool
+        ensures { result ≡ is_update self.now }
+    {
+        match self {
+            UpdateReason::FirstNotice
+            | UpdateReason::NewAlert
+            | UpdateReason::AllResolved
+            | UpdateReason::NewlyResolved
+            | UpdateReason::Repeat => true,
+            UpdateReason::NothingFiring | UpdateReason::NotYet { .. } => false,
+        }
+    }
+}
+
+/// Why an integration needs an update or why not, given the row that was logged for it, the alerts that fire now and those that
+/// are resolved now, both strictly ascending.
 ///
-/// `repeat` is the route's repeat interval and `t` the moment of the call, in milliseconds. The first rule that applies decides,
-/// as `needsUpdate` of Alertmanager's DedupStage has them:
-///
-/// - without a row an update is needed if any alert fires;
-/// - it is needed if an alert fires that the row doesn't have as firing;
-/// - where no alert fires it is needed if the row has one as firing, whether or not resolved alerts are sent;
-/// - where resolved alerts are sent it is needed if one is resolved that the row doesn't have as resolved;
-/// - else it is needed if the row is older than the repeat interval.
+/// `repeat` is the route's repeat interval and `t` the moment of the call, in milliseconds. It is the first case that applies, as
+/// `needsUpdate` of Alertmanager's DedupStage has them: without a row `NothingFiring` or `FirstNotice`, and else `NewAlert`,
+/// `NothingFiring`, `AllResolved`, `NewlyResolved`, `Repeat` or `NotYet`.
 ///
 /// A sum of moment and interval above `u64::MAX` is later than every `t`.
+pub fn update_reason<N: Ord>(
+    logged: Option<&LogRow<N>>,
+    firing: &[N],
+    resolved: &[N],
+    send_resolved: bool,
+    repeat: u64,
+    t: u64,
+) -> UpdateReason
+    requires firing_ascending { IsTrue (is_ascending N.cmp firing.now) }
+    requires resolved_ascending { IsTrue (is_ascending N.cmp resolved.now) }
+    ensures { result ≡ update_reason N.eq (option_copied logged.entry) firing.now resolved.now send_resolved repeat t }
+{
+    let Some(row) = logged else {
+        return unlogged(firing);
+    };
+    if !is_subset(firing, row.firing.as_slice()) {
+        return UpdateReason::NewAlert;
+    }
+    if firing.is_empty() {
+        return ended(row);
+    }
+    if send_resolved && !is_subset(resolved, row.resolved.as_slice()) {
+        return UpdateReason::NewlyResolved;
+    }
+    match row.moment.checked_add(repeat) {
+        Some(due) if due < t => UpdateReason::Repeat,
+        _ => UpdateReason::NotYet { since: row.moment },
+    }
+}
+
+/// The reason where nothing was logged.
+fn unlogged<N>(firing: &[N]) -> UpdateReason
+    ensures { result ≡ reason_unlogged firing.now }
+{
+    if firing.is_empty() {
+        UpdateReason::NothingFiring
+    } else {
+        UpdateReason::FirstNotice
+    }
+}
+
+/// The reason where no alert fires.
+fn ended<N: Ord>(row: &LogRow<N>) -> UpdateReason
+    ensures { result ≡ reason_ended row.now }
+{
+    if row.firing.as_slice().is_empty() {
+        UpdateReason::NothingFiring
+    } else {
+        UpdateReason::AllResolved
+    }
+}
+
+/// Whether an integration needs an update: whether there is a reason for it, by `update_reason`.
 pub fn needs_update<N: Ord>(
     logged: Option<&LogRow<N>>,
     firing: &[N],
@@ -33,22 +116,7 @@ pub fn needs_update<N: Ord>(
     requires resolved_ascending { IsTrue (is_ascending N.cmp resolved.now) }
     ensures { result ≡ needed N.eq (option_copied logged.entry) firing.now resolved.now send_resolved repeat t }
 {
-    let Some(row) = logged else {
-        return !firing.is_empty();
-    };
-    if !is_subset(firing, row.firing.as_slice()) {
-        return true;
-    }
-    if firing.is_empty() {
-        return !row.firing.as_slice().is_empty();
-    }
-    if send_resolved && !is_subset(resolved, row.resolved.as_slice()) {
-        return true;
-    }
-    match row.moment.checked_add(repeat) {
-        Some(due) => due < t,
-        None => false,
-    }
+    update_reason(logged, firing, resolved, send_resolved, repeat, t).is_update()
 }
 
 /// Whether each of `some` is one of `all`, both strictly ascending: one pass over `all` finds them in turn.

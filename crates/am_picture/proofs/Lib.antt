@@ -1,2 +1,4 @@
+-- escaped texts as content of elements
 pub mod Content
+-- what is escaped of a text from one of its characters on
 pub mod Escaping

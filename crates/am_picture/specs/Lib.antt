@@ -1,1 +1,2 @@
+-- texts as content of XML and HTML elements
 pub mod Escaped

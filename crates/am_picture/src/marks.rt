@@ -3,7 +3,7 @@
 //! Marks differ in shape, and in color. The class `n` is on the marks of delivered notices alone.
 use crate::axis::Axis;
 use crate::lane::{Kind, Lane, Mark};
-use crate::names::{integration_text, push_hint, push_name};
+use crate::names::{push_hint, push_name};
 use crate::pen::{below, push_count, push_field, push_place};
 use crate::scene::Scene;
 use am_timeline::clock::TimeFormat;
@@ -37,7 +37,10 @@ fn push_names(
 ) -> Result<(), AllocError> {
     let integrations = scene.config.integrations_of(&lane.group).len();
     for position in 0..integrations {
-        let name = integration_text(alloc, scene.config, &lane.group, position)?;
+        let mut name = String::new(alloc);
+        scene
+            .config
+            .push_integration(&lane.group, position, &mut name)?;
         let receiver = scene.config.route_of(&lane.group).receiver.as_str();
         let bottom = middle(top, position).saturating_add(4);
         push_name(name.as_str(), receiver, bottom, out)?;

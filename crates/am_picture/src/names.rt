@@ -93,24 +93,3 @@ fn push_set(alloc: Global, labels: &Labels, out: &mut String) -> Result<(), Allo
     let text = set_text(alloc, labels)?;
     push_cut(text.as_str(), MOST_TEXT, out)
 }
-
-/// Returns an integration of a group's receiver, as `webhook/0`.
-pub(crate) fn integration_text(
-    alloc: Global,
-    config: &Config,
-    group: &GroupName,
-    position: usize,
-) -> Result<String, AllocError> {
-    let mut text = String::new(alloc);
-    text.push_str(kind_at(config, group, position))?;
-    push_count("/", position as u64, &mut text)?;
-    Ok(text)
-}
-
-/// The kind of an integration, or the empty text where there is none.
-fn kind_at<'c>(config: &'c Config, group: &GroupName, position: usize) -> &'c str {
-    match config.integrations_of(group).get(position) {
-        None => "",
-        Some(integration) => integration.kind.as_str(),
-    }
-}

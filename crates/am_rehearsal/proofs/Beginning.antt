@@ -13,8 +13,7 @@ use Rattle.am_rehearsal.specs.Steps.{IsBegun, IsDone, IsReplied, IsSendingAdded,
 use Rattle.am_rehearsal.specs.Taking.{IsBeginBy, IsTaken, why_not}
 use Rattle.am_rehearsal.specs.declared.event.Event.{Event}
 use Rattle.am_rehearsal.specs.declared.next.Step.TheVariants as step
-use Rattle.am_rehearsal.specs.declared.ticket.OwnTicket.{OwnTicket}
-use Rattle.am_rehearsal.specs.declared.ticket.Taken.TheVariants.{Flush, Nothing, Quiet}
+use Rattle.am_rehearsal.specs.declared.taken.Taken.TheVariants.{Flush, Nothing, Quiet}
 
 module _ (r : Setting) (c : Scene) (at : ℕ) where
   -- a begin with this reply is done
@@ -34,10 +33,9 @@ module _ (r : Setting) (c : Scene) (at : ℕ) where
         (same_scene c.plans at c.maintenance true c.blocked quiet.2.board quiet.2.events_are in_flight)
 
     -- the begin of a flush, after which its notices were sent
-    pub begin_flush : (own : OwnTicket) (begin : ℕ) (d : Scene) → IsTaken c.board c.events at b es (Flush own) → begin ≡ length (begin_indices c.events)
-        → IsSendingAdded r at own.ticket begin (scene_of b es c.plans ss at c.maintenance true c.blocked) d → IsDone r c at d step.Begin
-    begin_flush own begin d flush count added =
-        let t = own.ticket in
+    pub begin_flush : (t : TicketData) (begin : ℕ) (d : Scene) → IsTaken c.board c.events at b es (Flush t) → begin ≡ length (begin_indices c.events)
+        → IsSendingAdded r at t begin (scene_of b es c.plans ss at c.maintenance true c.blocked) d → IsDone r c at d step.Begin
+    begin_flush t begin d flush count added =
         let told : Reply = reply.Flush t.number t.group t.deadline t.notices in
         let fresh : TicketData = record { desk = c.board.id; number = t.number; group = t.group; deadline = t.deadline; notices = t.notices; outcomes = [] } in
         let is : t ≡ fresh =

@@ -30,9 +30,8 @@ use Rattle.am_rehearsal.specs.Previews.{takes_group}
 use Rattle.am_rehearsal.specs.Steps.{with_call, with_note}
 use Rattle.am_rehearsal.specs.Taking.{IsBeginBy, IsOwn, IsTaken, begun_events, begun_where}
 use Rattle.am_rehearsal.specs.declared.event.Event.{Event}
-use Rattle.am_rehearsal.specs.declared.ticket.OwnTicket.{OwnTicket}
-use Rattle.am_rehearsal.specs.declared.ticket.Taken.{Taken}
-use Rattle.am_rehearsal.specs.declared.ticket.Taken.TheVariants.{Flush}
+use Rattle.am_rehearsal.specs.declared.taken.Taken.{Taken}
+use Rattle.am_rehearsal.specs.declared.taken.Taken.TheVariants.{Flush}
 
 -- a call was told its reply
 pub called_is : (old new : BoardData) (c : Call) (told : Reply) → IsReplyAt old c told → new ≡ with_record old (entry 0 c told) → new ≡ with_call old c
@@ -101,12 +100,11 @@ taken_by old new events since at answer.NothingDue taken own fresh begins = subs
 taken_by old new events since at (answer.Quiet group removed) taken own fresh begins =
     subst (IsTaken old events at new since) (sym own) (group, removed, begins)
 taken_by old new events since at (answer.Flush ticket) taken own fresh begins =
-    subst (IsTaken old events at new since) (sym own.1)
-    (subst (λ (t : TicketData). (t.desk ≡ old.id) × (t.outcomes ≡ []) × IsBeginBy old events at new since (reply_of (answer.Flush t))) (sym own.2) (fresh.0, fresh.1, begins))
+    subst (IsTaken old events at new since) (sym own) (fresh.0, fresh.1, begins)
 
 -- the ticket that a begin gave is what the begin came to
-pub own_is : (begun : Answer) (ticket : TicketData) (own : OwnTicket) → begun ≡ answer.Flush ticket → own.ticket ≡ ticket → IsOwn begun (Flush own)
-own_is begun ticket own is same = subst (λ (a : Answer). IsOwn a (Flush own)) (sym is) (own, refl, same)
+pub own_is : (begun : Answer) (ticket own : TicketData) → begun ≡ answer.Flush ticket → own ≡ ticket → IsOwn begun (Flush own)
+own_is begun ticket own is same = subst (λ (a : Answer). IsOwn a (Flush own)) (sym is) (ap (λ (t : TicketData). Flush t) same)
 
 -- as many flushes are open as may be only where that is the first cause
 pub open_cause : (cause : Option Fault) (told : Fault) → told ≡ TooManyOpen → IsAnswer cause told → cause ≡ Some TooManyOpen

@@ -1,16 +1,30 @@
+-- the steps of begins
 pub mod Beginning
+-- a board after a call
 pub mod Calling
+-- what comes next: what it is about is there, and where nothing comes, nothing is in flight
 pub mod Coming
+-- a notice that a courier delivered which answers so and never refuses
 pub mod Delivered
+-- what a board does over each call
 pub mod Doing
+-- one more end of a ticket's notices
 pub mod Ends
+-- what events with one more tell of the begins
 pub mod Happening
+-- what each step keeps: the configuration, and what is done and left of the plans
 pub mod Keeping
+-- lists of flushes in flight, one after the other
 pub mod Listing
+-- a rehearsal has one play
 pub mod OnePlay
+-- the scene with which a rehearsal starts
 pub mod Opened
-pub mod Reporting
+-- scenes by their parts
 pub mod Scenes
+-- what is told of a board stands over each call
 pub mod Standing
+-- the next step, when it is done
 pub mod Stepping
+-- what is told of a history with one record more
 pub mod Telling

@@ -17,9 +17,8 @@ use Rattle.am_rehearsal.specs.EventOrder.{begin_indices}
 use Rattle.am_rehearsal.specs.Previews.{takes_group}
 use Rattle.am_rehearsal.specs.declared.event.Event.{Event}
 use Rattle.am_rehearsal.specs.declared.event.Event.TheVariants.{Begun}
-use Rattle.am_rehearsal.specs.declared.ticket.OwnTicket.{OwnTicket}
-use Rattle.am_rehearsal.specs.declared.ticket.Taken.{Taken}
-use Rattle.am_rehearsal.specs.declared.ticket.Taken.TheVariants.{Nothing, Quiet, Flush}
+use Rattle.am_rehearsal.specs.declared.taken.Taken.{Taken}
+use Rattle.am_rehearsal.specs.declared.taken.Taken.TheVariants.{Nothing, Quiet, Flush}
 
 -- the event of a begin at a position among those that took a group, if it did
 abbrev pub begun_events : Bool → ℕ → List Event
@@ -49,12 +48,11 @@ abbrev pub IsTaken : BoardData → List Event → ℕ → BoardData → List Eve
 IsTaken old events at new events_since Nothing = IsBeginBy old events at new events_since reply.NothingDue
 IsTaken old events at new events_since Quiet =
     (group : GroupName) × (removed : ℕ) × IsBeginBy old events at new events_since (reply.Quiet group removed)
-IsTaken old events at new events_since (Flush own) =
-    let t = own.ticket in
+IsTaken old events at new events_since (Flush t) =
     (t.desk ≡ old.id) × (t.outcomes ≡ []) × IsBeginBy old events at new events_since (reply.Flush t.number t.group t.deadline t.notices)
 
 -- what a begin came to is what the board answered
 abbrev pub IsOwn : Answer → Taken → Type 0
 IsOwn answer.NothingDue taken = taken ≡ Nothing
 IsOwn (answer.Quiet group removed) taken = taken ≡ Quiet
-IsOwn (answer.Flush ticket) taken = (own : OwnTicket) × (taken ≡ Flush own) × (own.ticket ≡ ticket)
+IsOwn (answer.Flush ticket) taken = taken ≡ Flush ticket

@@ -13,7 +13,7 @@ pub mod play;
 mod previewing;
 pub mod rehearsal;
 mod sending;
-mod ticket;
+mod taken;
 
 pub use law::{limits_are, rehearsals_have_one_play};
 pub use limits::{BOARD_ID, MAX_UNTIL};

@@ -26,15 +26,17 @@ ghost use Rattle.am_rehearsal.specs.declared.limits.TheConstants.{BOARD_ID, MAX_
 ghost use Rattle.am_rehearsal.specs.declared.next.Step.TheVariants as step;
 
 use crate::event::{Event, PreviewedBegin};
+use crate::limits::BOARD_ID;
 use crate::next::{End, Next, Step, comes_by, earlier, in_time};
 use crate::previewing::PreviewingBoard;
 use crate::rehearsal::{Outage, Rehearsal, TimedAction};
 use crate::sending::{Sending, ends_of, next_end, next_finish};
-use crate::ticket::{OwnTicket, Taken};
+use crate::taken::Taken;
 use am_board::board::Board;
 use am_board::config::Config;
 use am_board::fault::{BoardFault, Fault};
 use am_board::notice::Report;
+use am_board::own_ticket::OwnTicket;
 use am_retry::Outcome;
 use std::alloc::{AllocError, Global};
 use std::collections::VecDeque;
@@ -346,11 +348,11 @@ impl<'o> Course<'o> {
     }
 
     /// Sends the notices of a flush from `at` on.
-    fn send(&mut self, begin: usize, own: OwnTicket, at: u64) -> Result<(), PlayFault>
+    fn send(&mut self, begin: usize, own: OwnTicket<BOARD_ID>, at: u64) -> Result<(), PlayFault>
         requires moment { at ≤ MAX_MOMENT }
         requires room { vec_len self.old.sendings < vec_capacity self.old.sendings }
         ensures same { setting_in self.new ≡ setting_in self.old }
-        ensures sent { OnOk result (IsSendingAdded (setting_in self.old) at own.ticket begin (scene_in self.old) (scene_in self.new)) }
+        ensures sent { OnOk result (IsSendingAdded (setting_in self.old) at own begin (scene_in self.old) (scene_in self.new)) }
     {
         let ticket = own.ticket();
         let receiver = &self.board.config().route_of(ticket.group()).receiver;
@@ -441,7 +443,7 @@ fn keep_report(
         None => Ok(()),
         Some(report) => {
             board.keep_sent(sending.begin, report)?;
-            sending.own.record(report);
+            sending.record(report);
             Ok(())
         }
     }

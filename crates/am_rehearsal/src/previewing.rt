@@ -21,13 +21,14 @@ ghost use Rattle.am_rehearsal.specs.declared.limits.TheConstants.{BOARD_ID};
 use crate::event::{Event, PreviewedBegin};
 use crate::limits::BOARD_ID;
 use crate::rehearsal::Action;
-use crate::ticket::{OwnTicket, Taken};
+use crate::taken::Taken;
 use am_alerts::alert::Alert;
 use am_board::begin::Begun;
 use am_board::board::Board;
 use am_board::config::Config;
-use am_board::fault::{BoardFault, Fault, FinishFault, NoteFault};
+use am_board::fault::{BoardFault, Fault, NoteFault};
 use am_board::notice::Report;
+use am_board::own_ticket::OwnTicket;
 use am_board::preview::Preview;
 use am_mute::silence::Silence;
 use std::alloc::{AllocError, Global};
@@ -153,15 +154,15 @@ impl PreviewingBoard {
     pub(crate) fn note(
         &mut self,
         alloc: Global,
-        own: &OwnTicket,
+        own: &OwnTicket<BOARD_ID>,
         place: usize,
         now: u64,
     ) -> Result<(), AllocError>
         ensures input_trace { input_trace self.new.board ≡ input_trace self.old.board }
-        ensures noted { OnOk result (self.new.board ≡ with_note now own.now.ticket place self.old.board) }
+        ensures noted { OnOk result (self.new.board ≡ with_note now own.now place self.old.board) }
         ensures events { self.new.events ≡ self.old.events }
     {
-        match self.board.note(alloc, PASS, &own.ticket, place, now) {
+        match self.board.note(alloc, PASS, own.ticket(), place, now) {
             Ok(_noted) => Ok(()),
             Err(NoteFault::NoMemory) => Err(AllocError),
             Err(_) => Ok(()),
@@ -169,16 +170,14 @@ impl PreviewingBoard {
     }
 
     /// Finishes a flush. Does nothing if it isn't open.
-    pub(crate) fn finish(&mut self, own: OwnTicket, now: u64)
+    pub(crate) fn finish(&mut self, own: OwnTicket<BOARD_ID>, now: u64)
         ensures input_trace { input_trace self.new.board ≡ input_trace self.old.board }
-        ensures called { self.new.board ≡ with_call self.old.board (call.Finish now own.ticket.number own.ticket.outcomes) }
+        ensures called { self.new.board ≡ with_call self.old.board (call.Finish now own.number own.outcomes) }
         ensures events { self.new.events ≡ self.old.events }
     {
-        let OwnTicket { ticket } = own;
-        match self.board.finish(PASS, ticket, now) {
+        match self.board.finish_own(PASS, own, now) {
             Ok(_finished) => {}
-            Err(FinishFault::NotOpen) => {}
-            Err(FinishFault::Foreign(_ticket)) => unreachable!(),
+            Err(_not_open) => {}
         }
     }
 
@@ -214,7 +213,7 @@ fn own(begun: Begun) -> Taken
             group: _,
             removed: _,
         } => Taken::Quiet,
-        Begun::Flush(ticket) => Taken::Flush(OwnTicket { ticket }),
+        Begun::Flush(ticket) => Taken::Flush(OwnTicket::new(ticket)),
     }
 }
 

@@ -4,13 +4,15 @@ ghost use Rattle.std.specs.Prelude.{◌≡◌, ◌≤◌, ◌<◌, ◌+◌, ◌^
 ghost use Rattle.am_alerts.specs.declared.limits.TheConstants.{MAX_MOMENT};
 ghost use Rattle.am_rehearsal.specs.Answers.{answer_of, AreEndsOf, IsEndOf};
 ghost use Rattle.am_rehearsal.specs.Next.{next_end, next_end_of, next_finish};
+ghost use Rattle.am_rehearsal.specs.Steps.{with_report};
 
 use crate::courier::{OutageCourier, Outages};
+use crate::limits::BOARD_ID;
 use crate::next::{End, Next, Step, earlier};
 use crate::rehearsal::Outage;
-use crate::ticket::OwnTicket;
 use am_alerts::text::Text;
-use am_board::notice::Notice;
+use am_board::notice::{Notice, Report};
+use am_board::own_ticket::OwnTicket;
 use am_board::ticket::Ticket;
 use am_pool::deliver;
 use std::alloc::{AllocError, Global};
@@ -18,7 +20,7 @@ use std::marker::Model;
 
 /// A flush whose notices are in flight.
 pub(crate) struct Sending {
-    pub(crate) own: OwnTicket,
+    pub(crate) own: OwnTicket<BOARD_ID>,
     /// The position of its begin among the previewed begins.
     pub(crate) begin: usize,
     /// The ends that are still to come, by place.
@@ -30,7 +32,7 @@ impl Model for Sending {
 
     ghost Value = { SendingData };
 
-    ghost view = { λ s. record { ticket = s.own.ticket; begin = s.begin; ends = s.ends.items } };
+    ghost view = { λ s. record { ticket = s.own; begin = s.begin; ends = s.ends.items } };
 }
 
 impl Sending {
@@ -41,6 +43,13 @@ impl Sending {
         ensures left { self.new ≡ record (self.old) { ends = remove self.old.ends index } }
     {
         self.ends.remove(index)
+    }
+
+    /// Records how a notice went. A report on another notice changes nothing, nor does a second one.
+    pub(crate) fn record(&mut self, report: Report)
+        ensures { self.new ≡ record (self.old) { ticket = with_report (Some report) self.old.ticket } }
+    {
+        let _ = self.own.record(report);
     }
 }
 

@@ -1,2 +1,2 @@
-pub mod Expectations
+-- what is told of a board that was played, and what is written of it
 pub mod Tales

@@ -16,9 +16,9 @@ use Rattle.am_timeline.specs.UtcDates.{StartData}
 use Rattle.am_timeline.specs.Expectation.{is_met}
 use Rattle.am_timeline.specs.Playback.{PlaybackData}
 use Rattle.am_timeline.specs.TimeFormatData.{TimeFormatData}
-use Rattle.am_rehearse.specs.Request.{IsRequestIn, times_from}
-use Rattle.am_rehearse.specs.declared.input.Output.{Output}
-use Rattle.am_rehearse.specs.declared.input.Overrides.{Overrides}
+use Rattle.am_input.specs.Request.{IsRequestIn, times_from}
+use Rattle.am_input.specs.declared.input.Output.{Output}
+use Rattle.am_input.specs.declared.input.Overrides.{Overrides}
 use Rattle.am_rehearse.specs.Printed.{WritesOutput, IsPrinted, IsOutputOf, IsOutputOfRun, IsOutputFor, playback_of}
 
 -- the playback of a board, with these begins

@@ -22,10 +22,10 @@ use Rattle.am_timeline.specs.Table.{table_text}
 use Rattle.am_timeline.specs.Timeline.{timeline_text}
 use Rattle.am_timeline.specs.TimeFormatData.{TimeFormatData}
 use Rattle.am_timeline.specs.Undelivered.{undelivered_text}
-use Rattle.am_rehearse.specs.Request.{IsRequestBy, times_from}
-use Rattle.am_rehearse.specs.declared.input.Output.{Output}
-use Rattle.am_rehearse.specs.declared.input.Overrides.{Overrides}
-use Rattle.am_rehearse.specs.declared.input.Output.TheVariants.{Timeline, Full, Notices, Delivered, Json, Html}
+use Rattle.am_input.specs.Request.{IsRequestBy, times_from}
+use Rattle.am_input.specs.declared.input.Output.{Output}
+use Rattle.am_input.specs.declared.input.Overrides.{Overrides}
+use Rattle.am_input.specs.declared.input.Output.TheVariants.{Timeline, Full, Notices, Delivered, Json, Html}
 
 -- what became of expectations, behind an empty line, if there are any
 abbrev pub expectations_section : PlaybackData → TimeFormatData → List Expectation → List ℕ

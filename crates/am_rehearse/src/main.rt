@@ -10,10 +10,9 @@ mod commands;
 mod console;
 mod fault;
 mod files;
-mod input;
 mod run;
+mod system_zones;
 mod time_words;
-mod zone_files;
 
 use am_cli::device::{StandardInput, StandardOutput};
 use am_command::completions::completions;

@@ -14,8 +14,7 @@ use Rattle.am_model.specs.declared.notice.Report.{Report}
 use Rattle.am_model.specs.declared.record.Record.{Record}
 use Rattle.am_model.specs.declared.views.GroupView.{GroupView}
 use Rattle.am_model.specs.declared.views.RowView.{RowView}
-use Rattle.am_model.specs.Config.{kind_at}
-use Rattle.am_model.specs.Configured.{route_of, integrations_named}
+use Rattle.am_model.specs.Configured.{route_of, integration_text}
 use Rattle.am_model.specs.Notice.{NoticeData, is_nothing}
 use Rattle.am_model.specs.look_back.Past.{notices_in}
 use Rattle.am_model.specs.Replay.{replay, IsLegal}
@@ -43,11 +42,6 @@ lists_text labels firing resolved =
 -- a group: the name of its route, `:` and its group labels
 abbrev pub group_text : Config → GroupName → List ℕ
 group_text config name = key_text_of (route_of config name) name.labels
-
--- an integration of a group's receiver: its kind, `/` and its position
-abbrev pub integration_text : Config → GroupName → ℕ → List ℕ
-integration_text config name position =
-    kind_at (integrations_named (route_of config name).receiver config.receivers) position ++ codes "/" ++ decimal position
 
 -- whom something is for: a group and an integration of its receiver
 abbrev pub target_text : Config → GroupName → ℕ → List ℕ

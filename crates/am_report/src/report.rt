@@ -8,19 +8,18 @@ ghost use Rattle.std.specs.Prelude.{◌≡◌, ◌++◌, ◌≤◌, ◌↔◌, �
 ghost use Rattle.std.specs.List.{flat_map, join_by};
 ghost use Rattle.std.specs.Option.{option_copied};
 ghost use Rattle.am_alerts.specs.LabelText.{label_set_text};
-ghost use Rattle.am_model.specs.Config.{kind_at};
 ghost use Rattle.am_model.specs.look_back.Past.{notices_in};
 ghost use Rattle.am_model.specs.Replay.{replay};
 ghost use Rattle.am_model.specs.Ticket.{outcome_of};
 ghost use Rattle.am_model.specs.Views.{row_views, group_views};
-ghost use Rattle.am_report.specs.Report.{labels_of, as_it_is, list_text, lists_text, group_text, integration_text, target_text};
+ghost use Rattle.am_report.specs.Report.{labels_of, as_it_is, list_text, lists_text, group_text, target_text};
 ghost use Rattle.am_report.specs.Report.{reported_text, outcome_text, notice_line, row_line, flushed_text, group_line, calls_line};
 ghost use Rattle.am_model.specs.Outcomes.{outcomes_in};
 ghost use Rattle.am_report.specs.Report.{attempts_on, line_on, notice_lines, report_text};
 
 use am_alerts::alert::Alert;
 use am_alerts::labels::Labels;
-use am_board::config::{Config, Integration};
+use am_board::config::Config;
 use am_board::group::GroupName;
 use am_board::notice::{Notice, Report};
 use am_board::record::{Call, Record, Reply};
@@ -306,7 +305,7 @@ fn push_target(
 {
     push_key(config, group, out)?;
     out.push_str(" ")?;
-    push_integration(config, group, integration, out)
+    config.push_integration(group, integration as usize, out)
 }
 
 /// Adds the key of a group.
@@ -316,32 +315,6 @@ fn push_key(config: &Config, group: &GroupName, out: &mut String) -> Result<(), 
     out.push_str(config.route_of(group).name.as_str())?;
     out.push_str(":")?;
     group.labels.push_text(out)
-}
-
-/// Adds the text of an integration of a group's receiver.
-fn push_integration(
-    config: &Config,
-    group: &GroupName,
-    integration: u32,
-    out: &mut String,
-) -> Result<(), AllocError>
-    ensures { OnOk result (string_bytes out.new
-        ≡ string_bytes out.old ++ integration_text config.now group.now integration) }
-{
-    let integrations = config.integrations_of(group);
-    out.push_str(kind_at(integrations, integration))?;
-    out.push_str("/")?;
-    push_number(u64::from(integration), out)
-}
-
-/// The kind of the integration at a position; nothing at a position that isn't there.
-fn kind_at(integrations: &[Integration], position: u32) -> &str
-    ensures { result.now ≡ kind_at integrations.now position }
-{
-    match integrations.get(position as usize) {
-        None => "",
-        Some(integration) => integration.kind.as_str(),
-    }
 }
 
 fn push_lists<T: Labelled>(firing: &[T], resolved: &[T], out: &mut String) -> Result<(), AllocError>

@@ -6,12 +6,10 @@ use Rattle.serde_json.specs.Read.{read}
 use Rattle.am_alerts.specs.AlertData.{AlertData, alert_of}
 use Rattle.am_alerts.specs.declared.labels.Label.{Label}
 use Rattle.am_cli.specs.Configured.{DecodesToConfig, DecodesToLabels, DecodesToMatcher}
-use Rattle.am_cli.specs.Decoding.{IsFlag, IsList, IsNumber, Has, HasOr}
+use Rattle.am_cli.specs.Decoding.{IsFlag, IsList, IsNumber, Has, HasNone, HasOr, answer_text}
 use Rattle.am_cli.specs.declared.reader.Dialect.{Dialect}
 use Rattle.am_cli.specs.declared.reader.Dialect.TheVariants.{Lenient}
 use Rattle.am_mute.specs.Silence.{SilenceData}
-use Rattle.am_retry.specs.declared.outcome.Answer.{Answer}
-use Rattle.am_retry.specs.declared.outcome.Answer.TheVariants.{Done, Again, Never}
 use Rattle.am_scenario.specs.declared.scenario.Lane.{Lane}
 use Rattle.am_scenario.specs.declared.scenario.Phase.{Phase}
 use Rattle.am_scenario.specs.declared.scenario.Scenario.{Scenario}
@@ -19,11 +17,6 @@ use Rattle.am_scenario.specs.declared.scenario.call.LaneCall.{LaneCall}
 use Rattle.am_scenario.specs.declared.scenario.call.LaneCall.TheVariants.{Insert, Silence, Maintain}
 use Rattle.am_scenario.specs.declared.scenario.script.ScriptedAnswer.{ScriptedAnswer}
 use Rattle.am_scenario.specs.declared.scenario.script.Script.{Script}
-
-abbrev pub answer_text : Answer → List ℕ
-answer_text Done = codes "done"
-answer_text Again = codes "again"
-answer_text Never = codes "never"
 
 -- an answer and how long its attempt takes, in milliseconds: an array of two
 pub record DecodesToPlanned (value : Data) (planned : ScriptedAnswer) : Type 0 where
@@ -61,10 +54,6 @@ pub record DecodesToSilence (dialect : Dialect) (value : Data) (silence : Silenc
   pub matchers : Has (IsList (DecodesToMatcher dialect)) (codes "matchers") members silence.matchers
   pub start : Has IsNumber (codes "start") members silence.start
   pub end : Has IsNumber (codes "end") members silence.end
-
--- there is no member of this name
-abbrev pub HasNone : List ℕ → Members → Type 0
-HasNone name members = get_member name members ≡ None
 
 -- an object that tells one call
 abbrev pub IsCall : Dialect → Members → LaneCall → Type 0

@@ -1,9 +1,9 @@
 -- Runs of like flushes, by a table of the next flush of each group.
-use Rattle.std.proofs.Common.{◌≡◌, ◌∙◌, ◌<◌, ◌≤◌, ◌==◌, ℕ, zero, suc, ◌+◌, Bool, true, false, cond, List, [], ◌∷◌, ◌++◌, Option, Some, None, ap, sym, refl, subst, drop, get_or, length, reverse, take, arith, append_assoc, if◌then◌else◌}
+use Rattle.std.proofs.Common.{◌≡◌, ◌∙◌, ◌<◌, ◌≤◌, ◌==◌, ℕ, zero, suc, ◌+◌, Bool, true, false, cond, List, [], ◌∷◌, ◌++◌, Option, Some, None, ap, sym, refl, subst, drop, get_or, length, reverse, arith, append_assoc, if◌then◌else◌}
 use Rattle.std.specs.Option.{option_map_or}
 use Rattle.std.proofs.lemmas.Bool.{and_parts}
 use Rattle.std.proofs.lemmas.Slice.Eq.{bytes_eq-Decides}
-use Rattle.std.proofs.lemmas.List.{reverse-append, take_more}
+use Rattle.std.proofs.lemmas.List.{reverse-append}
 use Rattle.am_model.specs.declared.group.GroupName.{GroupName}
 use Rattle.am_model.specs.State.{same_name}
 use Rattle.am_model.proofs.states.Alike.{same_name-is}
@@ -81,12 +81,6 @@ runs_of-at (g ∷ later) zero f r inside = refl
 runs_of-at (g ∷ later) (suc i) f r inside =
     let next : suc i + 1 ≡ suc (i + 1) = omega arith in
     runs_of-at later i f r (omega arith) ∙ ap (λ (n : ℕ). run_of (get_or later i f) (drop n (g ∷ later))) (sym next)
-
--- the flushes up to a place, the last of them first, with one more
-pub reverse_more : (flushes : List FlushData) (i : ℕ) (f : FlushData) → i < length flushes
-    → reverse (take (i + 1) flushes) ≡ get_or flushes i f ∷ reverse (take i flushes)
-reverse_more flushes i f inside =
-    ap (λ (l : List FlushData). reverse l) (take_more flushes i f inside) ∙ reverse-append (take i flushes) (get_or flushes i f ∷ [])
 
 -- what was added for the flushes so far, and for one more
 pub folds_of-more : (folds : List Fold) (before : List FlushData) (f : FlushData) (later : List FlushData)

@@ -1,5 +1,5 @@
 -- What tables by label set or by group hold after one more alert or begin.
-use Rattle.std.proofs.Common.{◌≡◌, ◌∙◌, ℕ, ◌+◌, ◌-◌, Bool, true, false, cond, ◌||◌, List, [], ◌∷◌, ◌++◌, Option, Some, None, ap, sym, refl, subst, min, find, reverse, sum_by, arith, if◌then◌else◌}
+use Rattle.std.proofs.Common.{◌≡◌, ◌∙◌, ℕ, ◌+◌, ◌-◌, ◌<◌, Bool, true, false, cond, get_or, length, take, ◌||◌, List, [], ◌∷◌, ◌++◌, Option, Some, None, ap, sym, refl, subst, min, find, reverse, sum_by, arith, if◌then◌else◌}
 use Rattle.std.specs.Prelude.{unwrap_or}
 use Rattle.std.specs.List.{list_any}
 use Rattle.std.specs.Option.{option_map, option_or}
@@ -14,11 +14,12 @@ use Rattle.am_alerts.specs.declared.limits.TheConstants.{MAX_MOMENT}
 use Rattle.am_model.specs.declared.group.GroupName.{GroupName}
 use Rattle.am_model.specs.declared.preview.MutedAlert.{MutedAlert}
 use Rattle.am_model.specs.State.{same_name}
-use Rattle.am_mute.specs.declared.mute.MuteCause.{MuteCause}
 use Rattle.am_timeline.specs.Expectation.{has_set}
 use Rattle.am_rehearsal.specs.declared.event.PreviewedBegin.{PreviewedBegin}
+use Rattle.am_timeline.specs.declared.undelivered.muted_alerts.Mute.{Mute}
 use Rattle.am_timeline.specs.declared.undelivered.route_mutes.RouteMute.{RouteMute}
-use Rattle.am_timeline.specs.Undelivered.{fired_for, first_route_mute, last_cause, last_route_mute, route_mute_in, route_mute_of, span_of}
+use Rattle.am_timeline.proofs.Reversed.{reverse_more}
+use Rattle.am_timeline.specs.Undelivered.{fired_for, first_mute, first_route_mute, last_mute, last_route_mute, mute_at_begin, mute_in, route_mute_in, route_mute_of, span_of}
 
 -- a test of one more
 or_cond : (here there : Bool) → cond here true there ≡ (there || (here || false))
@@ -34,18 +35,28 @@ has_set-added alerts a labels =
     or_cond (same_label_set a.labels labels) (has_set alerts labels)
     ∙ sym (list_any-append (λ (x : AlertData). same_label_set x.labels labels) alerts (a ∷ []))
 
--- the last cause of muted alerts, and of one more
-pub last_cause-added : (muted : List MutedAlert) (m : MutedAlert) (labels : List Label)
-    → cond (same_label_set m.labels labels) (Some m.cause) (last_cause labels muted) ≡ last_cause labels (muted ++ m ∷ [])
-last_cause-added muted m labels =
-    by (same_label_set m.labels labels)
-    ∙ sym (ap (λ (l : List MutedAlert). option_map (λ (x : MutedAlert). x.cause) (find (λ (x : MutedAlert). same_label_set x.labels labels) l)) (reverse-append muted (m ∷ [])))
+-- the mutes of some muted alerts of a begin, and of one more
+pub mute_in-more : (begun : ℕ) (muted : List MutedAlert) (i : ℕ) (d : MutedAlert) (labels : List Label) (held : Option Mute) → i < length muted
+    → (if same_label_set (get_or muted i d).labels labels then Some (record { begun = begun; cause = (get_or muted i d).cause })
+    else option_or (mute_in labels begun (take i muted)) held)
+    ≡ option_or (mute_in labels begun (take (i + 1) muted)) held
+mute_in-more begun muted i d labels held inside =
+    by (same_label_set (get_or muted i d).labels labels)
+    ∙ sym (ap (λ (l : List MutedAlert). option_or (option_map told (find (λ (x : MutedAlert). same_label_set x.labels labels) l)) held) (reverse_more muted i d inside))
   where
+    told : MutedAlert → Mute
+    told m = record { begun = begun; cause = m.cause }
+
     by : (here : Bool)
-        → cond here (Some m.cause) (last_cause labels muted)
-        ≡ option_map (λ (x : MutedAlert). x.cause) (if here then Some m else find (λ (x : MutedAlert). same_label_set x.labels labels) (reverse muted))
+        → (if here then Some (told (get_or muted i d)) else option_or (mute_in labels begun (take i muted)) held)
+        ≡ option_or (option_map told (if here then Some (get_or muted i d) else find (λ (x : MutedAlert). same_label_set x.labels labels) (reverse (take i muted)))) held
     by true = refl
     by false = refl
+
+-- the last mute in some begins, and in one more
+pub last_mute-more : (begins : List PreviewedBegin) (i : ℕ) (d : PreviewedBegin) (labels : List Label) → i < length begins
+    → option_or (mute_at_begin labels (get_or begins i d).preview) (last_mute labels (take i begins)) ≡ last_mute labels (take (i + 1) begins)
+last_mute-more begins i d labels inside = sym (ap (λ (l : List PreviewedBegin). first_mute labels l) (reverse_more begins i d inside))
 
 -- the last route mute of a group, with one more begin
 last_route_mute-added : (begins : List PreviewedBegin) (b : PreviewedBegin) (group : GroupName)

@@ -7,7 +7,7 @@ use Rattle.am_alerts.specs.AlertData.{AlertData}
 use Rattle.am_alerts.specs.declared.labels.Label.{Label}
 use Rattle.am_model.specs.declared.config.Config.{Config}
 use Rattle.am_model.specs.Config.{kind_at}
-use Rattle.am_model.specs.Configured.{route_of}
+use Rattle.am_model.specs.Configured.{route_of, integration_text}
 use Rattle.am_model.specs.Notice.{NoticeData}
 use Rattle.am_rehearsal.specs.declared.event.Event.{Event}
 use Rattle.am_timeline.specs.declared.expectation.Expectation.{Expectation}
@@ -16,7 +16,7 @@ use Rattle.am_timeline.specs.declared.expectation.Wanted.TheVariants.{NoNotice, 
 use Rattle.am_timeline.specs.Expectation.{is_in_scope, ends_in_scope, is_met}
 use Rattle.am_timeline.specs.Shown.{text_shown, sets_shown}
 use Rattle.am_timeline.specs.Playback.{PlaybackData, SentData, sent_of}
-use Rattle.am_timeline.specs.Timeline.{alerts_text, integration_shown}
+use Rattle.am_timeline.specs.Timeline.{alerts_text}
 use Rattle.am_timeline.specs.TimeFormatData.{TimeFormatData}
 
 -- a label set is its own
@@ -76,7 +76,7 @@ got_alerts_text n = alerts_text (codes "firing ") n.firing ++ alerts_text (resol
 -- who got a notice
 unfoldable pub getter_text : Config → NoticeData → List ℕ
 getter_text config n =
-    codes " -> " ++ text_shown (route_of config n.group).receiver ++ codes " " ++ integration_shown config n.group n.integration
+    codes " -> " ++ text_shown (route_of config n.group).receiver ++ codes " " ++ integration_text config n.group n.integration
 
 -- when a notice came
 unfoldable pub got_at_text : TimeFormatData → ℕ → List ℕ

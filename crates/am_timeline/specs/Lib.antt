@@ -1,12 +1,28 @@
+-- how times are shown
 pub mod TimeFormatData
+-- texts and label sets without characters that a terminal would take as a command
 pub mod Shown
+-- a rehearsal that ran, and the notices that were sent in it
 pub mod Playback
+-- what happened in a rehearsal, a line for each event
 pub mod Timeline
+-- flushes of one group that follow each other, send nothing and have the same lines
 pub mod Runs
+-- the lines of the timeline on notices alone, with those that failed or without
 pub mod Notices
+-- what each receiver got, a line for each
 pub mod Table
+-- what is expected of a rehearsal, and whether it is met
 pub mod Expectation
+-- the alerts that no delivered notice has, for how long they fired, and why
 pub mod Undelivered
+-- the events of a rehearsal that concern a receiver, a route or some alerts
+pub mod Filtered
+-- the events of a rehearsal, without the flushes that say the same as the flush before of their group
+pub mod Changed
+-- the text on each expectation
 pub mod ExpectationReport
+-- times as dates with times of day, in UTC (RFC 3339)
 pub mod UtcDates
+-- texts that were computed by hand
 pub mod Rows

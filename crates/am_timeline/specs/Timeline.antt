@@ -16,8 +16,7 @@ use Rattle.am_model.specs.declared.preview.Preview.{Preview}
 use Rattle.am_model.specs.declared.reason.Reason.{Reason}
 use Rattle.am_model.specs.declared.reason.Reason.TheVariants.{FirstNotice, NewAlert, AllResolved, NewlyResolved, Repeat, NothingLeft}
 use Rattle.am_model.specs.declared.reason.Reason.TheVariants.{NothingFiring, NotYet, RouteMuted}
-use Rattle.am_model.specs.Config.{kind_at}
-use Rattle.am_model.specs.Configured.{route_of, integrations_named}
+use Rattle.am_model.specs.Configured.{route_of, integration_text}
 use Rattle.am_model.specs.look_back.Reasons.{asks}
 use Rattle.am_model.specs.Notice.{NoticeData, is_nothing}
 use Rattle.am_rehearsal.specs.declared.event.Event.{Event}
@@ -43,14 +42,9 @@ group_shown config name = (route_of config name).name ++ set_shown name.labels
 abbrev pub group_receiver_text : Config → GroupName → List ℕ
 group_receiver_text config name = group_shown config name ++ codes " -> " ++ text_shown (route_of config name).receiver
 
--- an integration of a group's receiver: its kind, `/` and its position
-abbrev pub integration_shown : Config → GroupName → ℕ → List ℕ
-integration_shown config name position =
-    kind_at (integrations_named (route_of config name).receiver config.receivers) position ++ codes "/" ++ decimal position
-
 -- a group, its receiver and an integration of that
 abbrev pub target_shown : Config → GroupName → ℕ → List ℕ
-target_shown config name position = group_receiver_text config name ++ codes " " ++ integration_shown config name position
+target_shown config name position = group_receiver_text config name ++ codes " " ++ integration_text config name position
 
 -- why an integration is asked, or why not
 abbrev pub reason_words : Reason → List ℕ

@@ -27,6 +27,7 @@ use Rattle.am_model.specs.State.{same_name}
 use Rattle.am_model.specs.Outcomes.{outcomes_in}
 use Rattle.am_model.specs.Ticket.{outcome_of}
 use Rattle.am_rehearsal.specs.declared.event.PreviewedBegin.{PreviewedBegin}
+use Rattle.am_timeline.specs.declared.undelivered.muted_alerts.Mute.{Mute}
 use Rattle.am_timeline.specs.declared.undelivered.route_mutes.RouteMute.{RouteMute}
 use Rattle.am_timeline.specs.Expectation.{has_set}
 use Rattle.am_timeline.specs.Playback.{PlaybackData, is_delivered}
@@ -82,13 +83,23 @@ span_of labels a = if same_label_set a.labels labels then unwrap_or a.ends a.sta
 abbrev pub fired_for : List Label → List AlertData → ℕ
 fired_for labels alerts = min (sum_by (span_of labels) alerts) MAX_MOMENT
 
--- the alerts that were muted at begins
-abbrev pub muted_in : List PreviewedBegin → List MutedAlert
-muted_in begins = flat_map (λ b. b.preview.muted) begins
+-- why a label set is one of these that are muted at a begin at this time, if it is: the last one counts
+abbrev pub mute_in : List Label → ℕ → List MutedAlert → Option Mute
+mute_in labels begun muted =
+    option_map (λ m. record { begun = begun; cause = m.cause }) (find (λ m. same_label_set m.labels labels) (reverse muted))
 
--- why a label set was muted at the last begin at which it was
-abbrev pub last_cause : List Label → List MutedAlert → Option MuteCause
-last_cause labels muted = option_map (λ m. m.cause) (find (λ m. same_label_set m.labels labels) (reverse muted))
+-- why a label set is muted at a begin, if it is
+abbrev pub mute_at_begin : List Label → Preview → Option Mute
+mute_at_begin labels o = mute_in labels o.moment o.muted
+
+-- the first of these begins at which a label set was muted
+abbrev pub first_mute : List Label → List PreviewedBegin → Option Mute
+first_mute labels [] = None
+first_mute labels (b ∷ begins) = option_or (mute_at_begin labels b.preview) (first_mute labels begins)
+
+-- the last begin at which a label set was muted, and why
+abbrev pub last_mute : List Label → List PreviewedBegin → Option Mute
+last_mute labels begins = first_mute labels (reverse begins)
 
 -- until when the route is muted, as a reason says
 abbrev pub mute_end : Reason → Option ℕ
@@ -147,10 +158,9 @@ has_none_at config position = length (integrations_named (route_at config.routes
 abbrev pub has_no_integrations : Config → List Label → Bool
 has_no_integrations config labels = list_all (has_none_at config) (routes_of config.routes labels)
 
--- what looking back finds: the alerts in notices, those that were muted, the begins, and the alerts of all inserts
+-- what looking back finds: the alerts in notices, the begins, and the alerts of all inserts
 pub record FindingsData : Type 0 where
   pub sent : List AlertData
-  pub muted : List MutedAlert
   pub begins : List PreviewedBegin
   pub inserted : List AlertData
 
@@ -159,7 +169,6 @@ abbrev pub findings_of : PlaybackData → FindingsData
 findings_of playback =
     record {
       sent = sent_in playback.history;
-      muted = muted_in playback.begins;
       begins = playback.begins;
       inserted = inserted_in playback.history;
     }
@@ -183,29 +192,39 @@ abbrev pub unseen_text : Option ℕ → List ℕ
 unseen_text None = codes "no flush of its group since"
 unseen_text (Some end) = codes "resolved before a flush of its group"
 
+-- why an alert was muted at a flush before it fired last
+abbrev pub muted_before_text : TimeFormatData → MuteCause → List ℕ
+muted_before_text times cause = codes "; before that" ++ cause_text times cause
+
+-- that no flush came while an alert fired last that has this end, and why it was muted at a flush before
+abbrev pub unseen_again_text : TimeFormatData → Option ℕ → MuteCause → List ℕ
+unseen_again_text times ends cause = unseen_text ends ++ muted_before_text times cause
+
 -- that an alert was muted at each flush, and why
 abbrev pub muted_each_text : TimeFormatData → MuteCause → List ℕ
 muted_each_text times cause = codes "muted at each flush:" ++ cause_text times cause
 
 -- why an alert was muted at some flushes besides, if it was
-abbrev pub muted_besides_text : TimeFormatData → Option MuteCause → List ℕ
+abbrev pub muted_besides_text : TimeFormatData → Option Mute → List ℕ
 muted_besides_text times None = []
-muted_besides_text times (Some cause) = codes ";" ++ cause_text times cause
+muted_besides_text times (Some m) = codes ";" ++ cause_text times m.cause
 
 -- that the route was muted until a moment, and why the alert was muted besides
-abbrev pub route_muted_text : TimeFormatData → ℕ → Option MuteCause → List ℕ
-route_muted_text times until cause =
-    codes "muted at each flush: route muted until " ++ times.text until ++ muted_besides_text times cause
+abbrev pub route_muted_text : TimeFormatData → ℕ → Option Mute → List ℕ
+route_muted_text times until mute =
+    codes "muted at each flush: route muted until " ++ times.text until ++ muted_besides_text times mute
 
--- why no begin sent an alert that has this end, where this is why it was muted, if it was
-abbrev pub unsent_text : TimeFormatData → Option MuteCause → Option ℕ → List ℕ
-unsent_text times None ends = unseen_text ends
-unsent_text times (Some cause) ends = muted_each_text times cause
+-- why no begin sent an alert that fired last from a moment on and has this end, where this is how it was muted last, if it was: a flush
+-- found it muted since then, or no flush came
+abbrev pub unsent_text : TimeFormatData → Option Mute → ℕ → Option ℕ → List ℕ
+unsent_text times None starts ends = unseen_text ends
+unsent_text times (Some m) starts ends =
+    if nat_le starts m.begun then muted_each_text times m.cause else unseen_again_text times ends m.cause
 
 -- the same, where its route was muted until this moment, if it was
-abbrev pub unsent_by_route_text : TimeFormatData → Option ℕ → Option MuteCause → Option ℕ → List ℕ
-unsent_by_route_text times None cause ends = unsent_text times cause ends
-unsent_by_route_text times (Some until) cause ends = route_muted_text times until cause
+abbrev pub unsent_by_route_text : TimeFormatData → Option ℕ → Option Mute → AlertData → List ℕ
+unsent_by_route_text times None mute a = unsent_text times mute a.starts a.ends
+unsent_by_route_text times (Some until) mute a = route_muted_text times until mute
 
 -- why no delivered notice has an alert: its receivers have no integrations, each notice that has it failed, its route or itself was
 -- muted, or no flush came while it fired
@@ -213,7 +232,7 @@ abbrev pub undelivered_cause : Config → TimeFormatData → FindingsData → Al
 undelivered_cause config times found a =
     if has_no_integrations config a.labels then codes "no integrations"
     else (if has_set found.sent a.labels then failed_each_text a.ends
-    else unsent_by_route_text times (alert_route_mute config found.begins a) (last_cause a.labels found.muted) a.ends)
+    else unsent_by_route_text times (alert_route_mute config found.begins a) (last_mute a.labels found.begins) a)
 
 -- for how long an alert fired, as looking back finds it
 abbrev pub alert_fired_text : TimeFormatData → FindingsData → AlertData → List ℕ

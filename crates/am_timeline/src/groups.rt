@@ -1,11 +1,10 @@
 //! Groups, receivers and integrations, as text. The modules of lines call it.
 ghost use Rattle.std.specs.Prelude.{◌≡◌, ◌++◌, OnOk, string_bytes};
-ghost use Rattle.am_model.specs.Config.{kind_at};
-ghost use Rattle.am_timeline.specs.Timeline.{group_shown, integration_shown, target_shown, group_receiver_text};
+ghost use Rattle.am_model.specs.Configured.{integration_text};
+ghost use Rattle.am_timeline.specs.Timeline.{group_shown, target_shown, group_receiver_text};
 
-use crate::clock::push_number;
 use crate::shown::{push_set, push_text};
-use am_board::config::{Config, Integration};
+use am_board::config::Config;
 use am_board::group::GroupName;
 use std::alloc::AllocError;
 
@@ -57,20 +56,7 @@ pub(crate) fn push_integration(
     out: &mut String,
 ) -> Result<(), AllocError>
     ensures { OnOk result (string_bytes out.new
-        ≡ string_bytes out.old ++ integration_shown config.now group.now position) }
+        ≡ string_bytes out.old ++ integration_text config.now group.now position) }
 {
-    let integrations = config.integrations_of(group);
-    out.push_str(kind_at(integrations, position))?;
-    out.push_str("/")?;
-    push_number(position as u64, out)
-}
-
-/// Returns the kind of the integration at a position, or the empty text where there is none.
-pub(crate) fn kind_at(integrations: &[Integration], position: usize) -> &str
-    ensures { result.now ≡ kind_at integrations.now position }
-{
-    match integrations.get(position) {
-        None => "",
-        Some(integration) => integration.kind.as_str(),
-    }
+    config.push_integration(group, position, out)
 }

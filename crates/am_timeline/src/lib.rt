@@ -11,11 +11,13 @@
 
 mod alerts;
 mod begun;
+pub mod changed;
 pub mod clock;
 pub mod comparison;
 pub mod dated;
 pub mod expectation;
 pub mod expectation_report;
+pub mod filtered;
 mod frame;
 mod groups;
 pub mod json;

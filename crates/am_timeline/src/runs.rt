@@ -9,7 +9,10 @@ ghost use Rattle.std.specs.Option.{option_map_or};
 ghost use Rattle.am_model.specs.Notice.{is_nothing};
 ghost use Rattle.am_model.specs.State.{same_name};
 ghost use Rattle.am_model.specs.declared.group.GroupName as named;
+ghost use Rattle.am_timeline.specs.Changed.{begins_compared, told_flush};
 ghost use Rattle.am_timeline.specs.Runs.{are_same_lines, begins_folded, flush_of, folds_of, quiet_text, run_by, runs_of, sends_nothing};
+ghost use Rattle.am_timeline.specs.Runs.{start_frame};
+ghost use Rattle.am_timeline.specs.Timeline.{begun_lines};
 
 use crate::begun::push_begun;
 use crate::clock::TimeFormat;
@@ -44,7 +47,7 @@ struct Flush<'s> {
     group: &'s GroupName,
     /// When it began, in milliseconds.
     moment: u64,
-    /// Its lines, if it sends nothing.
+    /// The lines by which it is compared.
     lines: String,
 }
 
@@ -90,6 +93,68 @@ pub(crate) fn begins_folded<C: TimeFormat>(
     folded(alloc, flushes.as_slice())
 }
 
+/// Returns what becomes of each begin, whatever it sends: it begins its run if it has other lines than the flush before of its
+/// group.
+pub(crate) fn begins_compared<C: TimeFormat>(
+    alloc: Global,
+    playback: &Playback,
+    clock: &C,
+) -> Result<Vec<Fold>, AllocError>
+    ensures { IfOk result (λ folds. folds.items ≡ begins_compared playback.now (C.times clock.now)) }
+{
+    let flushes = told_flushes(alloc, playback, clock)?;
+    folded(alloc, flushes.as_slice())
+}
+
+/// Returns the flush of each begin, with its lines.
+fn told_flushes<'s, C: TimeFormat>(
+    alloc: Global,
+    playback: &Playback<'s>,
+    clock: &C,
+) -> Result<Vec<Flush<'s>>, AllocError>
+    ensures { IfOk result (λ flushes. flushes.items ≡ map (told_flush playback.now (C.times clock.now)) playback.now.begins) }
+{
+    let mut flushes = Vec::new(alloc);
+    for begin in playback.begins {
+        flushes.push(told_flush(alloc, playback, clock, begin)?)?;
+    }
+    Ok(flushes)
+}
+
+fn told_flush<'s, C: TimeFormat>(
+    alloc: Global,
+    playback: &Playback<'s>,
+    clock: &C,
+    begin: &'s PreviewedBegin,
+) -> Result<Flush<'s>, AllocError>
+    ensures { IfOk result (λ flush. flush ≡ told_flush playback.now (C.times clock.now) begin.now) }
+{
+    let lines = text_at_start(alloc, playback, clock, begin)?;
+    Ok(Flush {
+        group: &begin.preview.group,
+        moment: begin.preview.moment,
+        lines,
+    })
+}
+
+/// Returns the lines of a begin, as if it were at the rehearsal's start.
+fn text_at_start<C: TimeFormat>(
+    alloc: Global,
+    playback: &Playback,
+    clock: &C,
+    begin: &PreviewedBegin,
+) -> Result<String, AllocError>
+    ensures { IfOk result (λ text. string_bytes text ≡ begun_lines playback.now (C.times clock.now) start_frame begin.now) }
+{
+    let mut out = String::new(alloc);
+    let frame = Frame {
+        moment: 0,
+        ending: "\n",
+    };
+    push_begun(playback, clock, &frame, begin, &mut out)?;
+    Ok(out)
+}
+
 /// Returns the flush of each begin.
 fn flushes_of<'s, C: TimeFormat>(
     alloc: Global,
@@ -130,15 +195,10 @@ fn quiet_text<C: TimeFormat>(
 ) -> Result<String, AllocError>
     ensures { IfOk result (λ text. string_bytes text ≡ quiet_text playback.now (C.times clock.now) begin.now) }
 {
-    let mut out = String::new(alloc);
     if sends_nothing(notices_at(playback.history, begin.place)) {
-        let frame = Frame {
-            moment: 0,
-            ending: "\n",
-        };
-        push_begun(playback, clock, &frame, begin, &mut out)?;
+        return text_at_start(alloc, playback, clock, begin);
     }
-    Ok(out)
+    Ok(String::new(alloc))
 }
 
 /// Returns whether no notice of a flush has an alert.

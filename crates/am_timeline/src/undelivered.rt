@@ -10,7 +10,8 @@ ghost use Rattle.am_timeline.specs.Expectation.{has_set};
 ghost use Rattle.am_timeline.specs.Undelivered.{alert_fired_text, before_text, behind_empty_line, failed_each_text, fired_text};
 ghost use Rattle.am_timeline.specs.Undelivered.{has_no_integrations, has_none_at, muted_each_text, undelivered_cause};
 ghost use Rattle.am_timeline.specs.Undelivered.{undelivered_front, undelivered_in, undelivered_line, undelivered_text};
-ghost use Rattle.am_timeline.specs.Undelivered.{muted_besides_text, route_muted_text, unseen_text, unsent_by_route_text, unsent_text};
+ghost use Rattle.am_timeline.specs.Undelivered.{muted_before_text, muted_besides_text, route_muted_text, unseen_text};
+ghost use Rattle.am_timeline.specs.Undelivered.{unsent_by_route_text, unsent_text};
 
 mod alert_set;
 mod delivered;
@@ -34,6 +35,7 @@ use am_mute::mute::MuteCause;
 use delivered::delivered_alerts;
 use findings::Findings;
 use known::known_alerts;
+use muted_alerts::Mute;
 use std::alloc::{AllocError, Global};
 
 /// Returns the alerts that no delivered notice has, as they were inserted last, the latest at the end.
@@ -237,23 +239,23 @@ fn push_cause_of<C: TimeFormat>(
         return out.push_str(failed_each_text(alert.ends()));
     }
     let until = found.route_mute(config, alert)?;
-    push_unsent_by_route(clock, until, found.last_cause(labels), alert.ends(), out)
+    push_unsent_by_route(clock, until, found.last_mute(labels), alert, out)
 }
 
-/// Adds why no begin sent an alert that has this end, and whose route was muted until this moment, if it was.
+/// Adds why no begin sent an alert whose route was muted until this moment, if it was.
 fn push_unsent_by_route<C: TimeFormat>(
     clock: &C,
     until: Option<u64>,
-    cause: Option<&MuteCause>,
-    ends: Option<u64>,
+    mute: Option<&Mute>,
+    alert: &Alert,
     out: &mut String,
 ) -> Result<(), AllocError>
     ensures { OnOk result (string_bytes out.new ≡ string_bytes out.old
-        ++ unsent_by_route_text (C.times clock.now) until (option_copied cause.entry) ends) }
+        ++ unsent_by_route_text (C.times clock.now) until (option_copied mute.entry) alert.now) }
 {
     match until {
-        None => push_unsent(clock, cause, ends, out),
-        Some(until) => push_route_muted(clock, until, cause, out),
+        None => push_unsent(clock, mute, alert.starts(), alert.ends(), out),
+        Some(until) => push_route_muted(clock, until, mute, out),
     }
 }
 
@@ -261,47 +263,66 @@ fn push_unsent_by_route<C: TimeFormat>(
 fn push_route_muted<C: TimeFormat>(
     clock: &C,
     until: u64,
-    cause: Option<&MuteCause>,
+    mute: Option<&Mute>,
     out: &mut String,
 ) -> Result<(), AllocError>
     ensures { OnOk result (string_bytes out.new ≡ string_bytes out.old
-        ++ route_muted_text (C.times clock.now) until (option_copied cause.entry)) }
+        ++ route_muted_text (C.times clock.now) until (option_copied mute.entry)) }
 {
     out.push_str("muted at each flush: route muted until ")?;
     clock.push_moment(until, out)?;
-    push_muted_besides(clock, cause, out)
+    push_muted_besides(clock, mute, out)
 }
 
 /// Adds why an alert was muted besides, if it was.
 fn push_muted_besides<C: TimeFormat>(
     clock: &C,
-    cause: Option<&MuteCause>,
+    mute: Option<&Mute>,
     out: &mut String,
 ) -> Result<(), AllocError>
     ensures { OnOk result (string_bytes out.new ≡ string_bytes out.old
-        ++ muted_besides_text (C.times clock.now) (option_copied cause.entry)) }
+        ++ muted_besides_text (C.times clock.now) (option_copied mute.entry)) }
 {
-    let Some(cause) = cause else {
+    let Some(mute) = mute else {
         return Ok(());
     };
     out.push_str(";")?;
-    push_cause(clock, cause, out)
+    push_cause(clock, &mute.cause, out)
 }
 
-/// Adds why no begin sent an alert that has this end.
+/// Adds why no begin sent an alert that fired last from a moment on and has this end.
 fn push_unsent<C: TimeFormat>(
     clock: &C,
-    cause: Option<&MuteCause>,
+    mute: Option<&Mute>,
+    starts: u64,
     ends: Option<u64>,
     out: &mut String,
 ) -> Result<(), AllocError>
     ensures { OnOk result (string_bytes out.new
-        ≡ string_bytes out.old ++ unsent_text (C.times clock.now) (option_copied cause.entry) ends) }
+        ≡ string_bytes out.old ++ unsent_text (C.times clock.now) (option_copied mute.entry) starts ends) }
 {
-    match cause {
+    match mute {
         None => out.push_str(unseen_text(ends)),
-        Some(cause) => push_muted_each(clock, cause, out),
+        Some(mute) => push_muted(clock, mute, starts, ends, out),
     }
+}
+
+/// Adds how an alert was muted: at each flush since it fired last, or before, and no flush came since.
+fn push_muted<C: TimeFormat>(
+    clock: &C,
+    mute: &Mute,
+    starts: u64,
+    ends: Option<u64>,
+    out: &mut String,
+) -> Result<(), AllocError>
+    ensures { OnOk result (string_bytes out.new
+        ≡ string_bytes out.old ++ unsent_text (C.times clock.now) (Some mute.now) starts ends) }
+{
+    if starts <= mute.begun {
+        return push_muted_each(clock, &mute.cause, out);
+    }
+    out.push_str(unseen_text(ends))?;
+    push_muted_before(clock, &mute.cause, out)
 }
 
 /// Adds that an alert was muted at each flush, and why.
@@ -314,6 +335,19 @@ fn push_muted_each<C: TimeFormat>(
         ≡ string_bytes out.old ++ muted_each_text (C.times clock.now) cause.now) }
 {
     out.push_str("muted at each flush:")?;
+    push_cause(clock, cause, out)
+}
+
+/// Adds why an alert was muted before it fired last.
+fn push_muted_before<C: TimeFormat>(
+    clock: &C,
+    cause: &MuteCause,
+    out: &mut String,
+) -> Result<(), AllocError>
+    ensures { OnOk result (string_bytes out.new
+        ≡ string_bytes out.old ++ muted_before_text (C.times clock.now) cause.now) }
+{
+    out.push_str("; before that")?;
     push_cause(clock, cause, out)
 }
 

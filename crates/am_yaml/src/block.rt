@@ -115,7 +115,9 @@ impl Parser<'_> {
             let is_entered = self
                 .path
                 .enter_member(depth_at(levels), key.name.as_str(), key.at);
+            let before = self.begin_value(key.name.as_str());
             let value = self.node(Lead::Key, column.saturating_add(1), below)?;
+            self.end_value(before);
             self.path.leave(is_entered);
             members.add(key, value)?;
             match self.next_key(column)? {

@@ -22,6 +22,8 @@ pub enum Reason {
     Anchor,
     /// An alias of no anchor above.
     Alias,
+    /// An alias of a value with a flag or a number in it, whose own text isn't known any more, where texts are wanted.
+    Untold,
     /// A key that is no text on one line, of at most 1024 bytes.
     Key,
     /// A key that the mapping has already.
@@ -96,6 +98,8 @@ impl fmt::Display for Reason {
             Reason::Tag => "a tag; leave it out",
             Reason::Anchor => "an anchor that can't be here",
             Reason::Alias => "an alias of no anchor above it",
+            Reason::Untold =>
+                "an alias of a flag or a number where a text is wanted; write the text in quotes",
             Reason::Key => "a key that isn't a text on one line",
             Reason::Duplicate => "a key that the mapping has already",
             Reason::Merge => "a merge that YAML's readers understand differently",

@@ -96,11 +96,13 @@ impl Parser<'_> {
                 return members.end();
             }
             let key = self.flow_key(floor)?;
-            members.refuse_twice(&key)?;
+            self.refuse_repeated(&members, &key)?;
             let is_entered = self
                 .path
                 .enter_member(depth_at(levels), key.name.as_str(), key.at);
+            let before = self.begin_value(key.name.as_str());
             let value = self.flow_value(floor, below)?;
+            self.end_value(before);
             self.path.leave(is_entered);
             members.add(key, value)?;
             self.flow_separator(b'}')?;

@@ -16,8 +16,9 @@ pub enum Part {
     Value,
 }
 
-/// Returns where a value stands in a text of YAML or JSON, or the key of its member, by its JSON pointer. Where the
-/// text hasn't it, or can't be read up to it, it is the key of the last value on the way that it has.
+/// Returns where a value stands in a text of YAML or JSON, or the key of its member, by its JSON pointer: of two members
+/// of one name in JSON the last one. Where the text hasn't it, or can't be read up to it, it is the key of the last value
+/// on the way that it has.
 pub fn locate(alloc: Global, text: &str, pointer: &str, part: Part) -> Result<Place, AllocError>
     ensures { IfOk result (λ place. IsPlaceIn text.now place.line place.column) }
 {
@@ -45,6 +46,7 @@ fn offset_in_lines(
 
 fn offset_of(alloc: Global, text: &str, steps: &[Step], part: Part) -> Result<usize, AllocError> {
     let mut parser = Parser::new(alloc, text, steps);
+    parser.let_repeat();
     if parser.whole_document() == Err(Stop::NoMemory) {
         return Err(AllocError);
     }

@@ -2,6 +2,7 @@
 use crate::anchors::Anchors;
 use crate::cursor::{Cursor, is_gap};
 use crate::fault::{Reason, Stop};
+use crate::members::{Key, Members};
 use crate::path::{Path, Step};
 use crate::plain::Place;
 use crate::resolve::resolve;
@@ -10,6 +11,9 @@ use std::alloc::Global;
 
 /// How deep collections may lie.
 pub const MAX_DEPTH: usize = 100;
+
+/// The fields whose values Alertmanager reads as texts, whatever they look like.
+const TEXTS: [&str; 2] = ["match", "match_re"];
 
 /// Returns how many collections lie round one below which so many levels may be, itself the first.
 pub(crate) fn depth_at(levels: usize) -> usize {
@@ -23,6 +27,10 @@ pub(crate) struct Parser<'t> {
     pub(crate) cursor: Cursor<'t>,
     pub(crate) anchors: Anchors,
     pub(crate) path: Path<'t>,
+    /// Whether a flag or a number is the text that is written.
+    wants_texts: bool,
+    /// Whether a key may stand twice between braces, as in JSON.
+    may_repeat: bool,
 }
 
 /// An anchor's name and its offset.
@@ -45,7 +53,34 @@ impl<'t> Parser<'t> {
             cursor: Cursor::new(text),
             anchors: Anchors::new(alloc),
             path: Path::new(steps),
+            wants_texts: false,
+            may_repeat: false,
         }
+    }
+
+    /// Lets a key stand twice between braces, as in JSON. The last one counts.
+    pub(crate) fn let_repeat(&mut self) {
+        self.may_repeat = true;
+    }
+
+    /// Refuses a key between braces that is there already, if it mustn't be.
+    pub(crate) fn refuse_repeated(&self, members: &Members, key: &Key) -> Result<(), Stop> {
+        if self.may_repeat {
+            return Ok(());
+        }
+        members.refuse_twice(key)
+    }
+
+    /// Notes what the value of a key is read as, and returns how it was before.
+    pub(crate) fn begin_value(&mut self, key: &str) -> bool {
+        let before = self.wants_texts;
+        self.wants_texts = before || TEXTS.contains(&key);
+        before
+    }
+
+    /// Goes on as it was before a value.
+    pub(crate) fn end_value(&mut self, before: bool) {
+        self.wants_texts = before;
     }
 
     /// Reads the name behind `&` or `*`, which ends before a gap or, in a flow collection, before one of its
@@ -97,17 +132,18 @@ impl<'t> Parser<'t> {
     pub(crate) fn alias(&mut self, levels: usize) -> Result<Value, Stop> {
         let at = self.cursor.at();
         let name = self.name(Reason::Alias)?;
-        self.anchors.copy(name, at, levels)
+        self.anchors.copy(name, at, levels, self.wants_texts)
     }
 
-    /// Reads a plain scalar, and tells what it means.
+    /// Reads a plain scalar, and tells what it means. Where texts are wanted only null isn't its own text.
     pub(crate) fn plain_value(&mut self, place: Place) -> Result<Value, Stop> {
         let at = self.cursor.at();
         let text = self.plain(place)?;
         match resolve(text.as_str()) {
-            Ok(Some(value)) => Ok(value),
-            Ok(None) => Ok(Value::String(text)),
-            Err(reason) => Err(Stop::At { at, reason }),
+            Ok(Some(Value::Null)) => Ok(Value::Null),
+            Ok(Some(value)) if !self.wants_texts => Ok(value),
+            Err(reason) if !self.wants_texts => Err(Stop::At { at, reason }),
+            _ => Ok(Value::String(text)),
         }
     }
 }

@@ -14,11 +14,11 @@ pub(crate) struct Step {
 #[derive(Clone, Copy)]
 pub(crate) struct Path<'t> {
     steps: &'t [Step],
-    /// How many steps were gone.
+    /// How many steps lead to what is read now.
+    open: usize,
+    /// How many steps lead to the last value that they led to.
     taken: usize,
-    /// Whether the last of them was left behind, so that no further one can follow.
-    is_left: bool,
-    /// The offset of the last key, or of the value where there is no key.
+    /// The offset of its key, or of the value where there is no key.
     key_at: usize,
     /// The offset of the last value.
     value_at: usize,
@@ -70,15 +70,16 @@ impl<'t> Path<'t> {
     pub(crate) fn new(steps: &'t [Step]) -> Path<'t> {
         Path {
             steps,
+            open: 0,
             taken: 0,
-            is_left: false,
             key_at: 0,
             value_at: 0,
             is_awaited: true,
         }
     }
 
-    /// Goes a step if it leads to the member of this name, so many levels below the top, and tells whether it does.
+    /// Goes a step if it leads to the member of this name, so many levels below the top, and tells whether it does. Of two
+    /// members of one name the last counts.
     pub(crate) fn enter_member(&mut self, depth: usize, name: &str, at: usize) -> bool {
         let is_step = match self.next_step(depth) {
             Some(step) => step.name.as_str() == name,
@@ -99,7 +100,7 @@ impl<'t> Path<'t> {
     /// Leaves a member or an item behind, if a step led to it.
     pub(crate) fn leave(&mut self, is_entered: bool) {
         if is_entered {
-            self.is_left = true;
+            self.open = self.open.saturating_sub(1);
             // (an empty value stands at its key)
             self.is_awaited = false;
         }
@@ -130,14 +131,15 @@ impl<'t> Path<'t> {
 
     /// Returns the step that can be gone so many levels below the top.
     fn next_step(&self, depth: usize) -> Option<&'t Step> {
-        if self.is_left || depth != self.taken {
+        if depth != self.open {
             return None;
         }
         self.steps.get(depth)
     }
 
     fn go(&mut self, at: usize) -> bool {
-        self.taken = self.taken.saturating_add(1);
+        self.open = self.open.saturating_add(1);
+        self.taken = self.open;
         self.key_at = at;
         self.value_at = at;
         self.is_awaited = true;

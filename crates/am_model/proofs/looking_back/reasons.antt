@@ -1,3 +1,4 @@
+pub mod Chains
 pub mod Previews
 pub mod ReasonsAreExact
 pub mod ReasonsSay

@@ -1,10 +1,15 @@
 -- Reasons: why a begin notifies an integration of its group's receiver, or why not, computed from the history before it, without a state.
-use Rattle.std.specs.Prelude.{◌≡◌, ◌≢◌, ◌↔◌, ℕ, ◌+◌, ◌<◌, ◌≤◌, Bool, true, false, not, ◌&&◌, ◌==◌, nat_lt, All, List, [], ◌∷◌, map}
+use Rattle.std.specs.Prelude.{◌≡◌, ◌≢◌, ◌↔◌, ℕ, ◌+◌, ◌<◌, ◌≤◌, Bool, true, false, ◌&&◌, ◌==◌, All, List, [], ◌∷◌, map}
 use Rattle.std.specs.Prelude.{filter, Option, Some, None, if◌then◌else◌}
 use Rattle.std.specs.List.{list_any}
+use Rattle.std.specs.Option.{option_map}
 use Rattle.am_alerts.specs.Labels.{same_label_set}
 use Rattle.am_alerts.specs.declared.labels.Label.{Label}
 use Rattle.am_nflog.specs.Members.{is_empty, is_member, is_subset}
+use Rattle.am_nflog.specs.Needed.{update_reason}
+use Rattle.am_nflog.specs.declared.update.UpdateReason.{UpdateReason}
+use Rattle.am_nflog.specs.declared.update.UpdateReason.TheVariants as update
+use Rattle.am_model.specs.Begin.{log_row}
 use Rattle.am_model.specs.declared.config.Config.{Config}
 use Rattle.am_model.specs.declared.config.Integration.{Integration}
 use Rattle.am_model.specs.declared.group.GroupName.{GroupName}
@@ -30,15 +35,20 @@ asks NothingFiring = false
 asks (NotYet from) = false
 asks (RouteMuted until) = false
 
--- the reason where these label sets fire and those are resolved at t: the first case that applies (Alertmanager's DedupStage.needsUpdate)
+-- the reason of an update, or of none, where this is the repeat interval
+abbrev pub reason_of_update : ℕ → UpdateReason → Reason
+reason_of_update repeat update.FirstNotice = FirstNotice
+reason_of_update repeat update.NewAlert = NewAlert
+reason_of_update repeat update.AllResolved = AllResolved
+reason_of_update repeat update.NewlyResolved = NewlyResolved
+reason_of_update repeat update.Repeat = Repeat
+reason_of_update repeat update.NothingFiring = NothingFiring
+reason_of_update repeat (update.NotYet since) = NotYet (since + repeat + 1)
+
+-- the reason where these label sets fire and those are resolved at t (Alertmanager's DedupStage.needsUpdate)
 abbrev pub reason_by : Option RowView → List (List Label) → List (List Label) → Bool → ℕ → ℕ → Reason
-reason_by None firing resolved send_resolved repeat t = if is_empty firing then NothingFiring else FirstNotice
-reason_by (Some row) firing resolved send_resolved repeat t =
-    if not (is_subset same_label_set firing row.firing) then NewAlert
-    else if is_empty firing then (if is_empty row.firing then NothingFiring else AllResolved)
-    else if send_resolved && not (is_subset same_label_set resolved row.resolved) then NewlyResolved
-    else if nat_lt (row.moment + repeat) t then Repeat
-    else NotYet (row.moment + repeat + 1)
+reason_by entry firing resolved send_resolved repeat t =
+    reason_of_update repeat (update_reason same_label_set (option_map log_row entry) firing resolved send_resolved repeat t)
 
 -- the same, but where nothing fires and nothing is resolved nothing is left to tell
 abbrev pub reason_told : Option RowView → List (List Label) → List (List Label) → Bool → ℕ → ℕ → Reason

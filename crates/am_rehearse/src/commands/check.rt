@@ -2,9 +2,10 @@
 use crate::commands::faults::accept;
 use crate::commands::warnings::push_warnings;
 use crate::console::{Console, Document, shown};
-use crate::input::{
-    Configured, Form, Overrides, ReceiversOf, form_of, has_configuration, read_file,
-};
+use am_input::configured::{Configured, read_file};
+use am_input::faults::ReceiversOf;
+use am_input::form::{Form, form_of, has_configuration};
+use am_input::input::Overrides;
 use std::alloc::AllocError;
 use std::rt::Files;
 

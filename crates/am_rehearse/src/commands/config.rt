@@ -1,6 +1,6 @@
 //! Configurations that are read for themselves, whichever form a file has.
 use crate::console::Console;
-use crate::input::{Configured, read_file};
+use am_input::configured::{Configured, read_file};
 use std::rt::Files;
 
 /// Returns the configuration of a file. The error is the status.

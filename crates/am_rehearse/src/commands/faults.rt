@@ -1,8 +1,9 @@
 //! The faults of a story, of which `check`, `compare` and `play` complain.
 use crate::console::{Console, Document};
-use crate::input::{Overrides, ReceiversOf, story_faults};
-use crate::zone_files::SystemZones;
+use crate::system_zones::SystemZones;
 use am_config::faults::Faults;
+use am_input::faults::{ReceiversOf, story_faults};
+use am_input::input::Overrides;
 use std::rt::Files;
 
 /// Returns the faults of a story. The error is the status where memory was refused.

@@ -1,7 +1,8 @@
 //! Configurations that are given to a story, whose clocks they have.
 use crate::console::{Console, Document};
-use crate::input::{Configured, Overrides, configured_for};
-use crate::zone_files::SystemZones;
+use crate::system_zones::SystemZones;
+use am_input::configured::{Configured, configured_for};
+use am_input::input::Overrides;
 use std::rt::Files;
 
 /// Returns a configuration that is given to a story. The error is the status.

@@ -1,12 +1,9 @@
 //! The answers to the attempts of a notice, and how they are read. `read` calls it.
-ghost use Rattle.std.specs.Prelude.{◌≡◌, Some, IfOk};
-ghost use Rattle.serde_json.specs.Find.{as_str};
-ghost use Rattle.serde_json.specs.View.{view};
+ghost use Rattle.std.specs.Prelude.{◌≡◌};
 ghost use Rattle.am_scenario.specs.Scripts.{answer_to, at_once, sent_at};
-ghost use Rattle.am_scenario.specs.Decoding.{answer_text};
 
 use am_alerts::limits::MAX_DURATION;
-use am_cli::fault::{FaultKind, InputFault};
+use am_cli::fault::InputFault;
 use am_cli::reader::{FromJson, Reader};
 use am_pool::Sent;
 use am_retry::Answer;
@@ -88,19 +85,8 @@ impl<'v> FromJson<'v> for ScriptedAnswer {
 
     fn read(reader: &Reader<'v, '_>) -> Result<ScriptedAnswer, InputFault> {
         let (word, takes) = reader.pair()?;
-        let answer = read_answer(&word)?;
+        let answer = Answer::read(&word)?;
         let takes = takes.number_up_to(MAX_DURATION)?;
         Ok(ScriptedAnswer { answer, takes })
-    }
-}
-
-fn read_answer(reader: &Reader<'_, '_>) -> Result<Answer, InputFault>
-    ensures { IfOk result (λ answer. as_str (view reader.now.value) ≡ Some (answer_text answer)) }
-{
-    match reader.text()? {
-        "done" => Ok(Answer::Done),
-        "again" => Ok(Answer::Again),
-        "never" => Ok(Answer::Never),
-        _ => Err(reader.refuse(FaultKind::BadValue)),
     }
 }

@@ -1,18 +1,17 @@
 //! `Findings`: what looking back on a rehearsal finds of its alerts. `undelivered` calls it.
 ghost use Rattle.std.specs.Prelude.{◌≡◌, ◌≤◌, IfOk, option_copied};
 ghost use Rattle.am_timeline.specs.Expectation.{has_set};
-ghost use Rattle.am_timeline.specs.Undelivered.{alert_route_mute, findings_of, fired_for, last_cause};
+ghost use Rattle.am_timeline.specs.Undelivered.{alert_route_mute, findings_of, fired_for, last_mute};
 
 use crate::playback::Playback;
 use crate::undelivered::alert_set::AlertSet;
 use crate::undelivered::delivered::sent_alerts;
 use crate::undelivered::durations::Durations;
-use crate::undelivered::muted_alerts::MutedAlerts;
+use crate::undelivered::muted_alerts::{Mute, MutedAlerts};
 use crate::undelivered::route_mutes::RouteMutes;
 use am_alerts::alert::Alert;
 use am_alerts::labels::Labels;
 use am_board::config::Config;
-use am_mute::mute::MuteCause;
 use std::alloc::{AllocError, Global};
 use std::marker::Model;
 
@@ -26,11 +25,14 @@ pub(super) struct Findings {
 }
 
 impl Model for Findings {
+    ghost use Rattle.std.specs.Prelude.{◌≡◌};
     ghost use Rattle.am_timeline.specs.Undelivered.{FindingsData};
 
     ghost Value = { FindingsData };
 
-    ghost view = { λ f. record { sent = f.sent; muted = f.muted; begins = f.begins; inserted = f.inserted } };
+    ghost view = { λ f. record { sent = f.sent; begins = f.begins; inserted = f.inserted } };
+
+    ghost invariant = { λ f. f.muted ≡ f.begins };
 }
 
 impl Findings {
@@ -39,8 +41,7 @@ impl Findings {
         ensures { IfOk result (λ found. found ≡ findings_of playback.now) }
     {
         let sent = sent_alerts(alloc, playback.history)?;
-        let mut muted = MutedAlerts::new(alloc);
-        muted.add_all(playback.begins)?;
+        let muted = MutedAlerts::of(alloc, playback.begins)?;
         let mut begins = RouteMutes::new(alloc);
         begins.add_all(playback.begins)?;
         let mut inserted = Durations::new(alloc);
@@ -60,11 +61,11 @@ impl Findings {
         self.sent.has(labels)
     }
 
-    /// Returns why the alert of this label set was muted last, if it was.
-    pub(super) fn last_cause(&self, labels: &Labels) -> Option<&MuteCause>
-        ensures { option_copied result ≡ last_cause labels.now self.now.muted }
+    /// Returns the last begin at which the alert of this label set was muted, if there is one.
+    pub(super) fn last_mute(&self, labels: &Labels) -> Option<&Mute>
+        ensures { option_copied result ≡ last_mute labels.now self.now.begins }
     {
-        self.muted.last_cause(labels)
+        self.muted.last_mute(labels)
     }
 
     /// Returns until when a route of an alert is muted, in milliseconds, if a flush of its group found that since the alert

@@ -1,9 +1,12 @@
-//! `MutedAlerts`: why alerts were muted last. Contracts see it as the list of the muted alerts that
-//! were added.
+//! `MutedAlerts`: when alerts were muted last, and why. Contracts see it as the list of the begins that it was made of.
 //!
-//! Invariant: each label set has the cause of the last muted alert that was added with it.
-ghost use Rattle.std.specs.Prelude.{◌≡◌, ◌++◌, ◌∷◌, [], IfOk, OnOk, option_copied};
-ghost use Rattle.am_timeline.specs.Undelivered.{last_cause, muted_in};
+//! Invariant: each label set has the last begin at which it was muted.
+ghost use Rattle.std.specs.Prelude.{◌≡◌, IfOk, List, OnOk, Some, if◌then◌else◌, option_copied};
+ghost use Rattle.std.specs.HashMap.{get};
+ghost use Rattle.std.specs.Option.{option_or};
+ghost use Rattle.am_alerts.specs.Labels.{same_label_set};
+ghost use Rattle.am_alerts.specs.declared.labels.Label.{Label};
+ghost use Rattle.am_timeline.specs.Undelivered.{last_mute, mute_in};
 
 use am_alerts::labels::Labels;
 use am_board::preview::MutedAlert;
@@ -14,12 +17,19 @@ use std::alloc::{AllocError, Global};
 use std::collections::HashMap;
 use std::marker::Model;
 
-/// Why alerts were muted last.
+/// A begin at which an alert was muted.
+#[derive(Drop)]
+pub struct Mute {
+    /// When it began, in milliseconds.
+    pub begun: u64,
+    pub cause: MuteCause,
+}
+
+/// When alerts were muted last, and why.
 #[derive(Drop)]
 pub(super) struct MutedAlerts {
-    alloc: Global,
-    causes: HashMap<Labels, MuteCause>,
-    added: GhostList<MutedAlert>,
+    mutes: HashMap<Labels, Mute>,
+    begins: GhostList<PreviewedBegin>,
 }
 
 impl Model for MutedAlerts {
@@ -27,65 +37,73 @@ impl Model for MutedAlerts {
     ghost use Rattle.std.specs.HashMap.{get};
     ghost use Rattle.am_alerts.specs.Labels.{same_label_set};
     ghost use Rattle.am_alerts.specs.declared.labels.Label.{Label};
-    ghost use Rattle.am_model.specs.declared.preview.MutedAlert as muted;
-    ghost use Rattle.am_timeline.specs.Undelivered.{last_cause};
+    ghost use Rattle.am_rehearsal.specs.declared.event.PreviewedBegin as previewed;
+    ghost use Rattle.am_timeline.specs.Undelivered.{last_mute};
 
-    ghost Value = { List muted.MutedAlert };
+    ghost Value = { List previewed.PreviewedBegin };
 
-    ghost view = { λ m. m.added.items };
+    ghost view = { λ m. m.begins.items };
 
-    ghost invariant = { λ m. (labels : List Label) → get same_label_set m.causes labels ≡ last_cause labels m.added.items };
+    ghost invariant = { λ m. (labels : List Label) → get same_label_set m.mutes labels ≡ last_mute labels m.begins.items };
 }
 
 impl MutedAlerts {
-    /// Of no alerts.
-    pub(super) fn new(alloc: Global) -> MutedAlerts
-        ensures { result ≡ [] }
+    /// Returns when alerts were muted last in these begins.
+    pub(super) fn of(alloc: Global, begins: &[PreviewedBegin]) -> Result<MutedAlerts, AllocError>
+        ensures { IfOk result (λ muted. muted ≡ begins.now) }
     {
-        MutedAlerts {
-            alloc,
-            causes: HashMap::new(alloc),
-            added: GhostList::new(),
-        }
-    }
-
-    /// Why the alert of this label set was muted last, if it was.
-    pub(super) fn last_cause(&self, labels: &Labels) -> Option<&MuteCause>
-        ensures { option_copied result ≡ last_cause labels.now self.now }
-    {
-        self.causes.get(labels)
-    }
-
-    /// Adds a muted alert.
-    fn add(&mut self, muted: &MutedAlert) -> Result<(), AllocError>
-        ensures { OnOk result (self.new ≡ self.old ++ muted.now ∷ []) }
-    {
-        let labels = muted.labels.copy(self.alloc)?;
-        let cause = copy_of(self.alloc, &muted.cause)?;
-        self.causes.insert(labels, cause)?;
-        self.added.add(muted);
-        Ok(())
-    }
-
-    /// Adds these muted alerts.
-    fn add_each(&mut self, muted: &[MutedAlert]) -> Result<(), AllocError>
-        ensures { OnOk result (self.new ≡ self.old ++ muted.now) }
-    {
-        for alert in muted {
-            self.add(alert)?;
-        }
-        Ok(())
-    }
-
-    /// Adds the muted alerts of these begins.
-    pub(super) fn add_all(&mut self, begins: &[PreviewedBegin]) -> Result<(), AllocError>
-        ensures { OnOk result (self.new ≡ self.old ++ muted_in begins.now) }
-    {
+        let mut mutes = HashMap::new(alloc);
+        let mut added = GhostList::new();
         for begin in begins {
-            self.add_each(begin.preview.muted.as_slice())?;
+            let muted = begin.preview.muted.as_slice();
+            add_mutes(alloc, begin.preview.moment, muted, &mut mutes)?;
         }
-        Ok(())
+        added.add_all(begins);
+        Ok(MutedAlerts {
+            mutes,
+            begins: added,
+        })
     }
+
+    /// The last begin at which the alert of this label set was muted, if there is one.
+    pub(super) fn last_mute(&self, labels: &Labels) -> Option<&Mute>
+        ensures { option_copied result ≡ last_mute labels.now self.now }
+    {
+        self.mutes.get(labels)
+    }
+}
+
+/// Adds these muted alerts of a begin at this time.
+fn add_mutes(
+    alloc: Global,
+    begun: u64,
+    muted: &[MutedAlert],
+    mutes: &mut HashMap<Labels, Mute>,
+) -> Result<(), AllocError>
+    ensures { OnOk result ((labels : List Label) → get same_label_set mutes.new labels
+        ≡ option_or (mute_in labels begun muted.now) (get same_label_set mutes.old labels)) }
+{
+    for alert in muted {
+        add_mute(alloc, begun, alert, mutes)?;
+    }
+    Ok(())
+}
+
+/// Adds a muted alert of a begin at this time.
+fn add_mute(
+    alloc: Global,
+    begun: u64,
+    alert: &MutedAlert,
+    mutes: &mut HashMap<Labels, Mute>,
+) -> Result<(), AllocError>
+    ensures { OnOk result ((labels : List Label) → get same_label_set mutes.new labels
+        ≡ (if same_label_set alert.now.labels labels then Some (record { begun = begun; cause = alert.now.cause })
+        else get same_label_set mutes.old labels)) }
+{
+    let labels = alert.labels.copy(alloc)?;
+    let cause = copy_of(alloc, &alert.cause)?;
+    mutes.insert(labels, Mute { begun, cause })?;
+    Ok(())
 }
 
 fn copy_of(alloc: Global, cause: &MuteCause) -> Result<MuteCause, AllocError>

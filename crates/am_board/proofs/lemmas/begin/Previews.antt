@@ -1,5 +1,5 @@
 -- What a begin is to do, as the walks over the members of a group and over its receiver's integrations come to it.
-use Rattle.std.proofs.Common.{◌≡◌, ◌+◌, ◌<◌, ℕ, Bool, ◌&&◌, Option, Some, None, List, [], ◌∷◌, ◌++◌, length, map, find, take, get_or, refl, sym, ap, ◌∙◌, subst, if◌then◌else◌}
+use Rattle.std.proofs.Common.{◌≡◌, ◌+◌, ◌<◌, ℕ, Bool, Option, Some, None, List, [], ◌∷◌, ◌++◌, length, map, find, take, get_or, refl, sym, ap, ◌∙◌, subst}
 use Rattle.std.specs.Prelude.{All, IfSome}
 use Rattle.std.specs.List.{enumerate_from, filter_map, cons_option}
 use Rattle.std.specs.Option.{option_map}
@@ -7,19 +7,18 @@ use Rattle.std.proofs.lemmas.List.{map-append, take_more}
 use Rattle.std.proofs.lemmas.List.Elements.{filter_map-append, recursion_from_All}
 use Rattle.am_alerts.specs.declared.labels.Label.{Label}
 use Rattle.am_nflog.specs.Log.{Slots, row_of, HasDistinctKeys}
-use Rattle.am_nflog.specs.Members.{is_empty}
 use Rattle.am_nflog.specs.declared.key.LogKey.{LogKey}
 use Rattle.am_model.specs.declared.config.Config.{Config}
 use Rattle.am_model.specs.declared.config.Integration.{Integration}
 use Rattle.am_model.specs.declared.group.GroupName.{GroupName}
 use Rattle.am_model.specs.declared.preview.MutedAlert.{MutedAlert}
 use Rattle.am_model.specs.declared.reason.Reason.{Reason}
-use Rattle.am_model.specs.declared.reason.Reason.TheVariants.{NothingLeft, RouteMuted}
+use Rattle.am_model.specs.declared.reason.Reason.TheVariants.{RouteMuted}
 use Rattle.am_model.specs.declared.views.RowView.{RowView}
 use Rattle.am_model.specs.Begin.{entry_of, firing_of, is_entry_of, label_sets, log_row, resolved_of}
 use Rattle.am_model.specs.Configured.{route_of, route_muted}
 use Rattle.am_model.specs.look_back.Preview.{reason_of}
-use Rattle.am_model.specs.look_back.Reasons.{reason_by, reason_told, reason_where}
+use Rattle.am_model.specs.look_back.Reasons.{reason_told, reason_where}
 use Rattle.am_model.specs.State.{MemberState, GroupState, State, same_name}
 use Rattle.am_model.proofs.lists.Distinct.{all-find}
 use Rattle.am_board.specs.declared.flush.AlertSets.{AlertSets}
@@ -28,7 +27,7 @@ use Rattle.am_board.specs.declared.unmuted.Unmuted.{Unmuted}
 use Rattle.am_board.specs.Beginning.{IsUnmuted, alert_sets_of}
 use Rattle.am_board.specs.Refinement.{member_state}
 use Rattle.am_board.specs.LogRows.{log_rows}
-use Rattle.am_board.specs.Preview.{reason_if_kept, reason_among}
+use Rattle.am_board.specs.Preview.{reason_among}
 use Rattle.am_board.proofs.lemmas.begin.Updates.{enumerate-more}
 use Rattle.am_board.proofs.lemmas.invariant.LogRows.{entry_of-log_rows}
 
@@ -60,12 +59,6 @@ module _ (eq : GroupName → GroupName → Bool) (same : (a b : GroupName) → e
       by None found = tt
       by (Some row) found = all-find (λ (r : RowView). P r.moment) (is_entry_of name i) row (log_rows log) (recursion_from_All (λ (r : RowView). P r.moment) (log_rows log) all) found
 
--- the reason by a kept row is the one by the definitions' row
-by-row : (o : Option RowView) (sets : AlertSets) (send_resolved : Bool) (repeat t : ℕ)
-    → reason_if_kept (option_map log_row o) sets send_resolved repeat t ≡ reason_by o sets.firing sets.resolved send_resolved repeat t
-by-row None sets send_resolved repeat t = refl
-by-row (Some row) sets send_resolved repeat t = refl
-
 -- the reasons where the group's route is muted
 pub reasons-muted : (config : Config) (s : State) (t : ℕ) (g : GroupState) (until : ℕ) → Some until ≡ route_muted config g.name t
     → (is : List (ℕ × Integration)) → map (λ i. RouteMuted until) is ≡ map (reason_of config s t g) is
@@ -78,7 +71,6 @@ pub reasons-by : (config : Config) (s : State) (t : ℕ) (g : GroupState) (unmut
     → (is : List (ℕ × Integration)) → map (reason_among s.rows g.name sets (route_of config g.name).repeat_interval t) is ≡ map (reason_of config s t g) is
 reasons-by config s t g unmuted is unshut sets told_is all =
     let repeat = (route_of config g.name).repeat_interval in
-    (λ j. map (λ (i : ℕ × Integration). if is_empty sets.firing && is_empty sets.resolved then NothingLeft else by-row (find (is_entry_of g.name i.0) s.rows) sets i.1.send_resolved repeat t j) all)
-    ∙ (ap (λ (x : AlertSets). map (λ (i : ℕ × Integration). reason_told (find (is_entry_of g.name i.0) s.rows) x.firing x.resolved i.1.send_resolved repeat t) all) told_is
-    ∙ (λ j. map (λ (i : ℕ × Integration). reason_told (find (is_entry_of g.name i.0) s.rows) (label_sets (is.firing j)) (label_sets (is.resolved j)) i.1.send_resolved repeat t) all)
+    ap (λ (x : AlertSets). map (λ (i : ℕ × Integration). reason_told (find (is_entry_of g.name i.0) s.rows) x.firing x.resolved i.1.send_resolved repeat t) all) told_is
+    ∙ ((λ j. map (λ (i : ℕ × Integration). reason_told (find (is_entry_of g.name i.0) s.rows) (label_sets (is.firing j)) (label_sets (is.resolved j)) i.1.send_resolved repeat t) all)
     ∙ sym (ap (λ o. map (λ (i : ℕ × Integration). reason_where o (reason_told (find (is_entry_of g.name i.0) s.rows) (label_sets (firing_of config s t g)) (label_sets (resolved_of config s t g)) i.1.send_resolved repeat t)) all) unshut))

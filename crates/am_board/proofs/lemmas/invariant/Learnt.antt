@@ -2,10 +2,9 @@
 use Rattle.std.proofs.Common.{◌≡◌, ℕ, zero, suc, ◌<◌, ◌≤◌, true, false, List, [], ◌∷◌, length, refl, sym, ap, ◌∙◌, subst, arith, if◌then◌else◌}
 use Rattle.am_alerts.specs.AlertData.{AlertData}
 use Rattle.am_alerts.specs.LabelOrder.{same_label_set-decides}
-use Rattle.am_alerts.specs.Matcher.{match_all}
 use Rattle.am_mute.specs.Inhibit.{RuleData}
 use Rattle.am_mute.specs.SourceIndex.{SourceIndex}
-use Rattle.am_mute.specs.Sources.{AreLearnt, HasKey, HasSources, IsAt, key_of}
+use Rattle.am_mute.specs.Sources.{AreLearnt, HasKeys, HasSources, IsAt}
 use Rattle.am_model.specs.declared.config.Config.{Config}
 use Rattle.am_model.specs.declared.record.Call.{Call}
 use Rattle.am_model.specs.declared.record.Call.TheVariants.{Insert, Silence, Begin, Finish, Maintain, Note}
@@ -51,15 +50,13 @@ module _ (alert : AlertData) where
   learnt_put rules known index learnt =
       record {
         learnt = omega (arith, learnt.learnt, no_fewer known);
-        within = λ k had. let within = learnt.within k had in (omega (arith, within.0, no_fewer known), within.1);
         sources = sources;
       }
     where
       sources : (number : ℕ) (rule : RuleData) → IsAt rules number rule → HasSources number rule (put known) index
-      sources number rule at i a is less matched =
+      sources number rule at i a is less =
           let was = was_at known i a is (omega (arith, less, learnt.learnt)) in
-          let key : key_of number rule.equal i was.0.labels ≡ key_of number rule.equal i a.labels = ap (key_of number rule.equal i) was.2 in
-          subst (HasKey index) key (learnt.sources number rule at i was.0 was.1 less (ap (match_all rule.source) was.2 ∙ matched))
+          subst (λ labels. HasKeys number rule i labels index) was.2 (learnt.sources number rule at i was.0 was.1 less)
 
 module _ (config : Config) (s : State) where
   -- what was learnt is of the known alerts after a call too

@@ -10,7 +10,9 @@ use Rattle.am_alerts.specs.Labels.{same_label_set}
 use Rattle.am_alerts.specs.declared.labels.Label.{Label}
 use Rattle.am_mute.specs.Mute.{is_muted}
 use Rattle.am_nflog.specs.Members.{is_empty, is_subset}
-use Rattle.am_nflog.specs.Needed.{needed}
+use Rattle.am_nflog.specs.Needed.{is_update, needed, update_reason}
+use Rattle.am_nflog.specs.declared.update.UpdateReason.{UpdateReason}
+use Rattle.am_nflog.specs.declared.update.UpdateReason.TheVariants as update
 use Rattle.am_model.specs.declared.config.Config.{Config}
 use Rattle.am_model.specs.declared.config.Integration.{Integration}
 use Rattle.am_model.specs.declared.group.GroupName.{GroupName}
@@ -24,7 +26,8 @@ use Rattle.am_model.specs.Configured.{rules_of, route_of, route_muted, integrati
 use Rattle.am_model.specs.look_back.Entry.{known_in, silences_in, present_in, without_end, firing_in, resolved_in, entry_in}
 use Rattle.am_model.specs.look_back.Laws.{EveryLegalHistory, asked_after, IsAskedRightly}
 use Rattle.am_model.specs.look_back.Past.{AtEach, past_of, moment_at, notices_in}
-use Rattle.am_model.specs.look_back.Reasons.{asks, reason_by, reason_about, reason_where, reason_in, is_asked_in, AsksForReasons, BeginsHaveReasons, NotYetEnds}
+use Rattle.am_model.specs.look_back.Reasons.{asks, reason_by, reason_of_update, reason_about, reason_where, reason_in, is_asked_in, AsksForReasons, BeginsHaveReasons, NotYetEnds}
+use Rattle.am_model.proofs.looking_back.reasons.Chains.{reason_by-chain, reason_chain}
 use Rattle.am_model.proofs.looking_back.reasons.AskedRightly.{begins_notify_exactly_whom_needed}
 use Rattle.am_model.proofs.lists.Distinct.{all_from, all-weaker, all-both}
 use Rattle.am_model.proofs.lists.Sets.{any-map}
@@ -34,26 +37,17 @@ use Rattle.am_model.proofs.lists.Sets.{any-map}
 needed-asks : (o : Option RowView) (firing resolved : List (List Label)) (send_resolved : Bool) (repeat t : ℕ)
     → needed same_label_set (option_map log_row o) firing resolved send_resolved repeat t
     ≡ asks (reason_by o firing resolved send_resolved repeat t)
-needed-asks None firing resolved send_resolved repeat t = by (is_empty firing)
+needed-asks o firing resolved send_resolved repeat t =
+    by (update_reason same_label_set (option_map log_row o) firing resolved send_resolved repeat t)
   where
-    by : (b : Bool) → not b ≡ asks (cond b NothingFiring FirstNotice)
-    by true = refl
-    by false = refl
-needed-asks (Some row) firing resolved send_resolved repeat t =
-    let new = not (is_subset same_label_set firing row.firing) in
-    let ended = send_resolved && not (is_subset same_label_set resolved row.resolved) in
-    by new (is_empty firing) (is_empty row.firing) ended (nat_lt (row.moment + repeat) t)
-  where
-    by : (new none fired ended over : Bool)
-        → cond new true (cond none (not fired) (cond ended true over))
-        ≡ asks (cond new NewAlert (cond none (cond fired NothingFiring AllResolved)
-        (cond ended NewlyResolved (cond over Repeat (NotYet (row.moment + repeat + 1))))))
-    by true none fired ended over = refl
-    by false true true ended over = refl
-    by false true false ended over = refl
-    by false false fired true over = refl
-    by false false fired false true = refl
-    by false false fired false false = refl
+    by : (reason : UpdateReason) → is_update reason ≡ asks (reason_of_update repeat reason)
+    by update.FirstNotice = refl
+    by update.NewAlert = refl
+    by update.AllResolved = refl
+    by update.NewlyResolved = refl
+    by update.Repeat = refl
+    by update.NothingFiring = refl
+    by (update.NotYet since) = refl
 
 filter-none : {X : Type 0} (xs : List X) → filter (λ x. false) xs ≡ []
 filter-none [] = refl
@@ -232,22 +226,31 @@ module _ (over from : ℕ) where
   case-ends true reason reason_at other ends t e = absurd (other e)
   case-ends false reason reason_at other ends t e = ends t e
 
-pub not_yet_ends : NotYetEnds
-not_yet_ends None firing resolved send_resolved repeat t from later e = absurd (by (is_empty firing) e)
+-- so it is of the cases by an entry
+chain-ends : (entry : Option RowView) (firing resolved : List (List Label)) (send_resolved : Bool) (repeat t from : ℕ)
+    → reason_chain entry firing resolved send_resolved repeat t ≡ NotYet from
+    → (t < from) × ((later : ℕ) → (from ≤ later → reason_chain entry firing resolved send_resolved repeat later ≡ Repeat)
+    × (later < from → reason_chain entry firing resolved send_resolved repeat later ≡ NotYet from))
+chain-ends None firing resolved send_resolved repeat t from e = absurd (by (is_empty firing) e)
   where
     by : (b : Bool) → cond b NothingFiring FirstNotice ≡ NotYet from → ⊥
     by true e = cc
     by false e = cc
-not_yet_ends (Some row) firing resolved send_resolved repeat t from later e =
+chain-ends (Some row) firing resolved send_resolved repeat t from e =
     let over = row.moment + repeat in
     let new = not (is_subset same_label_set firing row.firing) in
     let ended = send_resolved && not (is_subset same_label_set resolved row.resolved) in
     let last = case-ends over from ended NewlyResolved _ (λ e. cc) (repeat-ends over from) in
     let none = cond (is_empty row.firing) NothingFiring AllResolved in
     let middle = case-ends over from (is_empty firing) none _ (by (is_empty row.firing)) last in
-    let ends = case-ends over from new NewAlert _ (λ e. cc) middle t e in
-    (ends.0, (ends.1 later).0, (ends.1 later).1)
+    case-ends over from new NewAlert _ (λ e. cc) middle t e
   where
     by : (b : Bool) → cond b NothingFiring AllResolved ≡ NotYet from → ⊥
     by true e = cc
     by false e = cc
+
+pub not_yet_ends : NotYetEnds
+not_yet_ends entry firing resolved send_resolved repeat t from later e =
+    let chain = reason_by-chain entry firing resolved send_resolved repeat in
+    let ends = chain-ends entry firing resolved send_resolved repeat t from (sym (chain t) ∙ e) in
+    (ends.0, λ come. chain later ∙ (ends.1 later).0 come, λ before. chain later ∙ (ends.1 later).1 before)

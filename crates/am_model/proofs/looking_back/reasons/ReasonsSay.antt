@@ -13,8 +13,9 @@ use Rattle.am_model.specs.declared.reason.Reason.TheVariants.{FirstNotice, NewAl
 use Rattle.am_model.specs.declared.views.RowView.{RowView}
 use Rattle.am_model.specs.Configured.{route_of, route_muted}
 use Rattle.am_model.specs.look_back.Entry.{firing_in, resolved_in, entry_in}
-use Rattle.am_model.specs.look_back.Reasons.{reason_by, reason_where, HasMore, HasAllFiring, HasAllResolved, Says, SaysWhere, ReasonsAreSo}
+use Rattle.am_model.specs.look_back.Reasons.{reason_where, HasMore, HasAllFiring, HasAllResolved, Says, SaysWhere, ReasonsAreSo}
 use Rattle.am_model.proofs.lists.Sets.{any-alike}
+use Rattle.am_model.proofs.looking_back.reasons.Chains.{reason_by-chain, reason_chain}
 
 none-there : {X : Type 0} (xs : List X) → is_empty xs ≡ true → xs ≡ []
 none-there [] e = refl
@@ -85,7 +86,7 @@ module _ (row : RowView) (firing resolved : List (List Label)) (repeat t : ℕ) 
       ] refl
 
   tells-row : (send_resolved : Bool) → (is_empty firing && is_empty resolved) ≡ false
-      → Tells send_resolved (reason_by (Some row) firing resolved send_resolved repeat t)
+      → Tells send_resolved (reason_chain (Some row) firing resolved send_resolved repeat t)
   tells-row send_resolved left =
       let later = cond (send_resolved && not ended_among) NewlyResolved timed in
       let fired = cond (is_empty row.firing) NothingFiring AllResolved in
@@ -102,7 +103,7 @@ module _ (row : RowView) (firing resolved : List (List Label)) (repeat t : ℕ) 
 
 tells-by : (o : Option RowView) (firing resolved : List (List Label)) (send_resolved : Bool) (repeat t : ℕ)
     → (is_empty firing && is_empty resolved) ≡ false
-    → Says (reason_by o firing resolved send_resolved repeat t) o firing resolved send_resolved repeat t
+    → Says (reason_chain o firing resolved send_resolved repeat t) o firing resolved send_resolved repeat t
 tells-by None firing resolved send_resolved repeat t left =
     elim (is_empty firing) as (λ b. is_empty firing ≡ b → Says (cond b NothingFiring FirstNotice) None firing resolved send_resolved repeat t) [
       | true ↦ λ e. let nil = none-there firing e in (nil, some-left firing resolved left nil, λ row is. absurd (cc))
@@ -119,13 +120,13 @@ both-none (x ∷ xs) ys e = absurd (false≢true e)
 -- the reason by an entry
 abbrev decided : Option RowView → List (List Label) → List (List Label) → Bool → ℕ → ℕ → Reason
 decided o firing resolved send_resolved repeat t =
-    cond (is_empty firing && is_empty resolved) NothingLeft (reason_by o firing resolved send_resolved repeat t)
+    cond (is_empty firing && is_empty resolved) NothingLeft (reason_chain o firing resolved send_resolved repeat t)
 
 tells : (o : Option RowView) (firing resolved : List (List Label)) (send_resolved : Bool) (repeat t : ℕ)
     → Says (decided o firing resolved send_resolved repeat t) o firing resolved send_resolved repeat t
 tells o firing resolved send_resolved repeat t =
     let nothing = is_empty firing && is_empty resolved in
-    let reason = reason_by o firing resolved send_resolved repeat t in
+    let reason = reason_chain o firing resolved send_resolved repeat t in
     elim nothing as (λ b. nothing ≡ b → Says (cond b NothingLeft reason) o firing resolved send_resolved repeat t) [
       | true ↦ λ e. both-none firing resolved e
       | false ↦ λ e. tells-by o firing resolved send_resolved repeat t e
@@ -261,5 +262,12 @@ says-where (Some until) reason o firing resolved send_resolved repeat t = (λ is
 
 pub reasons_are_so : ReasonsAreSo
 reasons_are_so config name t past i reason =
-    says-where (route_muted config name t) reason (entry_in config name i.0 past) (firing_in config name t past)
-    (resolved_in config name t past) i.1.send_resolved (route_of config name).repeat_interval t
+    let muted = route_muted config name t in
+    let entry = entry_in config name i.0 past in
+    let firing = firing_in config name t past in
+    let resolved = resolved_in config name t past in
+    let repeat = (route_of config name).repeat_interval in
+    let both = says-where muted reason entry firing resolved i.1.send_resolved repeat t in
+    let chain = ap (λ (r : Reason). reason_where muted (cond (is_empty firing && is_empty resolved) NothingLeft r))
+    (reason_by-chain entry firing resolved i.1.send_resolved repeat t) in
+    (λ is. chain ∙ both.0 is, λ e. both.1 (sym chain ∙ e))

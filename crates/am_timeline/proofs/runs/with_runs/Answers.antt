@@ -3,7 +3,8 @@ use Rattle.std.proofs.lemmas.List.{drop_more, length-reverse, length-take}
 use Rattle.am_timeline.specs.declared.runs.Fold.{Fold}
 use Rattle.am_timeline.specs.declared.runs.Run.{Run}
 use Rattle.am_timeline.specs.Runs.{FlushData, fold_of, folds_of, next_of, run_by, run_of, runs_of}
-use Rattle.am_timeline.proofs.Folds.{fits-held, folds_of-more, next_of-more, reverse_more, run_by-is, runs_of-at, runs_of-length}
+use Rattle.am_timeline.proofs.Folds.{fits-held, folds_of-more, next_of-more, run_by-is, runs_of-at, runs_of-length}
+use Rattle.am_timeline.proofs.Reversed.{reverse_more}
 use Rattle.am_timeline.proofs.runs.with_runs.Goals as goal
 
 -- those before a place are fewer than all

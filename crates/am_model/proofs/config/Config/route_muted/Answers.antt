@@ -1,4 +1,4 @@
-use Rattle.std.proofs.Common.{rules, ◌≡◌, ◌<◌, None, [], ◌∷◌, map, ap, sym, ◌∙◌, length, arith}
+use Rattle.std.proofs.Common.{rules, ◌<◌, [], ◌∷◌, map, ap, sym, arith}
 use Rattle.std.proofs.lemmas.List.{get_or_past, length-map}
 use Rattle.am_alerts.specs.Forest.{listed}
 use Rattle.am_alerts.specs.RoutingTree.{TreeRoute, last_of}

@@ -1,4 +1,4 @@
-use Rattle.std.proofs.Common.{rules, ◌<◌, length, sym, ◌∙◌, arith}
+use Rattle.std.proofs.Common.{rules, ◌<◌, sym, ◌∙◌, arith}
 use Rattle.std.proofs.lemmas.List.{get_or_past, length-map}
 use Rattle.am_alerts.specs.Forest.{listed}
 use Rattle.am_alerts.specs.RoutingTree.{TreeRoute, children_of, last_of, routes_in}

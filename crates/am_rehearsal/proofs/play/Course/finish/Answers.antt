@@ -9,6 +9,6 @@ pub returns-clause-done : goal.returns-clause-done
 returns-clause-done c =
     let was = c.args.self.now in
     let s = c.remove-sending.result in
-    finish_done (setting_in was) (scene_in was) c.args.position s c.sending.inside.own.ticket c.finish.new.self.board c.finish.new.self.events.items c.remove-sending.new.self.items
+    finish_done (setting_in was) (scene_in was) c.args.position s c.sending.inside.own c.finish.new.self.board c.finish.new.self.events.items c.remove-sending.new.self.items
     (slice_get_read was.sendings.items was.sendings.len c.args.position s was.sendings.ok.0 c.requires c.remove-sending.ensures.value)
     (sym (ap (λ (t : SendingData). t.ticket) c.sending.view_is)) c.finish.ensures.called (ap (λ es. es.items) c.finish.ensures.events) c.remove-sending.ensures.items

@@ -12,8 +12,8 @@ use Rattle.am_rehearsal.proofs.play.Course.send.Goals as goal
 pub returns-in-Ok-clause-sent : goal.returns-in-Ok-clause-sent
 returns-in-Ok-clause-sent c =
     let was = c.args.self.now in
-    let t : TicketData = c.args.own.ticket in
-    let ticket : c.ticket-ticket.result.now ≡ t = c.ticket-ticket.ensures in
+    let t : TicketData = c.args.own in
+    let ticket : c.ticket-ticket.result.now ≡ t = c.ticket-ticket.ensures.ticket in
     let route : c.route_of.result.now ≡ route_of was.board.board.config t.group =
     c.route_of.ensures ∙ (ap (λ (x : Config). route_of x c.group.result.now) c.config.ensures
     ∙ ap (route_of was.board.board.config) (c.group.ensures ∙ ap (λ (u : TicketData). u.group) ticket))

@@ -1,7 +1,6 @@
-use Rattle.std.proofs.Common.{Err, refl, ap, subst, sym}
+use Rattle.std.proofs.Common.{refl, ap}
 use Rattle.std.specs.Option.{option_map}
-use Rattle.am_board.specs.History.{IsNotOpen, state_at}
-use Rattle.am_board.specs.declared.fault.FinishFault.{FinishFault}
+use Rattle.am_board.specs.History.{state_at}
 use Rattle.am_model.specs.Finish.{finished}
 use Rattle.am_model.specs.State.{FlushState}
 use Rattle.std.proofs.lemmas.Result.{IfOk-weaker}
@@ -17,26 +16,26 @@ use Rattle.am_rehearsal.proofs.previewing.PreviewingBoard.finish.Goals as goal
 pub invariant_of-self : goal.invariant_of-self
 invariant_of-self c =
     let was = c.args.self.now in
-    let ticket = c.args.own.ticket in
+    let ticket = c.args.own in
     let stands =
-    stands_over BOARD_ID was.begins.items was.board c.finish.new.self (was.ours, was.previews) c.finish.result
-    (IfOk-weaker c.finish.result _ _ (λ finished recorded. (entry 0 (Finish c.args.now ticket.number ticket.outcomes) (Finished finished), refl, recorded)) c.finish.ensures.recorded)
-    c.finish.ensures.refused in
+    stands_over BOARD_ID was.begins.items was.board c.finish_own.new.self (was.ours, was.previews) c.finish_own.result
+    (IfOk-weaker c.finish_own.result _ _ (λ finished recorded. (entry 0 (Finish c.args.now ticket.number ticket.outcomes) (Finished finished), refl, recorded)) c.finish_own.ensures.recorded)
+    c.finish_own.ensures.refused in
     record { ours = stands.0; previews = stands.1; begun = was.begun }
 
 pub returns-in-Ok-clause-input_trace : goal.returns-in-Ok-clause-input_trace
 returns-in-Ok-clause-input_trace c =
-    let ticket = c.args.own.ticket in
-    input_trace-same c.args.self.now.board c.finish.new.self (entry 0 (Finish c.args.now ticket.number ticket.outcomes) (Finished c.in-Ok._finished), refl, c.in-Ok.ensures.recorded)
+    let ticket = c.args.own in
+    input_trace-same c.args.self.now.board c.finish_own.new.self (entry 0 (Finish c.args.now ticket.number ticket.outcomes) (Finished c.in-Ok._finished), refl, c.in-Ok.ensures.recorded)
 
 pub returns-in-Ok-clause-called : goal.returns-in-Ok-clause-called
 returns-in-Ok-clause-called c =
-    let ticket = c.args.own.ticket in
-    called_is c.args.self.now.board c.finish.new.self (Finish c.args.now ticket.number ticket.outcomes) (Finished c.in-Ok._finished) c.in-Ok.ensures.reply c.in-Ok.ensures.recorded
+    let ticket = c.args.own in
+    called_is c.args.self.now.board c.finish_own.new.self (Finish c.args.now ticket.number ticket.outcomes) (Finished c.in-Ok._finished) c.in-Ok.ensures.reply c.in-Ok.ensures.recorded
 
-pub returns-in-Err-NotOpen-clause-called : goal.returns-in-Err-NotOpen-clause-called
-returns-in-Err-NotOpen-clause-called c =
-    let ticket = c.args.own.ticket in
+pub returns-in-Err-clause-called : goal.returns-in-Err-clause-called
+returns-in-Err-clause-called c =
+    let ticket = c.args.own in
     let old = c.args.self.now.board in
-    uncalled_is old c.finish.new.self (Finish c.args.now ticket.number ticket.outcomes)
-    (ap (option_map (λ (f : FlushState). Finished (finished (state_at old) ticket.outcomes f))) (c.in-Err-NotOpen.ensures.not_open.0 (subst (λ (f : FinishFault). IsNotOpen (Err f)) (sym c.in-Err-NotOpen.field-0-is) tt)).1) c.in-Err-NotOpen.ensures.refused
+    uncalled_is old c.finish_own.new.self (Finish c.args.now ticket.number ticket.outcomes)
+    (ap (option_map (λ (f : FlushState). Finished (finished (state_at old) ticket.outcomes f))) c.in-Err.ensures.not_open) c.in-Err.ensures.refused

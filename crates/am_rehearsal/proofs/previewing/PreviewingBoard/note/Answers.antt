@@ -1,7 +1,9 @@
-use Rattle.std.proofs.Common.{ap}
+use Rattle.std.proofs.Common.{◌∙◌, ap}
 use Rattle.std.proofs.lemmas.Result.{on_ok_weaker}
+use Rattle.am_model.specs.Ticket.{TicketData}
 use Rattle.am_model.specs.declared.record.Record.{Record}
 use Rattle.am_rehearsal.specs.Previews.{takes_group}
+use Rattle.am_rehearsal.specs.Steps.{with_note}
 use Rattle.am_rehearsal.specs.declared.limits.TheConstants.{BOARD_ID}
 use Rattle.am_rehearsal.proofs.Calling.{noted_is}
 use Rattle.am_rehearsal.proofs.Standing.{stands_over}
@@ -25,4 +27,5 @@ returns-in-Ok-clause-input_trace c =
 
 pub returns-in-Ok-clause-noted : goal.returns-in-Ok-clause-noted
 returns-in-Ok-clause-noted c =
-    noted_is c.args.now c.args.own.now.ticket c.args.place c.args.self.now.board c.note.new.self c.in-Ok.ensures.cause c.in-Ok.ensures.noted
+    noted_is c.args.now c.ticket.result.now c.args.place c.args.self.now.board c.note.new.self c.in-Ok.ensures.cause c.in-Ok.ensures.noted
+    ∙ ap (λ (t : TicketData). with_note c.args.now t c.args.place c.args.self.now.board) c.ticket.ensures.ticket

@@ -1,0 +1,20 @@
+//! The answers to attempts in JSON. Readers of scripts and outages call it.
+use crate::fault::{FaultKind, InputFault};
+use crate::reader::{FromJson, Reader};
+use am_retry::Answer;
+
+/// The word for an answer: `done`, `again` or `never`.
+impl<'v> FromJson<'v> for Answer {
+    ghost use Rattle.am_cli.specs.Decoding.{IsAnswer};
+
+    ghost decodes_to = { λ dialect value answer. IsAnswer value answer };
+
+    fn read(reader: &Reader<'v, '_>) -> Result<Answer, InputFault> {
+        match reader.text()? {
+            "done" => Ok(Answer::Done),
+            "again" => Ok(Answer::Again),
+            "never" => Ok(Answer::Never),
+            _ => Err(reader.refuse(FaultKind::BadValue)),
+        }
+    }
+}

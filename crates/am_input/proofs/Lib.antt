@@ -1,0 +1,2 @@
+-- expectations that are read one for one
+pub mod Expectations

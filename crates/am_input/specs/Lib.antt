@@ -1,0 +1,4 @@
+-- what a rehearsal asks for
+pub mod Request
+-- what the members of an expectation say
+pub mod Expected

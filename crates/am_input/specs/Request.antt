@@ -1,0 +1,78 @@
+-- Request: what a rehearsal asks for.
+use Rattle.std.specs.Prelude.{◌≡◌, ℕ, List, codes, Option, Some, None, IsSomeAnd, if◌then◌else◌}
+use Rattle.std.specs.Option.{option_and_then}
+use Rattle.std.specs.Str.{bytes_eq}
+use Rattle.serde_json.specs.Data.{Data, Members}
+use Rattle.serde_json.specs.Find.{as_object, as_str, get_member}
+use Rattle.am_cli.specs.Read.{duration_in, interval_in}
+use Rattle.am_yaml.specs.Document.{IsReadAs}
+use Rattle.am_timeline.specs.declared.expectation.Expectation.{Expectation}
+use Rattle.am_timeline.specs.UtcDates.{IsReadFrom, StartData, dated}
+use Rattle.am_timeline.specs.TimeFormatData.{TimeFormatData, counted}
+use Rattle.am_input.specs.Expected.{AreExpectedIn}
+use Rattle.am_rehearsal.specs.declared.rehearsal.Rehearsal.{Rehearsal}
+use Rattle.am_input.specs.declared.input.TheConstants.{MAINTAIN}
+use Rattle.am_input.specs.declared.input.Output.{Output}
+use Rattle.am_input.specs.declared.input.Overrides.{Overrides}
+use Rattle.am_input.specs.declared.input.Output.TheVariants.{Timeline, Notices, Json, Html}
+
+-- the output of a name
+abbrev pub output_named : List ℕ → Option Output
+output_named name =
+    if bytes_eq name (codes "timeline") then Some Timeline
+    else (if bytes_eq name (codes "notices") then Some Notices
+    else (if bytes_eq name (codes "json") then Some Json else (if bytes_eq name (codes "html") then Some Html else None)))
+
+-- the output that a member asks for; the timeline, where it isn't there
+abbrev pub output_in : Option Data → Option Output
+output_in None = Some Timeline
+output_in (Some member) = option_and_then output_named (as_str member)
+
+-- the output that is printed: what the command line says, or else a member
+abbrev pub output_for : Option Output → Option Data → Option Output
+output_for (Some output) _ = Some output
+output_for None member = output_in member
+
+-- the start that a member tells, the moment that its text is read as; none, where it isn't there
+abbrev pub DecodesToStart : Option Data → Option StartData → Type 0
+DecodesToStart None start = start ≡ None
+DecodesToStart (Some member) start = IsSomeAnd (as_str member) (λ text. IsSomeAnd start (IsReadFrom text))
+
+-- moments are dates where a start is told, and counted where none is
+abbrev pub times_from : Option StartData → TimeFormatData
+times_from None = counted
+times_from (Some start) = dated start
+
+-- when a rehearsal ends
+abbrev pub until_in : Members → Option ℕ
+until_in members = option_and_then duration_in (get_member (codes "until") members)
+
+-- when it ends: as the command line says, or else a member
+abbrev pub end_for : Option ℕ → Members → Option ℕ
+end_for (Some until) _ = Some until
+end_for None members = until_in members
+
+-- the time between two maintenances: a member, or 15 minutes where it isn't there
+abbrev pub maintain_in : Option Data → Option ℕ
+maintain_in None = Some MAINTAIN
+maintain_in (Some member) = interval_in member
+
+-- these members, with what the command line says in place of some, ask for this output, give this start and have these expectations, of
+-- a rehearsal that ends and is maintained as they say
+pub record Requests (overrides : Overrides) (members : Members) (output : Output) (start : Option StartData)
+    (expectations : List Expectation) (rehearsal : Rehearsal) : Type 0 where
+  pub tells : output_for overrides.output (get_member (codes "output") members) ≡ Some output
+  pub starts : DecodesToStart (get_member (codes "start") members) start
+  pub ends : end_for overrides.until members ≡ Some rehearsal.until
+  pub maintains : maintain_in (get_member (codes "maintain") members) ≡ Some rehearsal.maintain
+  pub expects : AreExpectedIn rehearsal.until (get_member (codes "expect") members) expectations
+
+-- a JSON value is an object whose members ask for this
+abbrev pub IsRequestIn : Overrides → Data → Output → Option StartData → List Expectation → Rehearsal → Type 0
+IsRequestIn overrides value output start expectations rehearsal =
+    IsSomeAnd (as_object value) (λ members. Requests overrides members output start expectations rehearsal)
+
+-- these bytes are read as such a value, which is that of a JSON text where they are one
+abbrev pub IsRequestBy : Overrides → List ℕ → Output → Option StartData → List Expectation → Rehearsal → Type 0
+IsRequestBy overrides input output start expectations rehearsal =
+    (value : Data) × IsReadAs input value × IsRequestIn overrides value output start expectations rehearsal

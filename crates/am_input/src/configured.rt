@@ -1,0 +1,108 @@
+//! The configuration of a rehearsal: `config`, or Alertmanager's own. `input` calls it.
+use crate::form::{Form, alertmanager_in, form_of};
+use crate::hours::read_hours;
+use crate::zone_files::ZoneFiles;
+use am_board::config::Config;
+use am_cli::config::read_config;
+use am_cli::fault::{FaultKind, InputFault};
+use am_cli::reader::{Object, Reader};
+use am_config::alertmanager::read_alertmanager;
+use am_config::dropped::IgnoredSettings;
+use am_config::faults::Refusal;
+use am_config::hours::Hours;
+use serde_json::Value;
+use std::alloc::Global;
+
+/// A configuration, and what of it is ignored.
+#[derive(Drop)]
+pub struct Configured {
+    pub config: Config,
+    pub ignored: IgnoredSettings,
+    /// Whether routes name time intervals that have no clocks: no story tells when it starts.
+    pub lacks_hours: bool,
+}
+
+/// Reads the configuration of a story, or the one that is given in its place, with the clocks of the story that is played
+/// until `until` or else until its own end.
+pub fn read_configured<Z: ZoneFiles>(
+    top: &Object<'_, '_>,
+    given: Option<&Value>,
+    until: Option<u64>,
+    files: &mut Z,
+) -> Result<Configured, Refusal> {
+    let theirs = match given {
+        None => top.members().get("alertmanager"),
+        Some(given) => alertmanager_in(given),
+    };
+    let hours = match theirs {
+        None => None,
+        Some(theirs) => {
+            let config = Reader::strict(top.alloc(), theirs);
+            read_hours(top, &config, until, files)?
+        }
+    };
+    match given {
+        None => read_in_story(top, hours.as_ref()),
+        Some(given) => read_file(top.alloc(), given, hours.as_ref()),
+    }
+}
+
+/// Reads a configuration that is given to a story, with the story's clocks. A story that is none gives it no clocks.
+pub fn configured_for<Z: ZoneFiles>(
+    alloc: Global,
+    story: &Value,
+    given: &Value,
+    until: Option<u64>,
+    files: &mut Z,
+) -> Result<Configured, Refusal> {
+    let reader = Reader::strict(alloc, story);
+    let Ok(top) = reader.object() else {
+        return read_file(alloc, given, None);
+    };
+    read_configured(&top, Some(given), until, files)
+}
+
+/// Reads the configuration of a file: one of Alertmanager, one of our own, or that of a story.
+pub fn read_file(
+    alloc: Global,
+    value: &Value,
+    hours: Option<&Hours>,
+) -> Result<Configured, Refusal> {
+    let reader = Reader::strict(alloc, value);
+    match form_of(value) {
+        Form::Story => read_in_story(&reader.object()?, hours),
+        Form::Own => Ok(read_own(&reader)?),
+        Form::Alertmanager => read_theirs(&reader, hours),
+    }
+}
+
+/// Reads the configuration in a story. It stands in `config` or, as Alertmanager has it, in `alertmanager`, which is
+/// refused beside `config`.
+fn read_in_story(top: &Object<'_, '_>, hours: Option<&Hours>) -> Result<Configured, Refusal> {
+    let Some(member) = top.optional("alertmanager") else {
+        return Ok(read_own(&top.required("config")?)?);
+    };
+    if top.optional("config").is_some() {
+        return Err(Refusal::One(member.refuse(FaultKind::BadValue)));
+    }
+    read_theirs(&member, hours)
+}
+
+/// Reads a configuration of our own.
+fn read_own(reader: &Reader<'_, '_>) -> Result<Configured, InputFault> {
+    Ok(Configured {
+        config: read_config(reader)?,
+        ignored: IgnoredSettings::nothing(),
+        lacks_hours: false,
+    })
+}
+
+/// Reads a configuration of Alertmanager.
+fn read_theirs(reader: &Reader<'_, '_>, hours: Option<&Hours>) -> Result<Configured, Refusal> {
+    let read = read_alertmanager(reader, hours)?;
+    Ok(Configured {
+        config: read.config,
+        ignored: read.dropped,
+        lacks_hours: read.timed && hours.is_none(),
+    })
+}

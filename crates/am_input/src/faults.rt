@@ -1,0 +1,170 @@
+//! All faults of a story.
+use crate::alert::AlertItem;
+use crate::configured::{Configured, read_configured};
+use crate::expectation::expectation_faults;
+use crate::hours::check_start;
+use crate::input::{MEMBERS, Overrides, read_maintain, read_output, read_until};
+use crate::moment;
+use crate::outage::OutageItem;
+use crate::silence::SilenceItem;
+use crate::target::check;
+use crate::zone_files::ZoneFiles;
+use crate::zones::read_zones;
+use am_board::config::Config;
+use am_cli::fault::InputFault;
+use am_cli::reader::{FromJson, Object, Reader};
+use am_config::faults::{Faults, Refusal};
+use am_rehearsal::MAX_UNTIL;
+use serde_json::Value;
+use std::alloc::Global;
+
+/// Whose receivers the outages and expectations of a story name.
+#[derive(Clone, Copy)]
+pub enum ReceiversOf<'c> {
+    /// Those of the story's own configuration.
+    Own,
+    /// Those of a configuration in its place. `None`: nobody knows it here, so no receiver is looked for.
+    Given(Option<&'c Configured>),
+}
+
+/// Returns the faults of a story, a hundred at most, in the order of reading.
+pub fn story_faults<Z: ZoneFiles>(
+    alloc: Global,
+    value: &Value,
+    receivers: ReceiversOf<'_>,
+    overrides: Overrides,
+    files: &mut Z,
+) -> Result<Faults, InputFault> {
+    let mut faults = Faults::none(alloc);
+    keep_faults(alloc, &mut faults, value, receivers, overrides, files)?;
+    Ok(faults)
+}
+
+/// Keeps the faults of a story.
+fn keep_faults<Z: ZoneFiles>(
+    alloc: Global,
+    faults: &mut Faults,
+    value: &Value,
+    receivers: ReceiversOf<'_>,
+    overrides: Overrides,
+    files: &mut Z,
+) -> Result<(), InputFault> {
+    let reader = Reader::strict(alloc, value);
+    let Some(top) = faults.kept(reader.object())? else {
+        return Ok(());
+    };
+    faults.only(&top, &MEMBERS)?;
+    match receivers {
+        ReceiversOf::Given(config) => plan_faults(faults, &top, config, overrides),
+        ReceiversOf::Own => faults_with_own(alloc, faults, &top, overrides, files),
+    }
+}
+
+/// Keeps the faults of a story's own configuration, and of what is planned against it.
+fn faults_with_own<Z: ZoneFiles>(
+    alloc: Global,
+    faults: &mut Faults,
+    top: &Object<'_, '_>,
+    overrides: Overrides,
+    files: &mut Z,
+) -> Result<(), InputFault> {
+    match read_configured(top, None, overrides.until, files) {
+        Ok(configured) => plan_faults(faults, top, Some(&configured), overrides),
+        Err(refusal) => {
+            keep_all(alloc, faults, refusal)?;
+            plan_faults(faults, top, None, overrides)
+        }
+    }
+}
+
+/// Keeps the faults for which a configuration is refused.
+fn keep_all(alloc: Global, faults: &mut Faults, refusal: Refusal) -> Result<(), InputFault> {
+    match refusal {
+        Refusal::One(fault) => faults.push(fault),
+        Refusal::All(all) => {
+            for fault in all.as_slice() {
+                let place = String::from_str(alloc, fault.place.as_str())?;
+                let fault_kind = fault.fault_kind;
+                faults.push(InputFault::Refused { place, fault_kind })?;
+            }
+            Ok(())
+        }
+    }
+}
+
+/// Keeps the faults of all but the configuration, with this one where it is read.
+fn plan_faults(
+    faults: &mut Faults,
+    top: &Object<'_, '_>,
+    configured: Option<&Configured>,
+    overrides: Overrides,
+) -> Result<(), InputFault> {
+    let config = configured.map(|configured| &configured.config);
+    let lacks_hours = configured.is_some_and(|configured| configured.lacks_hours);
+    faults.kept(moment::start(top))?;
+    faults.kept(check_start(top, overrides.until, lacks_hours))?;
+    faults.kept(read_zones(top))?;
+    let until = faults.kept(read_until(top, overrides.until))?;
+    each::<AlertItem>(faults, top, "alerts")?;
+    each::<SilenceItem>(faults, top, "silences")?;
+    faults.kept(read_maintain(top))?;
+    outage_faults(faults, top, config)?;
+    expectation_faults(faults, top, config, until.unwrap_or(MAX_UNTIL))?;
+    faults.kept(read_output(top, overrides.output))?;
+    Ok(())
+}
+
+/// Keeps the fault of each item of a list, if it is there.
+fn each<'v, T: FromJson<'v>>(
+    faults: &mut Faults,
+    top: &Object<'v, '_>,
+    name: &str,
+) -> Result<(), InputFault> {
+    let Some(member) = top.optional(name) else {
+        return Ok(());
+    };
+    let Some(values) = faults.kept(member.array())? else {
+        return Ok(());
+    };
+    for (index, value) in values.iter().enumerate() {
+        faults.kept(T::read(&member.item(index, value)))?;
+    }
+    Ok(())
+}
+
+/// Keeps the fault of each outage: of what it says, or of its receiver.
+fn outage_faults(
+    faults: &mut Faults,
+    top: &Object<'_, '_>,
+    config: Option<&Config>,
+) -> Result<(), InputFault> {
+    let Some(member) = top.optional("outages") else {
+        return Ok(());
+    };
+    let Some(values) = faults.kept(member.array())? else {
+        return Ok(());
+    };
+    for (index, value) in values.iter().enumerate() {
+        let reader = member.item(index, value);
+        if let Some(outage) = faults.kept(OutageItem::read(&reader))? {
+            let receiver = outage.receiver.as_str();
+            target_fault(faults, &reader, config, Some(receiver), outage.integration)?;
+        }
+    }
+    Ok(())
+}
+
+/// Keeps the fault of a receiver that isn't in the configuration, or of a position that the receiver hasn't.
+pub(crate) fn target_fault(
+    faults: &mut Faults,
+    reader: &Reader<'_, '_>,
+    config: Option<&Config>,
+    receiver: Option<&str>,
+    integration: Option<u32>,
+) -> Result<(), InputFault> {
+    if let (Some(config), Some(receiver)) = (config, receiver) {
+        let place = *reader.place();
+        faults.kept(check(reader.alloc(), config, receiver, integration, place))?;
+    }
+    Ok(())
+}

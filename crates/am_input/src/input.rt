@@ -1,0 +1,297 @@
+//! What a rehearsal asks for, and how it is read, in the strict dialect of `am_cli`. `am_rehearse` calls
+//! `read_input`.
+//!
+//! The inserts of each span and the silences are planned in the order of their times, each with the
+//! pointer of its value. An alert's span is two inserts: one without an end at its start, one with
+//! its end at that time, as Prometheus sends them. The configuration is `am_cli`'s, or
+//! Alertmanager's own (`configured`), whose faults are all reported; of the rest the first fault
+//! is. Contracts say by definitions over the JSON value's fields what was read for `output`,
+//! `start`, `until`, `maintain` and `expect` (`Request`, `Expected`).
+ghost use Rattle.std.specs.Prelude.{◌≡◌, ◌≤◌, ◌<◌, IfOk, Some, codes};
+ghost use Rattle.std.specs.Result.{result_ok};
+ghost use Rattle.serde_json.specs.Find.{get_member};
+ghost use Rattle.serde_json.specs.View.{members_view, view};
+ghost use Rattle.am_rehearsal.specs.declared.limits.TheConstants.{MAX_UNTIL};
+ghost use Rattle.am_input.specs.Expected.{AreExpectedIn};
+ghost use Rattle.am_input.specs.Request.{DecodesToStart, Requests, IsRequestIn, end_for, maintain_in, output_for};
+
+use crate::alert::AlertItem;
+use crate::configured::{Configured, read_configured};
+use crate::expectation::read_expectations;
+use crate::hours::check_start;
+use crate::origin::Origin;
+use crate::outage::OutageItem;
+use crate::silence::SilenceItem;
+use crate::target::check;
+use crate::zone_files::ZoneFiles;
+use crate::zones::read_zones;
+use crate::{moment, planned};
+use am_board::config::Config;
+use am_cli::duration::{duration, interval};
+use am_cli::fault::{FaultKind, InputFault};
+use am_cli::place::JsonPointer;
+use am_cli::reader::{Object, Reader};
+use am_config::dropped::IgnoredSettings;
+use am_config::faults::Refusal;
+use am_rehearsal::MAX_UNTIL;
+use am_rehearsal::rehearsal::{Outage, Rehearsal, TimedAction};
+use am_timeline::dated::UtcDates;
+use am_timeline::expectation::Expectation;
+use serde_json::Value;
+use std::alloc::Global;
+
+/// How often maintenance is made, where the rehearsal doesn't say: every 15 minutes, in milliseconds.
+pub const MAINTAIN: u64 = 900_000;
+
+/// The members of a rehearsal.
+pub(crate) const MEMBERS: [&str; 11] = [
+    "config",
+    "alertmanager",
+    "start",
+    "zones",
+    "until",
+    "alerts",
+    "silences",
+    "maintain",
+    "outages",
+    "expect",
+    "output",
+];
+
+/// A rehearsal as it was read, and what is to be printed of it.
+#[derive(Drop)]
+pub struct Input {
+    pub rehearsal: Rehearsal,
+    /// Where the plans of the rehearsal stand in the input, by place.
+    pub origins: Vec<Origin>,
+    /// The moment of the start, if it is told.
+    pub start: Option<UtcDates>,
+    pub expectations: Vec<Expectation>,
+    pub output: Output,
+    /// What of Alertmanager's configuration is dropped.
+    pub dropped: IgnoredSettings,
+}
+
+/// What a story asks for besides what happens in it.
+#[derive(Drop)]
+struct Asked {
+    start: Option<UtcDates>,
+    expectations: Vec<Expectation>,
+    output: Output,
+}
+
+/// What is printed.
+#[derive(Clone, Copy, Debug, PartialEq, Eq)]
+pub enum Output {
+    /// A line for each event, but one for a run of like flushes, a table and the expectations.
+    Timeline,
+    /// A line for each event, a table and the expectations. Only the command line asks for it.
+    Full,
+    /// The lines on notices alone.
+    Notices,
+    /// The lines on delivered notices alone. Only the command line asks for it.
+    Delivered,
+    /// A JSON object on each line.
+    Json,
+    /// A page with a picture.
+    Html,
+}
+
+/// What the command line says in place of a story's own output and end.
+#[derive(Clone, Copy, Debug, PartialEq, Eq)]
+pub struct Overrides {
+    pub output: Option<Output>,
+    pub until: Option<u64>,
+}
+
+/// What stands in place of parts of a story.
+#[derive(Clone, Copy)]
+pub struct Changes<'c> {
+    /// A file's value, with a configuration in it.
+    pub config: Option<&'c Value>,
+    pub overrides: Overrides,
+}
+
+/// Reads a whole rehearsal. The first fault in the order of reading is answered; of Alertmanager's
+/// configuration all faults. The zones that its time intervals name and the rehearsal doesn't tell are those of `files`.
+pub fn read_input<Z: ZoneFiles>(
+    alloc: Global,
+    value: &Value,
+    changes: Changes<'_>,
+    files: &mut Z,
+) -> Result<Input, Refusal>
+    ensures { IfOk result (λ input. IsRequestIn changes.entry.overrides (view value.now) input.output input.start
+        input.expectations.items input.rehearsal) }
+{
+    let reader = Reader::strict(alloc, value);
+    let top = reader.object()?;
+    top.only(&MEMBERS)?;
+    let Changes { config, overrides } = changes;
+    let configured = read_configured(&top, config, overrides.until, files)?;
+    read_planned(&top, configured, overrides).map_err(Refusal::One)
+}
+
+/// Reads what is planned against a configuration.
+fn read_planned(
+    top: &Object<'_, '_>,
+    configured: Configured,
+    overrides: Overrides,
+) -> Result<Input, InputFault>
+    ensures { IfOk result (λ input.
+        Requests overrides (members_view top.now.members) input.output input.start input.expectations.items input.rehearsal) }
+{
+    let Configured {
+        config,
+        ignored,
+        lacks_hours,
+    } = configured;
+    let until = read_until(top, overrides.until)?;
+    read_zones(top)?;
+    let asked = read_asked(top, &config, until, overrides.output)?;
+    check_start(top, overrides.until, lacks_hours)?;
+    let (rehearsal, origins) = read_rehearsal(top, config, until)?;
+    let Asked {
+        start,
+        expectations,
+        output,
+    } = asked;
+    Ok(Input {
+        rehearsal,
+        origins,
+        start,
+        expectations,
+        output,
+        dropped: ignored,
+    })
+}
+
+/// Reads how the output of a rehearsal that ends at `until` shows times, what is expected of it and what is printed.
+fn read_asked(
+    top: &Object<'_, '_>,
+    config: &Config,
+    until: u64,
+    output: Option<Output>,
+) -> Result<Asked, InputFault>
+    ensures output { IfOk result (λ asked.
+        output_for output (get_member (codes "output") (members_view top.now.members)) ≡ Some asked.output) }
+    ensures start { IfOk result (λ asked. DecodesToStart (get_member (codes "start") (members_view top.now.members)) asked.start) }
+    ensures expectations { IfOk result (λ asked.
+        AreExpectedIn until (get_member (codes "expect") (members_view top.now.members)) asked.expectations.items) }
+{
+    let start = moment::start(top)?;
+    let output = read_output(top, output)?;
+    let expectations = read_expectations(top, config, until)?;
+    Ok(Asked {
+        start,
+        expectations,
+        output,
+    })
+}
+
+/// Reads what happens until `until` under a configuration, and where the planned actions are in the input.
+fn read_rehearsal(
+    top: &Object<'_, '_>,
+    config: Config,
+    until: u64,
+) -> Result<(Rehearsal, Vec<Origin>), InputFault>
+    requires { until ≤ MAX_UNTIL }
+    ensures until { IfOk result (λ read. read.0.until ≡ until) }
+    ensures maintain { IfOk result (λ read.
+        maintain_in (get_member (codes "maintain") (members_view top.now.members)) ≡ Some read.0.maintain) }
+{
+    let maintain = read_maintain(top)?;
+    let outages = read_outages(top, &config)?;
+    let (plans, origins) = read_plans(top)?;
+    let rehearsal = Rehearsal {
+        config,
+        until,
+        maintain,
+        plans,
+        outages,
+    };
+    Ok((rehearsal, origins))
+}
+
+/// Reads the planned actions, in the order of their times, and where each is in the input.
+fn read_plans(top: &Object<'_, '_>) -> Result<(Vec<TimedAction>, Vec<Origin>), InputFault> {
+    let alerts = top.list_or_none::<AlertItem>("alerts")?;
+    let silences = top.list_or_none::<SilenceItem>("silences")?;
+    planned::in_order(top.alloc(), alerts, silences)
+}
+
+/// The time between two maintenances, in milliseconds.
+pub(crate) fn read_maintain(top: &Object<'_, '_>) -> Result<u64, InputFault>
+    ensures value { result_ok result ≡ maintain_in (get_member (codes "maintain") (members_view top.now.members)) }
+    ensures some { IfOk result (λ interval. 0 < interval) }
+{
+    match top.optional("maintain") {
+        None => Ok(MAINTAIN),
+        Some(member) => interval(&member),
+    }
+}
+
+/// The last moment, as the command line says it, or else the member; `Value` above `MAX_UNTIL`.
+pub(crate) fn read_until(top: &Object<'_, '_>, asked: Option<u64>) -> Result<u64, InputFault>
+    ensures until { IfOk result (λ until. end_for asked (members_view top.now.members) ≡ Some until) }
+    ensures most { IfOk result (λ until. until ≤ MAX_UNTIL) }
+{
+    let until = end_of(top, asked)?;
+    if until > MAX_UNTIL {
+        let place = JsonPointer::Root;
+        return Err(
+            place
+                .member("until")
+                .refuse(top.alloc(), FaultKind::BadValue),
+        );
+    }
+    Ok(until)
+}
+
+/// The last moment, whichever it is.
+fn end_of(top: &Object<'_, '_>, asked: Option<u64>) -> Result<u64, InputFault>
+    ensures { IfOk result (λ until. end_for asked (members_view top.now.members) ≡ Some until) }
+{
+    match asked {
+        Some(until) => Ok(until),
+        None => duration(&top.required("until")?),
+    }
+}
+
+fn read_outages(top: &Object<'_, '_>, config: &Config) -> Result<Vec<Outage>, InputFault> {
+    let mut outages = Vec::new(top.alloc());
+    for (index, item) in top
+        .list_or_none::<OutageItem>("outages")?
+        .into_iter()
+        .enumerate()
+    {
+        let place = JsonPointer::Root;
+        check(
+            top.alloc(),
+            config,
+            item.receiver.as_str(),
+            item.integration,
+            place.member("outages").item(index),
+        )?;
+        outages.push(item.into_outage())?;
+    }
+    Ok(outages)
+}
+
+/// What is printed, as the command line says it, or else the member; the timeline, where it isn't said.
+pub(crate) fn read_output(top: &Object<'_, '_>, asked: Option<Output>) -> Result<Output, InputFault>
+    ensures { result_ok result ≡ output_for asked (get_member (codes "output") (members_view top.now.members)) }
+{
+    if let Some(output) = asked {
+        return Ok(output);
+    }
+    let Some(member) = top.optional("output") else {
+        return Ok(Output::Timeline);
+    };
+    match member.text()? {
+        "timeline" => Ok(Output::Timeline),
+        "notices" => Ok(Output::Notices),
+        "json" => Ok(Output::Json),
+        "html" => Ok(Output::Html),
+        _ => Err(member.refuse(FaultKind::BadValue)),
+    }
+}

@@ -1,0 +1,49 @@
+//! The events of a rehearsal that say something new. `am_rehearse` prints their lines alone where it is asked to.
+ghost use Rattle.std.specs.Prelude.{◌≡◌, IfOk, filter};
+ghost use Rattle.am_timeline.specs.Changed.{begins_compared, is_change};
+
+use crate::clock::TimeFormat;
+use crate::playback::Playback;
+use crate::runs::{Fold, begins_compared};
+use am_rehearsal::event::Event;
+use std::alloc::{AllocError, Global};
+
+/// Returns the events without the flushes that say the same as the flush before of their group, in their order.
+///
+/// The end of a sending is always there. Cost: the lines of all begins.
+pub fn changed_events<C: TimeFormat>(
+    alloc: Global,
+    playback: &Playback<'_>,
+    clock: &C,
+) -> Result<Vec<Event>, AllocError>
+    ensures { IfOk result (λ events. events.items
+        ≡ filter (is_change (begins_compared playback.now (C.times clock.now))) playback.now.events) }
+{
+    let folds = begins_compared(alloc, playback, clock)?;
+    new_events(alloc, folds.as_slice(), playback.events)
+}
+
+fn new_events(alloc: Global, folds: &[Fold], events: &[Event]) -> Result<Vec<Event>, AllocError>
+    ensures { IfOk result (λ kept. kept.items ≡ filter (is_change folds.now) events.now) }
+{
+    let mut kept = Vec::new(alloc);
+    for event in events {
+        if is_change(folds, event) {
+            kept.push(*event)?;
+        }
+    }
+    Ok(kept)
+}
+
+/// Whether an event says something new, with what becomes of each begin.
+fn is_change(folds: &[Fold], event: &Event) -> bool
+    ensures { result ≡ is_change folds.now event.now }
+{
+    match event {
+        Event::Begun { begin } => match folds.get(*begin) {
+            None => true,
+            Some(fold) => fold.is_first,
+        },
+        Event::Sent { .. } => true,
+    }
+}

@@ -84,7 +84,37 @@ fn play<'a>(alloc: Global) -> Result<Command<'a>, AllocError> {
         .arg(until(alloc))?
         .arg(no_failures)?
         .arg(all)?;
-    play.arg(color(alloc))?.arg(format(alloc))
+    let play = selecting(alloc, play)?;
+    let junit = Arg::new(alloc, "junit")
+        .long("junit")
+        .value_name("FILE")
+        .help("Writes what became of the expectations to this file, as XML of JUnit");
+    let play = play.arg(junit)?.arg(color(alloc))?;
+    play.arg(format(alloc))
+}
+
+/// Adds the options that leave out lines of a timeline.
+fn selecting<'a>(alloc: Global, play: Command<'a>) -> Result<Command<'a>, AllocError> {
+    let receiver = Arg::new(alloc, "receiver")
+        .long("receiver")
+        .value_name("NAME")
+        .help("Prints only the lines of this receiver's groups");
+    let group = Arg::new(alloc, "group")
+        .long("group")
+        .value_name("ROUTE")
+        .help("Prints only the lines of this route's groups, which are named after it");
+    let alert = Arg::new(alloc, "alert")
+        .long("alert")
+        .value_name("MATCHER")
+        .action(ArgAction::Append)
+        .help(
+            "Prints only the lines of groups with an alert that matches, such as severity=page; may be given again, and one alert matches all",
+        );
+    let changes = Arg::new(alloc, "changes")
+        .long("changes")
+        .action(ArgAction::SetTrue)
+        .help("Prints only the lines that differ from the flush before of their group");
+    play.arg(receiver)?.arg(group)?.arg(alert)?.arg(changes)
 }
 
 fn compare<'a>(alloc: Global) -> Result<Command<'a>, AllocError> {

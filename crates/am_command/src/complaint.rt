@@ -30,12 +30,15 @@ impl Complaint<'_> {
         if let Some(Place { line, column }) = self.place {
             write!(text, "{line}:{column}:")?;
         }
-        write!(text, "{plain} {}", self.message)?;
+        write!(text, "{plain} ")?;
+        push_shown(&mut text, self.message)?;
         if let Some(pointer) = self.pointer {
             if pointer.is_empty() {
                 text.push_str(" (at the top)")?;
             } else {
-                write!(text, " (at {pointer})")?;
+                text.push_str(" (at ")?;
+                push_shown(&mut text, pointer)?;
+                text.push(')')?;
             }
         }
         Ok(text)
@@ -63,6 +66,19 @@ impl Complaint<'_> {
         put_text(alloc, &mut object, "message", self.message)?;
         Ok(object)
     }
+}
+
+/// Adds a text in one line: control characters as `\u{1b}`.
+fn push_shown(out: &mut String, text: &str) -> Result<(), AllocError> {
+    for character in text.chars() {
+        match character {
+            '\0'..='\u{1f}' | '\u{7f}'..='\u{9f}' => {
+                write!(out, "\\u{{{:x}}}", character as u32)?
+            }
+            _ => out.push(character)?,
+        }
+    }
+    Ok(())
 }
 
 /// Memory was refused.

@@ -207,6 +207,9 @@ fn bad_value(
             let most = bounds.matchers;
             format!(in alloc; "a silence needs 1 to {most} matchers")
         }
+        (None, Some(Wanted::Matchers)) if pointer.starts_with("/expect") => {
+            bad_expected_matchers(alloc, spot.name.as_str(), bounds)
+        }
         (Some(text), Some(Wanted::Duration)) => bad_duration(
             alloc,
             spot.name.as_str(),
@@ -216,9 +219,23 @@ fn bad_value(
         (Some(text), Some(Wanted::Matchers)) => format!(in alloc;
             "`{text}` is no matcher; write it as severity=\"critical\" or dc=~\"a|b\""
         ),
+        (Some(text), Some(Wanted::Integration)) => format!(in alloc;
+            "the receiver has no integration `{text}`; write its kind, such as webhook, or webhook/0, or its number"
+        ),
         (Some(text), Some(Wanted::Texts)) => bad_name(alloc, text),
         (Some(text), Some(Wanted::Text)) => bad_text(alloc, top, pointer, spot.name.as_str(), text),
         _ => too_many(alloc, spot, bounds),
+    }
+}
+
+/// Says what is wrong with the matchers of an expectation.
+fn bad_expected_matchers(alloc: Global, name: &str, bounds: &Bounds) -> Result<String, AllocError> {
+    let most = bounds.matchers;
+    match name {
+        "of" => format!(in alloc;
+            "`of` needs 1 to {most} matchers of an alert of the story, and stands with `within`"
+        ),
+        _ => format!(in alloc; "`{name}` needs 1 to {most} matchers"),
     }
 }
 
@@ -247,6 +264,9 @@ fn bad_duration(
             "to" => format!(in alloc;
                 "`{text}` comes before the beginning, is too long, or stands beside `at`"
             ),
+            "within" => format!(in alloc;
+                "`{text}` is too long; and neither `at`, `from` nor `to` stands beside `within`"
+            ),
             _ => format!(in alloc; "`{text}` is out of range for `{name}`"),
         },
     }
@@ -270,11 +290,38 @@ fn bad_text(
             "`{text}` is no output; write timeline, notices, json or html"
         ),
         "answer" => format!(in alloc; "`{text}` is no answer; write done, again or never"),
+        "reason" => no_reason(alloc, text),
+        "when" => format!(in alloc;
+            "`{text}` isn't right here; write firing or resolved, and `within` and `of` beside it"
+        ),
         "name" if text.is_empty() => format!(in alloc; "the name is empty"),
         "name" => format!(in alloc;
             "`{text}` can't be the name: another has it, or it has other letters than names may have"
         ),
         _ => format!(in alloc; "`{text}` isn't allowed here"),
+    }
+}
+
+/// The reasons for which a notification is sent, in the timeline's words.
+const REASONS: [&str; 5] = [
+    "first notice",
+    "new alert",
+    "all resolved",
+    "newly resolved",
+    "repeat",
+];
+
+/// Says that no notification is sent for such a reason, and which one may be meant.
+fn no_reason(alloc: Global, text: &str) -> Result<String, AllocError> {
+    let mut nearest = Nearest::to(text);
+    for reason in REASONS {
+        nearest.consider(alloc, reason)?;
+    }
+    match nearest.found() {
+        None => format!(in alloc;
+            "`{text}` is no reason; write first notice, new alert, all resolved, newly resolved or repeat"
+        ),
+        Some(meant) => format!(in alloc; "`{text}` is no reason; did you mean `{meant}`?"),
     }
 }
 
@@ -368,7 +415,10 @@ fn not_allowed(alloc: Global, name: &str) -> Result<String, AllocError> {
             "the receiver has no integration of this number; they are counted from 0"
         ),
         "none" => format!(in alloc;
-            "`none` stands alone: it is true, and neither `firing` nor `resolved` stands beside it"
+            "`none` is of every notification: nothing that says which stands beside it"
+        ),
+        "never" | "count" | "at_most" => format!(in alloc;
+            "one of `none`, `never`, `count` and `at_most` is enough"
         ),
         _ => format!(in alloc; "this value isn't allowed for `{name}`"),
     }

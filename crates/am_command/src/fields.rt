@@ -7,6 +7,7 @@ pub(crate) enum Wanted {
     Duration,
     Flag,
     Number,
+    Integration,
     Object,
     Texts,
     Objects,
@@ -15,7 +16,7 @@ pub(crate) enum Wanted {
 }
 
 /// The fields that are known by name, those of stories first.
-pub(crate) const FIELDS: [(&str, Wanted); 67] = [
+pub(crate) const FIELDS: [(&str, Wanted); 77] = [
     ("config", Wanted::Object),
     ("alertmanager", Wanted::Object),
     ("start", Wanted::Text),
@@ -35,10 +36,20 @@ pub(crate) const FIELDS: [(&str, Wanted); 67] = [
     ("answer", Wanted::Text),
     ("takes", Wanted::Duration),
     ("at", Wanted::Duration),
-    ("integration", Wanted::Number),
+    ("within", Wanted::Duration),
+    ("of", Wanted::Matchers),
+    ("when", Wanted::Text),
+    ("integration", Wanted::Integration),
+    ("has", Wanted::Matchers),
+    ("has_resolved", Wanted::Matchers),
+    ("exactly", Wanted::Objects),
     ("firing", Wanted::Objects),
     ("resolved", Wanted::Objects),
+    ("reason", Wanted::Text),
     ("none", Wanted::Flag),
+    ("never", Wanted::Flag),
+    ("count", Wanted::Number),
+    ("at_most", Wanted::Number),
     ("retention", Wanted::Duration),
     ("limits", Wanted::Object),
     ("names", Wanted::Number),
@@ -105,6 +116,7 @@ pub(crate) fn in_words(wanted: Wanted, is_item: bool) -> &'static str {
         Wanted::Duration => "a duration such as 5m",
         Wanted::Flag => "true or false",
         Wanted::Number => "a whole number",
+        Wanted::Integration => "a kind such as webhook/0, or a number,",
         Wanted::Object => "fields",
         Wanted::Texts if is_item => "a text",
         Wanted::Objects if is_item => "fields",

@@ -65,7 +65,10 @@ fn push_statuses(page: &mut String) -> Result<(), AllocError> {
         (3, "out of memory"),
         (4, "the output isn't writable"),
         (5, "an expectation isn't met"),
-        (6, "--verify differs"),
+        (
+            6,
+            "--verify differs, or --exit-code and a notification differs",
+        ),
     ] {
         write!(page, ".TP\n.B {status}\n")?;
         push_escaped(page, meaning)?;

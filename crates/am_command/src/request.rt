@@ -31,8 +31,21 @@ pub struct Style {
     pub format: FaultFormat,
 }
 
+/// Which lines of a timeline are printed, where not all are.
+#[derive(Drop)]
+pub struct Selection<'a> {
+    /// The receiver of their groups.
+    pub receiver: Option<&'a str>,
+    /// The route of their groups.
+    pub group: Option<&'a str>,
+    /// Matchers. One alert of their groups matches all of them.
+    pub alerts: Vec<&'a str>,
+    /// Whether they differ from the flush before of their group.
+    pub changes: bool,
+}
+
 /// A story that is simulated, and what replaces parts of it.
-#[derive(Clone, Copy, Debug, PartialEq, Eq)]
+#[derive(Drop)]
 pub struct PlayRequest<'a> {
     pub story: &'a str,
     pub config: Option<&'a str>,
@@ -42,6 +55,9 @@ pub struct PlayRequest<'a> {
     pub no_failures: bool,
     /// Whether the timeline has a line for each flush.
     pub all: bool,
+    pub selection: Selection<'a>,
+    /// The file to which is written what became of the expectations.
+    pub junit: Option<&'a str>,
     pub style: Style,
 }
 
@@ -111,6 +127,13 @@ pub fn read_request<'a>(alloc: Global, words: &'a [String]) -> Result<Request<'a
             until: None,
             no_failures: false,
             all: false,
+            selection: Selection {
+                receiver: None,
+                group: None,
+                alerts: Vec::new(alloc),
+                changes: false,
+            },
+            junit: None,
             style: PLAIN,
         }));
     }
@@ -126,7 +149,7 @@ fn request_of<'a>(alloc: Global, matches: &ArgMatches<'a>) -> Result<Request<'a>
         return Ok(Request::Manual);
     };
     Ok(match name {
-        "play" => Request::Play(play_request(matches)),
+        "play" => Request::Play(play_request(alloc, matches)?),
         "compare" => Request::Compare(compare_request(matches)),
         "story" => Request::Story(story_request(matches)),
         "check" => Request::Check {
@@ -148,16 +171,26 @@ fn request_of<'a>(alloc: Global, matches: &ArgMatches<'a>) -> Result<Request<'a>
     })
 }
 
-fn play_request<'a>(matches: &ArgMatches<'a>) -> PlayRequest<'a> {
-    PlayRequest {
+fn play_request<'a>(
+    alloc: Global,
+    matches: &ArgMatches<'a>,
+) -> Result<PlayRequest<'a>, AllocError> {
+    Ok(PlayRequest {
         story: text_of(matches, "STORY"),
         config: matches.get_str("config"),
         output: matches.get_str("output"),
         until: matches.get_str("until"),
         no_failures: matches.get_flag("no-failures"),
         all: matches.get_flag("all"),
+        selection: Selection {
+            receiver: matches.get_str("receiver"),
+            group: matches.get_str("group"),
+            alerts: all_of(alloc, matches, "alert")?,
+            changes: matches.get_flag("changes"),
+        },
+        junit: matches.get_str("junit"),
         style: style_of(matches),
-    }
+    })
 }
 
 fn compare_request<'a>(matches: &ArgMatches<'a>) -> CompareRequest<'a> {

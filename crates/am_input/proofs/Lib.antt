@@ -1,2 +1,2 @@
--- expectations that are read one for one
-pub mod Expectations
+-- items of an array that are read one for one
+pub mod Lists

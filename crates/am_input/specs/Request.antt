@@ -5,6 +5,7 @@ use Rattle.std.specs.Str.{bytes_eq}
 use Rattle.serde_json.specs.Data.{Data, Members}
 use Rattle.serde_json.specs.Find.{as_object, as_str, get_member}
 use Rattle.am_cli.specs.Read.{duration_in, interval_in}
+use Rattle.am_cli.specs.declared.reader.Dialect.TheVariants.{Strict}
 use Rattle.am_yaml.specs.Document.{IsReadAs}
 use Rattle.am_timeline.specs.declared.expectation.Expectation.{Expectation}
 use Rattle.am_timeline.specs.UtcDates.{IsReadFrom, StartData, dated}
@@ -65,7 +66,7 @@ pub record Requests (overrides : Overrides) (members : Members) (output : Output
   pub starts : DecodesToStart (get_member (codes "start") members) start
   pub ends : end_for overrides.until members ≡ Some rehearsal.until
   pub maintains : maintain_in (get_member (codes "maintain") members) ≡ Some rehearsal.maintain
-  pub expects : AreExpectedIn rehearsal.until (get_member (codes "expect") members) expectations
+  pub expects : AreExpectedIn Strict rehearsal.until rehearsal.plans.items (get_member (codes "expect") members) expectations
 
 -- a JSON value is an object whose members ask for this
 abbrev pub IsRequestIn : Overrides → Data → Output → Option StartData → List Expectation → Rehearsal → Type 0

@@ -3,7 +3,7 @@ use crate::alert::AlertItem;
 use crate::configured::{Configured, read_configured};
 use crate::expectation::expectation_faults;
 use crate::hours::check_start;
-use crate::input::{MEMBERS, Overrides, read_maintain, read_output, read_until};
+use crate::input::{MEMBERS, Overrides, read_maintain, read_output, read_plans, read_until};
 use crate::moment;
 use crate::outage::OutageItem;
 use crate::silence::SilenceItem;
@@ -15,6 +15,7 @@ use am_cli::fault::InputFault;
 use am_cli::reader::{FromJson, Object, Reader};
 use am_config::faults::{Faults, Refusal};
 use am_rehearsal::MAX_UNTIL;
+use am_rehearsal::rehearsal::TimedAction;
 use serde_json::Value;
 use std::alloc::Global;
 
@@ -109,9 +110,20 @@ fn plan_faults(
     each::<SilenceItem>(faults, top, "silences")?;
     faults.kept(read_maintain(top))?;
     outage_faults(faults, top, config)?;
-    expectation_faults(faults, top, config, until.unwrap_or(MAX_UNTIL))?;
+    let plans = plans_in(top)?;
+    let plans = plans.as_ref().map(Vec::as_slice);
+    expectation_faults(faults, top, config, until.unwrap_or(MAX_UNTIL), plans)?;
     faults.kept(read_output(top, overrides.output))?;
     Ok(())
+}
+
+/// Returns the planned actions, if nothing of them is at fault.
+fn plans_in(top: &Object<'_, '_>) -> Result<Option<Vec<TimedAction>>, InputFault> {
+    match read_plans(top) {
+        Ok((plans, _)) => Ok(Some(plans)),
+        Err(InputFault::NoMemory) => Err(InputFault::NoMemory),
+        Err(InputFault::Refused { .. }) => Ok(None),
+    }
 }
 
 /// Keeps the fault of each item of a list, if it is there.

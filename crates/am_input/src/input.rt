@@ -30,7 +30,7 @@ use am_board::config::Config;
 use am_cli::duration::{duration, interval};
 use am_cli::fault::{FaultKind, InputFault};
 use am_cli::place::JsonPointer;
-use am_cli::reader::{Object, Reader};
+use am_cli::reader::{Dialect, Object, Reader};
 use am_config::dropped::IgnoredSettings;
 use am_config::faults::Refusal;
 use am_rehearsal::MAX_UNTIL;
@@ -137,6 +137,7 @@ fn read_planned(
     configured: Configured,
     overrides: Overrides,
 ) -> Result<Input, InputFault>
+    requires { top.now.dialect ≡ Dialect.Strict }
     ensures { IfOk result (λ input.
         Requests overrides (members_view top.now.members) input.output input.start input.expectations.items input.rehearsal) }
 {
@@ -147,9 +148,9 @@ fn read_planned(
     } = configured;
     let until = read_until(top, overrides.until)?;
     read_zones(top)?;
-    let asked = read_asked(top, &config, until, overrides.output)?;
     check_start(top, overrides.until, lacks_hours)?;
     let (rehearsal, origins) = read_rehearsal(top, config, until)?;
+    let asked = read_asked(top, &rehearsal, overrides.output)?;
     let Asked {
         start,
         expectations,
@@ -165,22 +166,23 @@ fn read_planned(
     })
 }
 
-/// Reads how the output of a rehearsal that ends at `until` shows times, what is expected of it and what is printed.
+/// Reads how the output of a rehearsal shows times, what is expected of it and what is printed.
 fn read_asked(
     top: &Object<'_, '_>,
-    config: &Config,
-    until: u64,
+    rehearsal: &Rehearsal,
     output: Option<Output>,
 ) -> Result<Asked, InputFault>
     ensures output { IfOk result (λ asked.
         output_for output (get_member (codes "output") (members_view top.now.members)) ≡ Some asked.output) }
     ensures start { IfOk result (λ asked. DecodesToStart (get_member (codes "start") (members_view top.now.members)) asked.start) }
     ensures expectations { IfOk result (λ asked.
-        AreExpectedIn until (get_member (codes "expect") (members_view top.now.members)) asked.expectations.items) }
+        AreExpectedIn top.now.dialect rehearsal.now.until rehearsal.now.plans.items
+        (get_member (codes "expect") (members_view top.now.members)) asked.expectations.items) }
 {
     let start = moment::start(top)?;
     let output = read_output(top, output)?;
-    let expectations = read_expectations(top, config, until)?;
+    let plans = rehearsal.plans.as_slice();
+    let expectations = read_expectations(top, &rehearsal.config, rehearsal.until, plans)?;
     Ok(Asked {
         start,
         expectations,
@@ -213,7 +215,9 @@ fn read_rehearsal(
 }
 
 /// Reads the planned actions, in the order of their times, and where each is in the input.
-fn read_plans(top: &Object<'_, '_>) -> Result<(Vec<TimedAction>, Vec<Origin>), InputFault> {
+pub(crate) fn read_plans(
+    top: &Object<'_, '_>,
+) -> Result<(Vec<TimedAction>, Vec<Origin>), InputFault> {
     let alerts = top.list_or_none::<AlertItem>("alerts")?;
     let silences = top.list_or_none::<SilenceItem>("silences")?;
     planned::in_order(top.alloc(), alerts, silences)

@@ -14,6 +14,7 @@ mod bars;
 pub mod escape;
 mod flushes;
 mod heading;
+pub mod junit;
 mod lane;
 mod lanes;
 pub mod law;

@@ -14,6 +14,7 @@ mod previewing;
 pub mod rehearsal;
 mod sending;
 mod taken;
+pub mod watch;
 
 pub use law::{limits_are, rehearsals_have_one_play};
 pub use limits::{BOARD_ID, MAX_UNTIL};

@@ -32,6 +32,7 @@ use crate::previewing::PreviewingBoard;
 use crate::rehearsal::{Outage, Rehearsal, TimedAction};
 use crate::sending::{Sending, ends_of, next_end, next_finish};
 use crate::taken::Taken;
+use crate::watch::Watch;
 use am_board::board::Board;
 use am_board::config::Config;
 use am_board::fault::{BoardFault, Fault};
@@ -63,7 +64,7 @@ pub enum PlayFault {
     Full,
 }
 
-/// Runs a rehearsal to its end. Notices that are in flight then are sent to their own end.
+/// Runs a rehearsal to its end. Notices that are in flight then are sent to their own end. `watch` is called at each step.
 ///
 /// Clause `planned`: the inserts and silences of the history are the planned ones, in order and at
 /// their times, up to the first that is after the end. Clause `previews`: the reasons of each begin
@@ -81,7 +82,11 @@ pub enum PlayFault {
 /// - `NoMemory`.
 ///
 /// Cost: its board calls, with a preview for each begin, and at each event the notices in flight.
-pub fn play(alloc: Global, rehearsal: Rehearsal) -> Result<Played, PlayFault>
+pub fn play<W: Watch>(
+    alloc: Global,
+    rehearsal: Rehearsal,
+    watch: &mut W,
+) -> Result<Played, PlayFault>
     ensures configured { IfOk result (λ played. played.board.config ≡ rehearsal.config) }
     ensures ours { IfOk result (λ played. played.board.id ≡ BOARD_ID) }
     ensures planned { IfOk result (λ played.
@@ -100,7 +105,7 @@ pub fn play(alloc: Global, rehearsal: Rehearsal) -> Result<Played, PlayFault>
         outages,
     } = rehearsal;
     let mut course = Course::open(alloc, config, until, maintain, plans, outages.as_slice())?;
-    match course.run() {
+    match course.run(watch) {
         Ok(()) => Ok(course.into_played()),
         Err(fault) => {
             course.abandon();
@@ -163,12 +168,13 @@ impl<'o> Course<'o> {
     }
 
     /// Plays to the end.
-    fn run(&mut self) -> Result<(), PlayFault>
+    fn run<W: Watch>(&mut self, watch: &mut W) -> Result<(), PlayFault>
         requires { self.old.until ≤ MAX_UNTIL }
         ensures reached { OnOk result (Reaches (setting_in self.old) (scene_in self.old) (scene_in self.new)) }
         ensures over { OnOk result (next (setting_in self.old) (scene_in self.new) ≡ None) }
     {
         for _ in 0..u64::MAX {
+            watch.note(self.clock);
             match self.next() {
                 None => return Ok(()),
                 Some(next) => self.step(next)?,

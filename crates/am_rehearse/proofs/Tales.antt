@@ -11,6 +11,7 @@ use Rattle.am_rehearsal.specs.declared.event.Event.{Event}
 use Rattle.am_rehearsal.specs.declared.event.PreviewedBegin.{PreviewedBegin}
 use Rattle.am_rehearsal.specs.declared.limits.TheConstants.{BOARD_ID}
 use Rattle.am_rehearsal.specs.declared.rehearsal.Rehearsal.{Rehearsal}
+use Rattle.am_rehearse.specs.declared.wanted.Wanted.{Wanted}
 use Rattle.am_timeline.specs.declared.expectation.Expectation.{Expectation}
 use Rattle.am_timeline.specs.UtcDates.{StartData}
 use Rattle.am_timeline.specs.Expectation.{is_met}
@@ -19,43 +20,44 @@ use Rattle.am_timeline.specs.TimeFormatData.{TimeFormatData}
 use Rattle.am_input.specs.Request.{IsRequestIn, times_from}
 use Rattle.am_input.specs.declared.input.Output.{Output}
 use Rattle.am_input.specs.declared.input.Overrides.{Overrides}
-use Rattle.am_rehearse.specs.Printed.{WritesOutput, IsPrinted, IsOutputOf, IsOutputOfRun, IsOutputFor, playback_of}
+use Rattle.am_rehearse.specs.Printed.{WritesOutput, IsPrinted, IsOutputOf, IsOutputOfRun, IsOutputFor, playback_of, playback_with, selected}
 
--- the playback of a board, with these begins
-abbrev pub playback_with : BoardData → List Event → List PreviewedBegin → PlaybackData
-playback_with board events begins = record { config = board.config; history = board.history; begins = begins; events = events }
-
-pub output_of-board : (output : Output) (met : Bool) (text : List ℕ) (board : BoardData) (begins : List PreviewedBegin) (events : List Event) (playback : PlaybackData) (times : TimeFormatData) (expectations : List Expectation)
+pub output_of-board : (output : Output) (wanted : Wanted) (met : Bool) (text : List ℕ) (board : BoardData) (begins : List PreviewedBegin) (events : List Event) (shown playback : PlaybackData) (times : TimeFormatData) (expectations : List Expectation)
     → board.id ≡ BOARD_ID → begins ≡ previews_of board.config board.history → IsLegal board.config board.id board.history
     → begin_indices events ≡ range_with_len 0 (length begins)
-    → playback ≡ playback_with board events begins → met ≡ list_all (is_met playback) expectations → IsPrinted output playback times expectations text
-    → IsOutputOf board events output times expectations met text
-output_of-board output met text board begins events playback times expectations ours is_told legal is_begun is_playback judges is =
+    → playback ≡ playback_with board events begins → shown ≡ selected wanted (playback_with board events begins) times
+    → met ≡ list_all (is_met playback) expectations → IsPrinted output shown playback times expectations text
+    → IsOutputOf board events output wanted times expectations met text
+output_of-board output wanted met text board begins events shown playback times expectations ours is_told legal is_begun is_playback is_shown judges is =
+    let told : playback_with board events begins ≡ playback_of board.config board.history events = ap (playback_with board events) is_told in
+    let lines : shown ≡ selected wanted (playback_of board.config board.history events) times =
+    is_shown ∙ ap (λ (s : PlaybackData). selected wanted s times) told in
     let same : playback ≡ playback_of board.config board.history events = is_playback ∙ ap (playback_with board events) is_told in
     record {
       legal = subst (λ (id : ℕ). IsLegal board.config id board.history) ours legal;
       begun = is_begun ∙ ap (λ (l : List PreviewedBegin). range_with_len 0 (length l)) is_told;
       judges = sym (subst (λ (s : PlaybackData). met ≡ list_all (is_met s) expectations) same judges);
-      is = subst (λ (s : PlaybackData). IsPrinted output s times expectations text) same is;
+      is = subst (λ (s : PlaybackData). IsPrinted output s (playback_of board.config board.history events) times expectations text) lines
+          (subst (λ (s : PlaybackData). IsPrinted output shown s times expectations text) same is);
     }
 
-pub answered : (overrides : Overrides) (met is_met : Bool) (given_before given taken_before taken input text : List ℕ)
-    → given ≡ given_before ++ input → IsOutputFor overrides input is_met text → is_met ≡ met → taken ≡ taken_before ++ text
-    → WritesOutput overrides met given_before given taken_before taken
-answered overrides met is_met given_before given taken_before taken input text given_is is_told same taken_is =
+pub answered : (overrides : Overrides) (wanted : Wanted) (met is_met : Bool) (given_before given taken_before taken input text : List ℕ)
+    → given ≡ given_before ++ input → IsOutputFor overrides wanted input is_met text → is_met ≡ met → taken ≡ taken_before ++ text
+    → WritesOutput overrides wanted met given_before given taken_before taken
+answered overrides wanted met is_met given_before given taken_before taken input text given_is is_told same taken_is =
     record {
       input = input;
       text = text;
       given_is = given_is;
-      told = subst (λ (b : Bool). IsOutputFor overrides input b text) same is_told;
+      told = subst (λ (b : Bool). IsOutputFor overrides wanted input b text) same is_told;
       taken_is = taken_is;
     }
 
 -- what is told of a text, by what the value asks for that it is read as
-pub told_by : (overrides : Overrides) (input : List ℕ) (value : Data) (output : Output) (start : Option StartData) (expectations : List Expectation) (rehearsal : Rehearsal) (met : Bool) (text : List ℕ)
+pub told_by : (overrides : Overrides) (wanted : Wanted) (input : List ℕ) (value : Data) (output : Output) (start : Option StartData) (expectations : List Expectation) (rehearsal : Rehearsal) (met : Bool) (text : List ℕ)
     → IsReadAs input value → IsRequestIn overrides value output start expectations rehearsal
-    → IsOutputOfRun rehearsal output (times_from start) expectations met text → IsOutputFor overrides input met text
-told_by overrides input value output start expectations rehearsal met text reads asked tale =
+    → IsOutputOfRun rehearsal output wanted (times_from start) expectations met text → IsOutputFor overrides wanted input met text
+told_by overrides wanted input value output start expectations rehearsal met text reads asked tale =
     record {
       output = output;
       start = start;

@@ -9,8 +9,12 @@ use Rattle.am_rehearsal.specs.EventOrder.{begin_indices}
 use Rattle.am_rehearsal.specs.Play.{PlaysTo, setting_of}
 use Rattle.am_rehearsal.specs.Previews.{previews_of}
 use Rattle.am_rehearsal.specs.declared.event.Event.{Event}
+use Rattle.am_rehearsal.specs.declared.event.PreviewedBegin.{PreviewedBegin}
 use Rattle.am_rehearsal.specs.declared.limits.TheConstants.{BOARD_ID}
 use Rattle.am_rehearsal.specs.declared.rehearsal.Rehearsal.{Rehearsal}
+use Rattle.am_rehearse.specs.declared.wanted.Wanted.{Wanted}
+use Rattle.am_timeline.specs.Changed.{changed}
+use Rattle.am_timeline.specs.Filtered.{filtered}
 use Rattle.am_timeline.specs.declared.expectation.Expectation.{Expectation}
 use Rattle.am_timeline.specs.UtcDates.{StartData}
 use Rattle.am_timeline.specs.Expectation.{is_met}
@@ -37,16 +41,26 @@ abbrev pub summary : PlaybackData → TimeFormatData → List Expectation → Li
 summary playback times expectations =
     table_text playback times ++ undelivered_text playback times ++ expectations_section playback times expectations
 
+-- the rehearsal whose lines are wanted: with the events of the groups that are, and, where changes are, with those that say something new
+abbrev pub selected : Wanted → PlaybackData → TimeFormatData → PlaybackData
+selected wanted playback times =
+    if wanted.changes then changed (filtered playback wanted.filter) times else filtered playback wanted.filter
+
 -- the text is this output of a playback: the short timeline or the full one with what is below it, or the notices alone, with those that
--- failed or without. Of the JSON and the page nothing is said
-abbrev pub IsPrinted : Output → PlaybackData → TimeFormatData → List Expectation → List ℕ → Type 0
-IsPrinted Timeline playback times expectations text =
-    text ≡ short_timeline_text playback times ++ summary playback times expectations
-IsPrinted Full playback times expectations text = text ≡ timeline_text playback times ++ summary playback times expectations
-IsPrinted Notices playback times expectations text = text ≡ notices_text true playback times
-IsPrinted Delivered playback times expectations text = text ≡ notices_text false playback times
-IsPrinted Json playback times expectations text = Unit {0}
-IsPrinted Html playback times expectations text = Unit {0}
+-- failed or without. The lines are those of the rehearsal that is shown, and what is below them is that of the whole one. Of the JSON and
+-- the page nothing is said
+abbrev pub IsPrinted : Output → PlaybackData → PlaybackData → TimeFormatData → List Expectation → List ℕ → Type 0
+IsPrinted Timeline shown playback times expectations text =
+    text ≡ short_timeline_text shown times ++ summary playback times expectations
+IsPrinted Full shown playback times expectations text = text ≡ timeline_text shown times ++ summary playback times expectations
+IsPrinted Notices shown playback times expectations text = text ≡ notices_text true shown times
+IsPrinted Delivered shown playback times expectations text = text ≡ notices_text false shown times
+IsPrinted Json shown playback times expectations text = Unit {0}
+IsPrinted Html shown playback times expectations text = Unit {0}
+
+-- the playback of a board, with these events and these begins
+abbrev pub playback_with : BoardData → List Event → List PreviewedBegin → PlaybackData
+playback_with board events begins = record { config = board.config; history = board.history; begins = begins; events = events }
 
 -- a rehearsal that was played, with what its begins were to do
 abbrev pub playback_of : Config → List Record → List Event → PlaybackData
@@ -54,37 +68,38 @@ playback_of config history events =
     record { config = config; history = history; begins = previews_of config history; events = events }
 
 -- the text is this output of a board and these events, of which the history is legal, and of which each begin that took a group is told
--- of once, in their order; `met` is whether it came as each of these expectations says
-pub record IsOutputOf (board : BoardData) (events : List Event) (output : Output) (times : TimeFormatData)
+-- of once, in their order; the lines are those that are wanted, and `met` is whether it came as each of these expectations says
+pub record IsOutputOf (board : BoardData) (events : List Event) (output : Output) (wanted : Wanted) (times : TimeFormatData)
     (expectations : List Expectation) (met : Bool) (text : List ℕ) : Type 0 where
   pub legal : IsLegal board.config BOARD_ID board.history
   pub begun : begin_indices events ≡ range_with_len 0 (length (previews_of board.config board.history))
   pub judges : list_all (is_met (playback_of board.config board.history events)) expectations ≡ met
-  pub is : IsPrinted output (playback_of board.config board.history events) times expectations text
+  pub is : IsPrinted output (selected wanted (playback_of board.config board.history events) times)
+      (playback_of board.config board.history events) times expectations text
 
 -- the text is this output of what a rehearsal plays to
-pub record IsOutputOfRun (rehearsal : Rehearsal) (output : Output) (times : TimeFormatData) (expectations : List Expectation)
-    (met : Bool) (text : List ℕ) : Type 0 where
+pub record IsOutputOfRun (rehearsal : Rehearsal) (output : Output) (wanted : Wanted) (times : TimeFormatData)
+    (expectations : List Expectation) (met : Bool) (text : List ℕ) : Type 0 where
   pub board : BoardData
   pub events : List Event
   pub played : PlaysTo (setting_of rehearsal) rehearsal.config rehearsal.plans.items board events
-  pub tale : IsOutputOf board events output times expectations met text
+  pub tale : IsOutputOf board events output wanted times expectations met text
 
 -- the text is the output that these bytes ask for, of a rehearsal with the end and the maintenance that they ask for, by the moments and
 -- the expectations that they ask for
-pub record IsOutputFor (overrides : Overrides) (input : List ℕ) (met : Bool) (text : List ℕ) : Type 0 where
+pub record IsOutputFor (overrides : Overrides) (wanted : Wanted) (input : List ℕ) (met : Bool) (text : List ℕ) : Type 0 where
   pub output : Output
   pub start : Option StartData
   pub expectations : List Expectation
   pub rehearsal : Rehearsal
   pub asked : IsRequestBy overrides input output start expectations rehearsal
-  pub tale : IsOutputOfRun rehearsal output (times_from start) expectations met text
+  pub tale : IsOutputOfRun rehearsal output wanted (times_from start) expectations met text
 
 -- of bytes that were given before and now, and of bytes that were taken before and now: what was taken since is the output that those that
 -- were given since ask for
-pub record WritesOutput (overrides : Overrides) (met : Bool) (given_before given taken_before taken : List ℕ) : Type 0 where
+pub record WritesOutput (overrides : Overrides) (wanted : Wanted) (met : Bool) (given_before given taken_before taken : List ℕ) : Type 0 where
   pub input : List ℕ
   pub text : List ℕ
   pub given_is : given ≡ given_before ++ input
-  pub told : IsOutputFor overrides input met text
+  pub told : IsOutputFor overrides wanted input met text
   pub taken_is : taken ≡ taken_before ++ text

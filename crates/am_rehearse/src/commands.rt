@@ -8,5 +8,7 @@ pub mod json;
 pub mod play;
 pub mod routes;
 pub mod story;
+mod times;
 mod tree;
 mod warnings;
+mod zones;

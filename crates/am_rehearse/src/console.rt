@@ -9,13 +9,13 @@ use am_command::complaint::Complaint;
 use am_command::explain::{Wrong, explain};
 use am_command::request::{FaultFormat, STANDARD_INPUT};
 use am_config::dropped::IgnoredSettings;
-use am_config::faults::{Faults, Refusal};
+use am_config::faults::{Fault, Faults, Refusal};
 use am_yaml::document::{DocumentFault, read_document};
 use am_yaml::fault::YamlFault;
 use am_yaml::locate::{Part, locate};
 use am_yaml::place::Place;
 use serde_json::Value;
-use std::alloc::AllocError;
+use std::alloc::{AllocError, Global};
 use std::rt::Files;
 
 /// The status of a file that isn't accepted, or of a wrong command line.
@@ -42,6 +42,8 @@ pub struct Console {
     pub format: FaultFormat,
     /// Whether complaints have colors.
     pub is_colored: bool,
+    /// Whether standard error is a terminal.
+    pub is_terminal: bool,
 }
 
 /// A file with its text and the value that it is read as.
@@ -125,23 +127,34 @@ impl Console {
         }
     }
 
-    /// Complains of each fault of a document, at its place in the text, and returns the status.
+    /// Complains of each fault of a document, at its place in the text, in the order of lines, and returns the status.
     pub fn complain_of_faults<R: Eprint + AllocGlobal>(
         &self,
         rt: &R,
         document: &Document<'_>,
         faults: &Faults,
     ) -> u8 {
-        let located = (WALKED / document.text.len().max(1)).max(1);
-        for (index, fault) in faults.as_slice().iter().enumerate() {
-            let place = fault.place.as_str();
-            let kind = fault.fault_kind;
-            let said = self.complain_of_value(rt, document, place, kind, index < located);
-            if said.is_err() {
-                return self.complain_of_memory(rt);
-            }
+        let said = match in_order(rt.alloc(), document, faults.as_slice()) {
+            Ok(ordered) => self.complain_of_each(rt, document, ordered.as_slice()),
+            Err(refused) => Err(refused),
+        };
+        match said {
+            Ok(()) => REJECTED,
+            Err(_) => self.complain_of_memory(rt),
         }
-        REJECTED
+    }
+
+    fn complain_of_each<R: Eprint + AllocGlobal>(
+        &self,
+        rt: &R,
+        document: &Document<'_>,
+        located: &[Located<'_>],
+    ) -> Result<(), AllocError> {
+        for Located { fault, place } in located {
+            let pointer = fault.place.as_str();
+            self.complain_of_value(rt, document, pointer, fault.fault_kind, *place)?;
+        }
+        Ok(())
     }
 
     /// Complains of all for which a document is refused, and returns the status.
@@ -155,11 +168,33 @@ impl Console {
             Refusal::All(faults) => self.complain_of_faults(rt, document, &faults),
             Refusal::One(InputFault::NoMemory) => self.complain_of_memory(rt),
             Refusal::One(InputFault::Refused { place, fault_kind }) => {
-                match self.complain_of_value(rt, document, place.as_str(), fault_kind, true) {
+                match self.complain_at(rt, document, place.as_str(), fault_kind) {
                     Ok(()) => REJECTED,
                     Err(_) => self.complain_of_memory(rt),
                 }
             }
+        }
+    }
+
+    /// Complains of a value of a document in these words, and returns the status.
+    pub fn complain_in_words<R: Eprint + AllocGlobal>(
+        &self,
+        rt: &R,
+        document: &Document<'_>,
+        pointer: &str,
+        words: &str,
+    ) -> u8 {
+        let kind = FaultKind::BadValue;
+        let said = match place_in(rt.alloc(), document, pointer, kind) {
+            Err(refused) => Err(refused),
+            Ok(place) => {
+                let kind = wrong_of(kind).name();
+                self.complain(rt, document.path, place, Some(pointer), kind, words)
+            }
+        };
+        match said {
+            Ok(()) => REJECTED,
+            Err(_) => self.complain_of_memory(rt),
         }
     }
 
@@ -169,29 +204,32 @@ impl Console {
         NO_MEMORY
     }
 
-    /// Complains of a value of a document, with its place in the text if it `is_located`.
+    /// Complains of a value of a document, at its place in the text.
+    fn complain_at<R: Eprint + AllocGlobal>(
+        &self,
+        rt: &R,
+        document: &Document<'_>,
+        pointer: &str,
+        fault_kind: FaultKind,
+    ) -> Result<(), AllocError> {
+        let place = place_in(rt.alloc(), document, pointer, fault_kind)?;
+        self.complain_of_value(rt, document, pointer, fault_kind, place)
+    }
+
+    /// Complains of a value of a document, which stands at this place of the text, if that is known.
     fn complain_of_value<R: Eprint + AllocGlobal>(
         &self,
         rt: &R,
         document: &Document<'_>,
         pointer: &str,
         fault_kind: FaultKind,
-        is_located: bool,
+        place: Option<Place>,
     ) -> Result<(), AllocError> {
         let alloc = rt.alloc();
         let wrong = wrong_of(fault_kind);
         let message = match explain_times(alloc, &document.value, pointer, fault_kind)? {
             Some(words) => words,
             None => explain(alloc, &document.value, pointer, wrong, &bounds())?,
-        };
-        let part = if wrong == Wrong::Unknown {
-            Part::Key
-        } else {
-            Part::Value
-        };
-        let place = match std::str::from_utf8(document.text.as_slice()) {
-            Ok(text) if is_located => Some(locate(alloc, text, pointer, part)?),
-            _ => None,
         };
         let kind = wrong.name();
         self.complain(
@@ -227,6 +265,67 @@ impl Console {
         };
         let _ = eprintln!(rt; "{line}");
         Ok(())
+    }
+}
+
+/// A fault, and where its value stands in the text, if that is known.
+#[derive(Clone, Copy)]
+struct Located<'f> {
+    fault: &'f Fault,
+    place: Option<Place>,
+}
+
+impl Located<'_> {
+    /// Returns whether this fault stands before another. One whose place isn't known stands behind all.
+    fn comes_before(&self, other: &Located<'_>) -> bool {
+        match (self.place, other.place) {
+            (Some(place), Some(other)) => {
+                place.line < other.line || place.line == other.line && place.column < other.column
+            }
+            (Some(_), None) => true,
+            (None, _) => false,
+        }
+    }
+}
+
+/// Returns the faults of a document in the order of lines and columns. Of a long text only the first ones that were found
+/// have a place; the others are behind them.
+fn in_order<'f>(
+    alloc: Global,
+    document: &Document<'_>,
+    faults: &'f [Fault],
+) -> Result<Vec<Located<'f>>, AllocError> {
+    let walked = (WALKED / document.text.len().max(1)).max(1);
+    let mut ordered: Vec<Located<'f>> = Vec::new(alloc);
+    for (index, fault) in faults.iter().enumerate() {
+        let place = if index < walked {
+            place_in(alloc, document, fault.place.as_str(), fault.fault_kind)?
+        } else {
+            None
+        };
+        let located = Located { fault, place };
+        let end = ordered.len();
+        let later = ordered.iter().position(|later| located.comes_before(later));
+        ordered.insert(later.unwrap_or(end).min(end), located)?;
+    }
+    Ok(ordered)
+}
+
+/// Returns where a value of a document stands in its text; of an unknown field where its name stands.
+fn place_in(
+    alloc: Global,
+    document: &Document<'_>,
+    pointer: &str,
+    fault_kind: FaultKind,
+) -> Result<Option<Place>, AllocError> {
+    let part = if wrong_of(fault_kind) == Wrong::Unknown {
+        Part::Key
+    } else {
+        Part::Value
+    };
+    match std::str::from_utf8(document.text.as_slice()) {
+        Ok(text) => Ok(Some(locate(alloc, text, pointer, part)?)),
+        Err(_) => Ok(None),
     }
 }
 

@@ -10,9 +10,11 @@ mod commands;
 mod console;
 mod fault;
 mod files;
+mod progress;
 mod run;
 mod system_zones;
 mod time_words;
+mod wanted;
 
 use am_cli::device::{StandardInput, StandardOutput};
 use am_command::completions::completions;
@@ -73,7 +75,7 @@ fn words_of(rt: &HostRuntime) -> io::Result<Vec<String>> {
 /// values at each of its ends: such a one is very dear to prove.
 fn answer(rt: &HostRuntime, request: Request<'_>) -> u8 {
     match request {
-        Request::Play(request) => answer_play(rt, request),
+        Request::Play(request) => answer_play(rt, &request),
         Request::Compare(request) => answer_compare(rt, request),
         Request::Story(request) => answer_story(rt, request),
         Request::Check { files, style } => answer_check(rt, files.as_slice(), style),
@@ -96,7 +98,7 @@ fn answer(rt: &HostRuntime, request: Request<'_>) -> u8 {
     }
 }
 
-fn answer_play(rt: &HostRuntime, request: PlayRequest<'_>) -> u8 {
+fn answer_play(rt: &HostRuntime, request: &PlayRequest<'_>) -> u8 {
     let is_timeline = matches!(request.output, None | Some("timeline" | "notices"));
     let mut console = console_for(rt, request.style, is_timeline);
     play(rt, &mut console, request)
@@ -149,6 +151,7 @@ fn console_for(rt: &HostRuntime, style: Style, may_be_colored: bool) -> Console 
         output: PaintedOutput::new(rt.alloc(), StandardOutput::new(stdout), is_colored_output),
         format: style.format,
         is_colored: is_colored(rt, style.color, rt.stderr().is_terminal()),
+        is_terminal: rt.stderr().is_terminal(),
     }
 }
 

@@ -9,7 +9,8 @@ ghost use Rattle.am_rehearsal.specs.Previews.{previews_of};
 ghost use Rattle.am_rehearsal.specs.declared.limits.TheConstants.{BOARD_ID};
 ghost use Rattle.am_input.specs.Request.{times_from};
 ghost use Rattle.am_rehearse.specs.Faults.{Refuses, status_of};
-ghost use Rattle.am_rehearse.specs.Printed.{WritesOutput, IsPrinted, IsOutputOf, IsOutputOfRun, IsOutputFor, expectations_section, summary};
+ghost use Rattle.am_model.specs.Replay.{IsLegal};
+ghost use Rattle.am_rehearse.specs.Printed.{WritesOutput, IsPrinted, IsOutputOf, IsOutputOfRun, IsOutputFor, expectations_section, playback_with, selected, summary};
 ghost use Rattle.am_timeline.specs.Expectation.{is_met};
 ghost use Rattle.am_timeline.specs.Runs.{short_timeline_text};
 ghost use Rattle.am_timeline.specs.Table.{table_text};
@@ -17,6 +18,7 @@ ghost use Rattle.am_timeline.specs.Timeline.{timeline_text};
 ghost use Rattle.am_timeline.specs.Undelivered.{undelivered_text};
 
 use crate::fault::RehearseFault;
+use crate::wanted::Wanted;
 use am_cli::device::{Sink, Source};
 use am_cli::fault::{FaultKind, InputFault};
 use am_cli::place::JsonPointer;
@@ -25,14 +27,19 @@ use am_config::dropped::IgnoredSettings;
 use am_input::input::{Changes, Input, Output, read_input};
 use am_input::origin::Origin;
 use am_input::zone_files::ZoneFiles;
+use am_picture::junit::junit_text;
 use am_picture::page::page;
 use am_picture::scene::Scene;
+use am_rehearsal::event::Event;
 use am_rehearsal::play::{PlayFault, Played, play};
 use am_rehearsal::rehearsal::Rehearsal;
+use am_rehearsal::watch::Watch;
+use am_timeline::changed::changed_events;
 use am_timeline::clock::{Elapsed, TimeFormat};
 use am_timeline::dated::UtcDates;
-use am_timeline::expectation::Expectation;
+use am_timeline::expectation::{Expectation, unmet_expectations};
 use am_timeline::expectation_report::expectations_text;
+use am_timeline::filtered::filtered_events;
 use am_timeline::json::json_text;
 use am_timeline::notices::notices_text;
 use am_timeline::playback::Playback;
@@ -50,6 +57,27 @@ pub struct Report {
     pub text: Vec<u8>,
     /// What of Alertmanager's configuration is ignored.
     pub ignored: IgnoredSettings,
+    /// What became of the expectations.
+    pub judgement: Judgement,
+}
+
+/// What became of expectations, besides the output.
+#[derive(Drop)]
+pub struct Judgement {
+    /// The numbers of those that aren't met, from 0 on.
+    pub unmet: Vec<usize>,
+    /// The report on all of them, as XML of JUnit, if it is wanted.
+    pub junit: Option<String>,
+}
+
+impl Judgement {
+    /// Returns the judgement where nothing was played.
+    pub fn none(alloc: Global) -> Judgement {
+        Judgement {
+            unmet: Vec::new(alloc),
+            junit: None,
+        }
+    }
 }
 
 /// What is printed of a rehearsal.
@@ -58,6 +86,7 @@ struct Rendered {
     text: String,
     /// Whether every expectation is met.
     is_met: bool,
+    judgement: Judgement,
 }
 
 /// Reads a rehearsal from the source, in JSON or YAML, plays it and writes its output to the sink: on `Ok` and on
@@ -69,14 +98,17 @@ struct Rendered {
 ///
 /// An input is refused as `NotRead` only where it is no JSON text; it was read whole before.
 ///
-/// `report` has what was read, once all of it was, and what of Alertmanager's configuration is ignored.
+/// `report` has what was read, once all of it was, what of Alertmanager's configuration is ignored, and, once a rehearsal
+/// was played, which expectations aren't met, and the report on them that is `wanted`.
 /// The output is made whole before its first byte is written: on every fault but `Unwritable` and `Unmet` the
 /// sink wasn't asked.
-pub fn run_rehearsal<S: Source, Z: ZoneFiles, K: Sink>(
+pub fn run_rehearsal<S: Source, Z: ZoneFiles, K: Sink, W: Watch>(
     alloc: Global,
     source: &mut S,
     changes: Changes<'_>,
+    wanted: &Wanted,
     files: &mut Z,
+    watch: &mut W,
     sink: &mut K,
     report: &mut Report,
 ) -> Result<(), RehearseFault>
@@ -92,19 +124,33 @@ pub fn run_rehearsal<S: Source, Z: ZoneFiles, K: Sink>(
     ensures ended_unmet { IfErr result (λ fault.
         fault ≡ RehearseFault.Unmet → S.ended source.new ≡ S.ended source.old + 1) }
     ensures met { OnOk result
-        (WritesOutput changes.entry.overrides true (S.given source.old) (S.given source.new) (K.taken sink.old) (K.taken sink.new)) }
+        (WritesOutput changes.entry.overrides wanted.now true (S.given source.old) (S.given source.new) (K.taken sink.old) (K.taken sink.new)) }
     ensures unmet { IfErr result (λ fault. fault ≡ RehearseFault.Unmet →
-        WritesOutput changes.entry.overrides false (S.given source.old) (S.given source.new) (K.taken sink.old) (K.taken sink.new)) }
+        WritesOutput changes.entry.overrides wanted.now false (S.given source.old) (S.given source.new) (K.taken sink.old) (K.taken sink.new)) }
     ensures refused { IfErr result (λ fault. status_of fault ≡ 2 → (input : List ℕ) × Refuses input fault
         × (S.given source.new ≡ S.given source.old ++ input)
         × (S.ended source.new ≡ S.ended source.old + 1)) }
 {
     let input = read_all(alloc, source)?;
-    let rendered = render(alloc, input.as_slice(), changes, files, &mut report.ignored);
+    let ignored = &mut report.ignored;
+    let rendered = render(
+        alloc,
+        input.as_slice(),
+        changes,
+        wanted,
+        files,
+        watch,
+        ignored,
+    );
     report.text = input;
-    let rendered = rendered?;
-    write_all(sink, rendered.text.as_bytes())?;
-    if rendered.is_met {
+    let Rendered {
+        text,
+        is_met,
+        judgement,
+    } = rendered?;
+    report.judgement = judgement;
+    write_all(sink, text.as_bytes())?;
+    if is_met {
         Ok(())
     } else {
         Err(RehearseFault::Unmet)
@@ -126,25 +172,32 @@ fn refused(alloc: Global, fault: PlayFault, origins: &[Origin]) -> InputFault {
 }
 
 /// What is printed of the rehearsal that these bytes are.
-fn render<Z: ZoneFiles>(
+fn render<Z: ZoneFiles, W: Watch>(
     alloc: Global,
     input: &[u8],
     changes: Changes<'_>,
+    wanted: &Wanted,
     files: &mut Z,
+    watch: &mut W,
     ignored: &mut IgnoredSettings,
 ) -> Result<Rendered, RehearseFault>
-    ensures told { IfOk result (λ rendered. IsOutputFor changes.entry.overrides input.now rendered.is_met (string_bytes rendered.text)) }
+    ensures told { IfOk result (λ rendered. IsOutputFor changes.entry.overrides wanted.now input.now rendered.is_met (string_bytes rendered.text)) }
     ensures refused { IfErr result (Refuses input.now) }
 {
     let value = read_document(alloc, input)?;
     let input = read_input(alloc, &value, changes, files)?;
     *ignored = input.dropped;
-    Ok(play_and_render(alloc, input)?)
+    Ok(play_and_render(alloc, input, wanted, watch)?)
 }
 
 /// Plays a rehearsal, and tells what is asked for.
-fn play_and_render(alloc: Global, input: Input) -> Result<Rendered, InputFault>
-    ensures { IfOk result (λ rendered. IsOutputOfRun input.rehearsal input.output (times_from input.start)
+fn play_and_render<W: Watch>(
+    alloc: Global,
+    input: Input,
+    wanted: &Wanted,
+    watch: &mut W,
+) -> Result<Rendered, InputFault>
+    ensures { IfOk result (λ rendered. IsOutputOfRun input.rehearsal input.output wanted.now (times_from input.start)
         input.expectations.items rendered.is_met (string_bytes rendered.text)) }
 {
     let Input {
@@ -155,16 +208,17 @@ fn play_and_render(alloc: Global, input: Input) -> Result<Rendered, InputFault>
         output,
         dropped: _,
     } = input;
-    let played = play_or_refuse(alloc, rehearsal, origins.as_slice())?;
+    let played = play_or_refuse(alloc, rehearsal, origins.as_slice(), watch)?;
     let expectations = expectations.as_slice();
-    render_from(alloc, &played, &start, expectations, output)
+    render_from(alloc, &played, &start, expectations, output, wanted)
 }
 
 /// Plays a rehearsal whose planned actions are at these places of the input.
-pub(crate) fn play_or_refuse(
+pub(crate) fn play_or_refuse<W: Watch>(
     alloc: Global,
     rehearsal: Rehearsal,
     origins: &[Origin],
+    watch: &mut W,
 ) -> Result<Played, InputFault>
     ensures ours { IfOk result (λ played. played.board.id ≡ BOARD_ID) }
     ensures previews { IfOk result (λ played. played.begins.items ≡ previews_of played.board.config played.board.history) }
@@ -173,7 +227,9 @@ pub(crate) fn play_or_refuse(
     ensures played { IfOk result (λ played.
         PlaysTo (setting_of rehearsal) rehearsal.config rehearsal.plans.items played.board played.events.items) }
 {
-    match play(alloc, rehearsal) {
+    let ended = play(alloc, rehearsal, watch);
+    watch.end();
+    match ended {
         Ok(played) => Ok(played),
         Err(fault) => Err(refused(alloc, fault, origins)),
     }
@@ -186,16 +242,17 @@ fn render_from(
     start: &Option<UtcDates>,
     expectations: &[Expectation],
     output: Output,
+    wanted: &Wanted,
 ) -> Result<Rendered, InputFault>
     requires ours { played.now.board.id ≡ BOARD_ID }
     requires previews { played.now.begins.items ≡ previews_of played.now.board.config played.now.board.history }
     requires begun { begin_indices played.now.events.items ≡ range_with_len 0 (vec_len played.now.begins) }
-    ensures { IfOk result (λ rendered. IsOutputOf played.now.board played.now.events.items output (times_from start.now)
+    ensures { IfOk result (λ rendered. IsOutputOf played.now.board played.now.events.items output wanted.now (times_from start.now)
         expectations.now rendered.is_met (string_bytes rendered.text)) }
 {
     match start {
-        None => render_by(alloc, played, &Elapsed, expectations, output),
-        Some(start) => render_by(alloc, played, start, expectations, output),
+        None => render_by(alloc, played, &Elapsed, expectations, output, wanted),
+        Some(start) => render_by(alloc, played, start, expectations, output, wanted),
     }
 }
 
@@ -206,22 +263,86 @@ fn render_by<C: TimeFormat>(
     clock: &C,
     expectations: &[Expectation],
     output: Output,
+    wanted: &Wanted,
 ) -> Result<Rendered, InputFault>
     requires ours { played.now.board.id ≡ BOARD_ID }
     requires previews { played.now.begins.items ≡ previews_of played.now.board.config played.now.board.history }
     requires begun { begin_indices played.now.events.items ≡ range_with_len 0 (vec_len played.now.begins) }
-    ensures { IfOk result (λ rendered. IsOutputOf played.now.board played.now.events.items output (C.times clock.now)
+    ensures { IfOk result (λ rendered. IsOutputOf played.now.board played.now.events.items output wanted.now (C.times clock.now)
         expectations.now rendered.is_met (string_bytes rendered.text)) }
 {
-    let playback = Playback::new(
+    let events = played.events.as_slice();
+    let playback = playback_of(played, events);
+    let kept = selected_events(alloc, played, clock, wanted)?;
+    let shown = playback_of(played, kept.as_slice());
+    let text = printed(
+        alloc,
+        played,
+        &shown,
+        &playback,
+        clock,
+        expectations,
+        output,
+    )?;
+    let is_met = are_met(alloc, &playback, expectations)?;
+    let judgement = judge(alloc, &playback, clock, expectations, wanted)?;
+    Ok(Rendered {
+        text,
+        is_met,
+        judgement,
+    })
+}
+
+/// The playback of a rehearsal that was played, with these events.
+pub(crate) fn playback_of<'p>(played: &'p Played, events: &'p [Event]) -> Playback<'p>
+    ensures playback { result ≡ playback_with played.now.board events.now played.now.begins.items }
+    ensures legal { IsLegal played.now.board.config played.now.board.id played.now.board.history }
+{
+    Playback::new(
         played.board.config(),
         played.board.history(),
         played.begins.as_slice(),
-        played.events.as_slice(),
-    );
-    let text = printed(alloc, played, &playback, clock, expectations, output)?;
-    let is_met = are_met(&playback, expectations);
-    Ok(Rendered { text, is_met })
+        events,
+    )
+}
+
+/// The events whose lines are wanted.
+fn selected_events<C: TimeFormat>(
+    alloc: Global,
+    played: &Played,
+    clock: &C,
+    wanted: &Wanted,
+) -> Result<Vec<Event>, AllocError>
+    ensures { IfOk result (λ events. playback_with played.now.board events.items played.now.begins.items
+        ≡ selected wanted.now (playback_with played.now.board played.now.events.items played.now.begins.items) (C.times clock.now)) }
+{
+    let happened = played.events.as_slice();
+    let playback = playback_of(played, happened);
+    let filtered = filtered_events(alloc, &playback, &wanted.filter)?;
+    if !wanted.changes {
+        return Ok(filtered);
+    }
+    let narrowed = playback_of(played, filtered.as_slice());
+    changed_events(alloc, &narrowed, clock)
+}
+
+/// What became of the expectations, besides the output.
+fn judge<C: TimeFormat>(
+    alloc: Global,
+    playback: &Playback<'_>,
+    clock: &C,
+    expectations: &[Expectation],
+    wanted: &Wanted,
+) -> Result<Judgement, AllocError> {
+    let unmet = unmet_expectations(alloc, playback, expectations)?;
+    if !wanted.junit {
+        return Ok(Judgement { unmet, junit: None });
+    }
+    let junit = junit_text(alloc, playback, clock, expectations)?;
+    Ok(Judgement {
+        unmet,
+        junit: Some(junit),
+    })
 }
 
 /// A played rehearsal as a page.
@@ -236,32 +357,40 @@ fn picture<C: TimeFormat>(alloc: Global, played: &Played, clock: &C) -> Result<S
 }
 
 /// Whether every expectation is met.
-fn are_met(playback: &Playback<'_>, expectations: &[Expectation]) -> bool
-    ensures { result ≡ list_all (is_met playback.now) expectations.now }
+fn are_met(
+    alloc: Global,
+    playback: &Playback<'_>,
+    expectations: &[Expectation],
+) -> Result<bool, AllocError>
+    ensures { IfOk result (λ met. met ≡ list_all (is_met playback.now) expectations.now) }
 {
-    expectations
-        .iter()
-        .all(|expectation| expectation.is_met(playback))
+    for expectation in expectations {
+        if !expectation.is_met(alloc, playback)? {
+            return Ok(false);
+        }
+    }
+    Ok(true)
 }
 
-/// The output of a rehearsal that is asked for, of which this is the playback.
+/// The output of a rehearsal that is asked for, of which this is the playback, with the lines of the one that is shown.
 fn printed<C: TimeFormat>(
     alloc: Global,
     played: &Played,
+    shown: &Playback<'_>,
     playback: &Playback<'_>,
     clock: &C,
     expectations: &[Expectation],
     output: Output,
 ) -> Result<String, AllocError>
     ensures { IfOk result (λ text.
-        IsPrinted output playback.now (C.times clock.now) expectations.now (string_bytes text)) }
+        IsPrinted output shown.now playback.now (C.times clock.now) expectations.now (string_bytes text)) }
 {
     match output {
-        Output::Timeline => short_timeline(alloc, playback, clock, expectations),
-        Output::Full => full_timeline(alloc, playback, clock, expectations),
-        Output::Notices => notices_text(alloc, playback, clock, true),
-        Output::Delivered => notices_text(alloc, playback, clock, false),
-        Output::Json => json_text(alloc, playback, clock),
+        Output::Timeline => short_timeline(alloc, shown, playback, clock, expectations),
+        Output::Full => full_timeline(alloc, shown, playback, clock, expectations),
+        Output::Notices => notices_text(alloc, shown, clock, true),
+        Output::Delivered => notices_text(alloc, shown, clock, false),
+        Output::Json => json_text(alloc, shown, clock),
         Output::Html => picture(alloc, played, clock),
     }
 }
@@ -269,14 +398,15 @@ fn printed<C: TimeFormat>(
 /// The timeline with one line for a run of like flushes, and what is below it.
 fn short_timeline<C: TimeFormat>(
     alloc: Global,
+    shown: &Playback<'_>,
     playback: &Playback<'_>,
     clock: &C,
     expectations: &[Expectation],
 ) -> Result<String, AllocError>
-    ensures { IfOk result (λ text. string_bytes text ≡ short_timeline_text playback.now (C.times clock.now)
+    ensures { IfOk result (λ text. string_bytes text ≡ short_timeline_text shown.now (C.times clock.now)
         ++ summary playback.now (C.times clock.now) expectations.now) }
 {
-    let mut text = short_timeline_text(alloc, playback, clock)?;
+    let mut text = short_timeline_text(alloc, shown, clock)?;
     push_summary(alloc, playback, clock, expectations, &mut text)?;
     Ok(text)
 }
@@ -284,14 +414,15 @@ fn short_timeline<C: TimeFormat>(
 /// The timeline with a line for each event, and what is below it.
 fn full_timeline<C: TimeFormat>(
     alloc: Global,
+    shown: &Playback<'_>,
     playback: &Playback<'_>,
     clock: &C,
     expectations: &[Expectation],
 ) -> Result<String, AllocError>
-    ensures { IfOk result (λ text. string_bytes text ≡ timeline_text playback.now (C.times clock.now)
+    ensures { IfOk result (λ text. string_bytes text ≡ timeline_text shown.now (C.times clock.now)
         ++ summary playback.now (C.times clock.now) expectations.now) }
 {
-    let mut text = timeline_text(alloc, playback, clock)?;
+    let mut text = timeline_text(alloc, shown, clock)?;
     push_summary(alloc, playback, clock, expectations, &mut text)?;
     Ok(text)
 }

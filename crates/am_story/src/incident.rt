@@ -4,6 +4,13 @@ use crate::yaml::{push_key, push_quoted};
 use am_command::durations::push_duration;
 use std::alloc::{AllocError, Global};
 
+/// The story of an answer without alerts.
+const EMPTY: &str = "\
+# Made of an answer without alerts: nothing fired then, or the query asks for something else.
+until: 0s
+alerts: []
+";
+
 /// What happened, in milliseconds since 1970.
 #[derive(Drop)]
 pub struct Incident {
@@ -47,19 +54,20 @@ impl Incident {
         start
     }
 
-    /// Returns the story, in YAML, without a configuration. It starts when the first alert fired.
+    /// Returns the story, in YAML, without a configuration. It starts when the first alert fired; where none fired, it is
+    /// empty, and a comment says so.
     pub fn story(&self, alloc: Global) -> Result<String, AllocError> {
         let start = self.start();
         let mut out = String::new(alloc);
+        if self.alerts.is_empty() {
+            out.push_str(EMPTY)?;
+            return Ok(out);
+        }
         out.push_str("# Made of what happened. Play it with --config alertmanager.yml.\nstart: ")?;
         push_time(start, &mut out)?;
         out.push_str("\nuntil: ")?;
         push_duration(self.end.saturating_sub(start), &mut out)?;
-        out.push_str("\nalerts:")?;
-        if self.alerts.is_empty() {
-            out.push_str(" []")?;
-        }
-        out.push('\n')?;
+        out.push_str("\nalerts:\n")?;
         for alert in &self.alerts {
             push_alert(alert, start, &mut out)?;
         }

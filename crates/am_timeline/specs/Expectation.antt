@@ -1,25 +1,47 @@
 -- Expectation: what is expected of a rehearsal, and whether it is met.
-use Rattle.std.specs.Prelude.{Bool, true, false, not, ◌&&◌, ◌==◌, nat_le, List, Option}
+use Rattle.std.specs.Prelude.{ℕ, ◌+◌, Bool, true, false, ◌&&◌, ◌==◌, nat_le, count_by, find, List, [], ◌∷◌, ◌++◌, Option, slice_get}
+use Rattle.std.specs.Prelude.{if◌then◌else◌}
 use Rattle.std.specs.List.{list_all, list_any}
 use Rattle.std.specs.Option.{option_map_or}
+use Rattle.std.specs.Str.{bytes_eq}
 use Rattle.am_alerts.specs.AlertData.{AlertData}
 use Rattle.am_alerts.specs.Labels.{same_label_set}
+use Rattle.am_alerts.specs.Matcher.{match_all}
 use Rattle.am_alerts.specs.declared.labels.Label.{Label}
+use Rattle.am_alerts.specs.declared.matcher.MatcherParts.{MatcherParts}
 use Rattle.am_model.specs.declared.config.Config.{Config}
+use Rattle.am_model.specs.declared.reason.Reason.{Reason}
+use Rattle.am_model.specs.declared.reason.Reason.TheVariants.{FirstNotice, NewAlert, AllResolved, NewlyResolved, Repeat}
+use Rattle.am_model.specs.Config.{kind_at}
+use Rattle.am_model.specs.Configured.{integrations_named, route_of}
 use Rattle.am_rehearsal.specs.declared.event.Event.{Event}
+use Rattle.am_timeline.specs.declared.expectation.Amount.{Amount}
+use Rattle.am_timeline.specs.declared.expectation.Amount.TheVariants.{AtLeastOne, Exactly, AtMost}
 use Rattle.am_timeline.specs.declared.expectation.Expectation.{Expectation}
-use Rattle.am_timeline.specs.declared.expectation.Wanted.{Wanted}
-use Rattle.am_timeline.specs.declared.expectation.Wanted.TheVariants.{NoNotice, Notice}
+use Rattle.am_timeline.specs.declared.expectation.content.Content.{Content}
 use Rattle.am_timeline.specs.Playback.{PlaybackData, SentData, is_delivered, sent_of}
 use Rattle.am_timeline.specs.Table.{is_for}
+use Rattle.am_timeline.specs.Timeline.{reason_words}
 
--- whether a notice is one of those that an expectation speaks of: delivered, from the one moment to the other, by its receiver and its
--- integration, if it names them
+-- the kind of the integration that a notice was for
+abbrev pub kind_for : Config → SentData → List ℕ
+kind_for config s = kind_at (integrations_named (route_of config s.notice.group).receiver config.receivers) s.notice.integration
+
+-- whether a notice was for the receiver of an expectation, if it names one
+abbrev pub is_for_receiver : Config → Expectation → SentData → Bool
+is_for_receiver config x s = option_map_or (λ name. is_for config name s) x.receiver true
+
+-- whether it was for the integration, if the expectation names its kind or its position
+abbrev pub is_for_integration : Config → Expectation → SentData → Bool
+is_for_integration config x s =
+    option_map_or (λ kind. bytes_eq (kind_for config s) kind) x.kind true
+    && option_map_or (λ position. s.notice.integration == position) x.integration true
+
+-- whether a notice is one of those that an expectation speaks of: delivered, from the one moment to the other, to its target
 abbrev pub is_in_scope : Config → Expectation → SentData → Bool
 is_in_scope config x s =
-    is_delivered s.outcome && nat_le x.from s.report.ended && nat_le s.report.ended x.to
-    && option_map_or (λ name. is_for config name s) x.receiver true
-    && option_map_or (λ position. s.notice.integration == position) x.integration true
+    is_delivered s.outcome && nat_le x.from s.report.ended && nat_le s.report.ended x.to && is_for_receiver config x s
+    && is_for_integration config x s
 
 -- whether one of these alerts has a label set
 abbrev pub has_set : List AlertData → List Label → Bool
@@ -37,25 +59,69 @@ have_just wanted alerts = list_all (has_set alerts) wanted && list_all (is_liste
 abbrev pub are_as_wanted : Option (List (List Label)) → List AlertData → Bool
 are_as_wanted wanted alerts = option_map_or (λ sets. have_just sets alerts) wanted true
 
--- whether a notice tells what is wanted
-abbrev pub is_wanted : Option (List (List Label)) → Option (List (List Label)) → SentData → Bool
-is_wanted firing resolved s = are_as_wanted firing s.notice.firing && are_as_wanted resolved s.notice.resolved
+-- whether one of these alerts matches all of these matchers
+abbrev pub has_match : List MatcherParts → List AlertData → Bool
+has_match matchers alerts = list_any (λ a. match_all matchers a.labels) alerts
 
--- whether the sending of a notice that is meant ended by this
+-- the same, if matchers are said
+abbrev pub has_as_wanted : Option (List MatcherParts) → List AlertData → Bool
+has_as_wanted wanted alerts = option_map_or (λ matchers. has_match matchers alerts) wanted true
+
+-- the reasons for which a notice is sent
+abbrev pub notifying : List Reason
+notifying = FirstNotice ∷ NewAlert ∷ AllResolved ∷ NewlyResolved ∷ Repeat ∷ []
+
+-- the reason for which a notice is sent, by its words
+abbrev pub reason_named : List ℕ → Option Reason
+reason_named words = find (λ reason. bytes_eq words (reason_words reason)) notifying
+
+-- whether a notice was sent for this reason
+abbrev pub is_sent_for : Reason → SentData → Bool
+is_sent_for reason s =
+    option_map_or (λ own. bytes_eq (reason_words own) (reason_words reason)) (slice_get s.begin.preview.reasons s.notice.integration) false
+
+-- the same, if a reason is said
+abbrev pub is_sent_as_wanted : Option Reason → SentData → Bool
+is_sent_as_wanted wanted s = option_map_or (λ reason. is_sent_for reason s) wanted true
+
+-- whether a notice says what is wanted of it
+abbrev pub has_content : Content → SentData → Bool
+has_content wanted s =
+    has_as_wanted wanted.has s.notice.firing && has_as_wanted wanted.has_resolved s.notice.resolved
+    && are_as_wanted wanted.firing s.notice.firing && are_as_wanted wanted.resolved s.notice.resolved
+    && is_sent_as_wanted wanted.reason s
+
+-- whether a notice is one that an expectation wants: in scope, and of its content
+abbrev pub fits : Config → Expectation → SentData → Bool
+fits config x s = is_in_scope config x s && has_content x.content s
+
+-- whether the sending of a notice in scope ended by this
 abbrev pub ends_in_scope : PlaybackData → Expectation → Event → Bool
 ends_in_scope playback x event = option_map_or (is_in_scope playback.config x) (sent_of playback event) false
 
--- and of one that is wanted
-abbrev pub is_wanted_by :
-    PlaybackData → Expectation → Option (List (List Label)) → Option (List (List Label)) → Event → Bool
-is_wanted_by playback x firing resolved event =
-    option_map_or (λ s. is_in_scope playback.config x s && is_wanted firing resolved s) (sent_of playback event) false
+-- whether the sending of a notice that fits did
+abbrev pub ends_fitting : PlaybackData → Expectation → Event → Bool
+ends_fitting playback x event = option_map_or (fits playback.config x) (sent_of playback event) false
 
--- whether it came so: no notice that is meant, or one that tells what is wanted
-abbrev pub is_satisfied : PlaybackData → Expectation → Wanted → Bool
-is_satisfied playback x NoNotice = not (list_any (ends_in_scope playback x) playback.events)
-is_satisfied playback x (Notice firing resolved) = list_any (is_wanted_by playback x firing resolved) playback.events
+-- how many notices fit
+abbrev pub count_fitting : PlaybackData → Expectation → ℕ
+count_fitting playback x = count_by (ends_fitting playback x) playback.events
 
--- met: an expectation came so
+-- whether so many are as many as are expected
+abbrev pub allows : Amount → ℕ → Bool
+allows AtLeastOne count = nat_le 1 count
+allows (Exactly wanted) count = count == wanted
+allows (AtMost most) count = nat_le count most
+
+-- met: as many notices fit as are expected
 abbrev pub is_met : PlaybackData → Expectation → Bool
-is_met playback x = is_satisfied playback x x.wanted
+is_met playback x = allows x.amount (count_fitting playback x)
+
+-- the number of an expectation, if it isn't met
+abbrev pub unmet_at : PlaybackData → ℕ → Expectation → List ℕ
+unmet_at playback n x = if is_met playback x then [] else n ∷ []
+
+-- the numbers of the expectations that aren't met, counted from n on
+abbrev pub unmet_from : PlaybackData → ℕ → List Expectation → List ℕ
+unmet_from playback n [] = []
+unmet_from playback n (x ∷ xs) = unmet_at playback n x ++ unmet_from playback (n + 1) xs

@@ -78,7 +78,7 @@ pub(crate) fn push_two_digits(number: u64, out: &mut String) -> Result<(), Alloc
 }
 
 /// Adds a number in decimal digits.
-pub(crate) fn push_number(number: u64, out: &mut String) -> Result<(), AllocError>
+pub fn push_number(number: u64, out: &mut String) -> Result<(), AllocError>
     ensures { OnOk result (string_bytes out.new ≡ string_bytes out.old ++ decimal number) }
 {
     write!(out, "{number}")

@@ -1,62 +1,152 @@
 //! Expectations, and whether a rehearsal meets them. `am_rehearse` reads them, and ends with status
 //! 5 if one isn't met. Cost: for each expectation, that of the timeline.
-ghost use Rattle.std.specs.Prelude.{◌≡◌, ◌==◌, option_copied, true};
-ghost use Rattle.std.specs.List.{list_all, list_any};
+ghost use Rattle.std.specs.Prelude.{◌≡◌, ◌==◌, ◌++◌, IfOk, OnOk, true};
+ghost use Rattle.std.specs.List.{list_any};
 ghost use Rattle.std.specs.Option.{option_map_or};
-ghost use Rattle.am_timeline.specs.Expectation.{are_as_wanted, is_satisfied, has_set, have_just};
-ghost use Rattle.am_timeline.specs.Expectation.{is_listed, is_in_scope, ends_in_scope, is_met};
-ghost use Rattle.am_timeline.specs.Expectation.{is_wanted, is_wanted_by};
-ghost use Rattle.am_timeline.specs.Table.{is_for};
+ghost use Rattle.std.specs.Str.{bytes_eq};
+ghost use Rattle.am_timeline.specs.Expectation.{allows, count_fitting, ends_fitting, ends_in_scope, fits, is_for_integration};
+ghost use Rattle.am_timeline.specs.Expectation.{is_for_receiver, is_in_scope, is_met, kind_for, unmet_at, unmet_from};
 
+pub mod content;
+
+use crate::expectation::content::Content;
 use crate::playback::Playback;
 use crate::sent::{Sent, sent_of};
 use crate::table::is_for;
-use am_alerts::alert::Alert;
-use am_alerts::labels::Labels;
-use am_alerts::sequence::Sequence;
 use am_alerts::text::Text;
-use am_board::config::Config;
+use am_board::config::{Config, kind_at};
 use am_rehearsal::event::Event;
+use std::alloc::{AllocError, Global};
 
 /// An expectation about the delivered notices of a span.
 ///
 /// The time of a notice is the end of its sending.
 #[derive(Debug, Drop)]
 pub struct Expectation {
+    /// What it is called in answers.
+    pub name: Option<Text>,
     /// The first time of the span, in milliseconds.
     pub from: u64,
     /// The last time of the span, in milliseconds.
     pub to: u64,
     /// The name of the receiver; none means every receiver.
     pub receiver: Option<Text>,
+    /// The kind of the integration; none means every kind.
+    pub kind: Option<Text>,
     /// The position of the integration in its receiver; none means every integration.
     pub integration: Option<u32>,
-    pub wanted: Wanted,
+    /// What a notice has to say to be counted.
+    pub content: Content,
+    /// How many such notices are expected.
+    pub amount: Amount,
 }
 
-/// What an expectation wants.
-#[derive(Debug, Drop)]
-pub enum Wanted {
-    /// No notice is in scope.
-    NoNotice,
-    /// A notice in scope has exactly these label sets, in any order; none means any label sets.
-    Notice {
-        firing: Option<Sequence<Labels>>,
-        resolved: Option<Sequence<Labels>>,
-    },
+/// How many notices are expected.
+#[derive(Clone, Copy, Debug, PartialEq, Eq)]
+pub enum Amount {
+    AtLeastOne,
+    Exactly(u64),
+    AtMost(u64),
+}
+
+impl Amount {
+    /// Whether so many notices are as many as are expected.
+    fn allows(self, count: u64) -> bool
+        ensures { result ≡ allows self count }
+    {
+        match self {
+            Amount::AtLeastOne => count >= 1,
+            Amount::Exactly(wanted) => count == wanted,
+            Amount::AtMost(most) => count <= most,
+        }
+    }
+}
+
+/// Returns the numbers of the expectations that aren't met, from 0 on and in order.
+pub fn unmet_expectations(
+    alloc: Global,
+    playback: &Playback,
+    expectations: &[Expectation],
+) -> Result<Vec<usize>, AllocError>
+    ensures { IfOk result (λ numbers. numbers.items ≡ unmet_from playback.now 0 expectations.now) }
+{
+    let mut unmet = Vec::new(alloc);
+    for (number, expectation) in expectations.iter().enumerate() {
+        push_if_unmet(alloc, playback, number, expectation, &mut unmet)?;
+    }
+    Ok(unmet)
+}
+
+/// Adds the number of an expectation, if it isn't met.
+fn push_if_unmet(
+    alloc: Global,
+    playback: &Playback,
+    number: usize,
+    expectation: &Expectation,
+    unmet: &mut Vec<usize>,
+) -> Result<(), AllocError>
+    ensures { OnOk result (unmet.new.items ≡ unmet.old.items ++ unmet_at playback.now number expectation.now) }
+{
+    if expectation.is_met(alloc, playback)? {
+        return Ok(());
+    }
+    unmet.push(number)?;
+    Ok(())
 }
 
 impl Expectation {
     /// Returns whether a rehearsal that ran meets this expectation.
-    pub fn is_met(&self, playback: &Playback) -> bool
-        ensures { result ≡ is_met playback.now self.now }
+    pub fn is_met(&self, alloc: Global, playback: &Playback) -> Result<bool, AllocError>
+        ensures { IfOk result (λ met. met ≡ is_met playback.now self.now) }
     {
-        match &self.wanted {
-            Wanted::NoNotice => !self.has_in_scope(playback),
-            Wanted::Notice { firing, resolved } => {
-                self.has_wanted(playback, firing.as_ref(), resolved.as_ref())
+        Ok(
+            self.amount
+                .allows(self.count_fitting(alloc, playback)? as u64),
+        )
+    }
+
+    /// Returns how many notices fit.
+    pub(crate) fn count_fitting(
+        &self,
+        alloc: Global,
+        playback: &Playback,
+    ) -> Result<usize, AllocError>
+        ensures { IfOk result (λ count. count ≡ count_fitting playback.now self.now) }
+    {
+        let mut count: usize = 0;
+        for event in playback.events {
+            if self.ends_fitting(alloc, playback, event)? {
+                count += 1;
             }
         }
+        Ok(count)
+    }
+
+    /// Whether the sending of a notice that fits ended by this.
+    fn ends_fitting(
+        &self,
+        alloc: Global,
+        playback: &Playback,
+        event: &Event,
+    ) -> Result<bool, AllocError>
+        ensures { IfOk result (λ ends. ends ≡ ends_fitting playback.now self.now event.now) }
+    {
+        match sent_of(playback, event) {
+            None => Ok(false),
+            Some(sent) => self.fits(alloc, playback.config, &sent),
+        }
+    }
+
+    /// Returns whether a notice is in scope and has the content that is wanted.
+    pub(crate) fn fits(
+        &self,
+        alloc: Global,
+        config: &Config,
+        sent: &Sent,
+    ) -> Result<bool, AllocError>
+        ensures { IfOk result (λ fitting. fitting ≡ fits config.now self.now sent.now) }
+    {
+        Ok(self.is_in_scope(config, sent) && self.content.is_in(alloc, sent)?)
     }
 
     /// Returns whether a notice is in scope.
@@ -71,50 +161,13 @@ impl Expectation {
         false
     }
 
-    /// Whether there is one that tells what is wanted.
-    fn has_wanted(
-        &self,
-        playback: &Playback,
-        firing: Option<&Sequence<Labels>>,
-        resolved: Option<&Sequence<Labels>>,
-    ) -> bool
-        ensures { result ≡ list_any (is_wanted_by playback.now self.now
-            (option_copied firing.entry) (option_copied resolved.entry)) playback.now.events }
-    {
-        for event in playback.events {
-            if self.is_wanted_by(playback, firing, resolved, event) {
-                return true;
-            }
-        }
-        false
-    }
-
-    /// Whether the sending of a notice that is meant ended by this.
+    /// Whether the sending of a notice in scope ended by this.
     fn ends_in_scope(&self, playback: &Playback, event: &Event) -> bool
         ensures { result ≡ ends_in_scope playback.now self.now event.now }
     {
         match sent_of(playback, event) {
             None => false,
             Some(sent) => self.is_in_scope(playback.config, &sent),
-        }
-    }
-
-    /// Whether the sending of one that tells what is wanted did.
-    fn is_wanted_by(
-        &self,
-        playback: &Playback,
-        firing: Option<&Sequence<Labels>>,
-        resolved: Option<&Sequence<Labels>>,
-        event: &Event,
-    ) -> bool
-        ensures { result ≡ is_wanted_by playback.now self.now
-            (option_copied firing.entry) (option_copied resolved.entry) event.now }
-    {
-        match sent_of(playback, event) {
-            None => false,
-            Some(sent) => {
-                self.is_in_scope(playback.config, &sent) && is_wanted(firing, resolved, &sent)
-            }
         }
     }
 
@@ -126,11 +179,12 @@ impl Expectation {
             && self.from <= sent.report.ended
             && sent.report.ended <= self.to
             && self.is_for_receiver(config, sent)
-            && self.is_for_integration(sent)
+            && self.is_for_integration(config, sent)
     }
 
-    fn is_for_receiver(&self, config: &Config, sent: &Sent) -> bool
-        ensures { result ≡ option_map_or (λ name. is_for config.now name sent.now) self.now.receiver true }
+    /// Returns whether a notice was for the receiver, if one is named.
+    pub(crate) fn is_for_receiver(&self, config: &Config, sent: &Sent) -> bool
+        ensures { result ≡ is_for_receiver config.now self.now sent.now }
     {
         match &self.receiver {
             None => true,
@@ -138,7 +192,23 @@ impl Expectation {
         }
     }
 
-    fn is_for_integration(&self, sent: &Sent) -> bool
+    /// Returns whether a notice was for the integration, if its kind or its position is named.
+    pub(crate) fn is_for_integration(&self, config: &Config, sent: &Sent) -> bool
+        ensures { result ≡ is_for_integration config.now self.now sent.now }
+    {
+        self.is_for_kind(config, sent) && self.is_for_position(sent)
+    }
+
+    fn is_for_kind(&self, config: &Config, sent: &Sent) -> bool
+        ensures { result ≡ option_map_or (λ kind. bytes_eq (kind_for config.now sent.now) kind) self.now.kind true }
+    {
+        match &self.kind {
+            None => true,
+            Some(kind) => kind_for(config, sent) == kind.as_str(),
+        }
+    }
+
+    fn is_for_position(&self, sent: &Sent) -> bool
         ensures { result ≡ option_map_or (λ position. sent.now.notice.integration == position) self.now.integration true }
     {
         let notice = sent.notice;
@@ -149,55 +219,11 @@ impl Expectation {
     }
 }
 
-/// Whether a notice tells what is wanted.
-fn is_wanted(
-    firing: Option<&Sequence<Labels>>,
-    resolved: Option<&Sequence<Labels>>,
-    sent: &Sent,
-) -> bool
-    ensures { result ≡ is_wanted (option_copied firing.entry) (option_copied resolved.entry) sent.now }
+/// The kind of the integration that a notice was for.
+fn kind_for<'c>(config: &'c Config, sent: &Sent) -> &'c str
+    ensures { result.now ≡ kind_for config.now sent.now }
 {
     let notice = sent.notice;
-    are_as_wanted(firing, notice.firing.as_slice())
-        && are_as_wanted(resolved, notice.resolved.as_slice())
-}
-
-fn are_as_wanted(wanted: Option<&Sequence<Labels>>, alerts: &[Alert]) -> bool
-    ensures { result ≡ are_as_wanted (option_copied wanted.entry) alerts.now }
-{
-    match wanted {
-        None => true,
-        Some(sets) => have_just(sets.as_slice(), alerts),
-    }
-}
-
-/// Whether alerts have just these label sets.
-fn have_just(wanted: &[Labels], alerts: &[Alert]) -> bool
-    ensures { result ≡ have_just wanted.now alerts.now }
-{
-    have_sets(wanted, alerts) && are_listed(wanted, alerts)
-}
-
-fn have_sets(wanted: &[Labels], alerts: &[Alert]) -> bool
-    ensures { result ≡ list_all (has_set alerts.now) wanted.now }
-{
-    wanted.iter().all(|labels| has_set(alerts, labels))
-}
-
-fn are_listed(wanted: &[Labels], alerts: &[Alert]) -> bool
-    ensures { result ≡ list_all (is_listed wanted.now) alerts.now }
-{
-    alerts.iter().all(|alert| is_listed(wanted, alert))
-}
-
-fn has_set(alerts: &[Alert], labels: &Labels) -> bool
-    ensures { result ≡ has_set alerts.now labels.now }
-{
-    alerts.iter().any(|alert| alert.labels() == labels)
-}
-
-fn is_listed(wanted: &[Labels], alert: &Alert) -> bool
-    ensures { result ≡ is_listed wanted.now alert.now }
-{
-    wanted.iter().any(|labels| labels == alert.labels())
+    let integrations = config.integrations_of(&notice.group);
+    kind_at(integrations, notice.integration as usize)
 }

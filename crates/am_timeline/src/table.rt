@@ -74,15 +74,16 @@ fn push_receiver<C: TimeFormat>(
 fn push_counts(playback: &Playback, name: &str, out: &mut String) -> Result<(), AllocError>
     ensures { OnOk result (string_bytes out.new ≡ string_bytes out.old ++ counts_text playback.now name.now) }
 {
-    push_count(count_delivered(playback, name), " notice", out)?;
+    push_count(count_delivered(playback, name) as u64, " notice", out)?;
     out.push_str(", ")?;
-    push_count(count_failed(playback, name), " failure", out)
+    push_count(count_failed(playback, name) as u64, " failure", out)
 }
 
-fn push_count(count: usize, word: &str, out: &mut String) -> Result<(), AllocError>
+/// Adds how many of something there are.
+pub(crate) fn push_count(count: u64, word: &str, out: &mut String) -> Result<(), AllocError>
     ensures { OnOk result (string_bytes out.new ≡ string_bytes out.old ++ count_text count word.now) }
 {
-    push_number(count as u64, out)?;
+    push_number(count, out)?;
     out.push_str(word)?;
     if count != 1 {
         out.push_str("s")?;

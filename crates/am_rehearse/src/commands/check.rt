@@ -1,8 +1,11 @@
 //! `am-rehearse check`: says what configurations hold, or all that is wrong in them.
+use crate::commands::config::configured;
 use crate::commands::faults::accept;
 use crate::commands::warnings::push_warnings;
+use crate::commands::zones::push_missing_zones;
 use crate::console::{Console, Document, shown};
-use am_input::configured::{Configured, read_file};
+use crate::system_zones::SystemZones;
+use am_input::configured::Configured;
 use am_input::faults::ReceiversOf;
 use am_input::form::{Form, form_of, has_configuration};
 use am_input::input::Overrides;
@@ -32,7 +35,8 @@ fn check_file<R: Files + Eprint + AllocGlobal>(
     lines: &mut String,
 ) -> Result<(), u8> {
     let document = console.read(rt, path)?;
-    match form_of(&document.value) {
+    let form = form_of(&document.value);
+    match form {
         Form::Story if !has_configuration(&document.value) => {
             check_story(rt, console, &document, ReceiversOf::Given(None))?;
             let file = shown(path);
@@ -44,11 +48,13 @@ fn check_file<R: Files + Eprint + AllocGlobal>(
         Form::Story => check_story(rt, console, &document, ReceiversOf::Own)?,
         Form::Own | Form::Alertmanager => {}
     }
-    let configured = match read_file(rt.alloc(), &document.value, None) {
-        Ok(configured) => configured,
-        Err(refusal) => return Err(console.complain_of_refusal(rt, &document, refusal)),
-    };
-    match push_summary(rt, path, &configured, lines) {
+    let configured = configured(rt, console, &document)?;
+    let mut added = push_summary(rt, path, &configured, lines);
+    if added.is_ok() && form == Form::Alertmanager {
+        let mut files = SystemZones::new(rt);
+        added = push_missing_zones(rt.alloc(), shown(path), &document.value, &mut files, lines);
+    }
+    match added {
         Ok(()) => Ok(()),
         Err(_) => Err(console.complain_of_memory(rt)),
     }

@@ -3,7 +3,8 @@ use crate::commands::faults::accept;
 use crate::commands::given::given_to;
 use crate::commands::play::until_of;
 use crate::console::{Console, DIFFERS, Document, say_ignored};
-use crate::run::play_or_refuse;
+use crate::progress::Progress;
+use crate::run::{play_or_refuse, playback_of};
 use crate::system_zones::SystemZones;
 use am_cli::fault::InputFault;
 use am_command::request::CompareRequest;
@@ -13,12 +14,13 @@ use am_input::faults::ReceiversOf;
 use am_input::input::{Changes, Input, Overrides, read_input};
 use am_input::zone_files::ZoneFiles;
 use am_rehearsal::play::Played;
+use am_rehearsal::watch::Watch;
 use am_timeline::clock::Elapsed;
 use am_timeline::comparison::{Comparison, compare_notices};
 use am_timeline::dated::UtcDates;
-use am_timeline::playback::Playback;
 use std::alloc::{AllocError, Global};
 use std::rt::Files;
+use std::time::Clock;
 
 /// A story that was played.
 #[derive(Drop)]
@@ -31,7 +33,7 @@ struct PlayedStory {
 }
 
 /// Compares two configurations, and returns the status.
-pub fn compare<R: Files + Eprint + AllocGlobal>(
+pub fn compare<R: Files + Eprint + AllocGlobal + Clock>(
     rt: &R,
     console: &mut Console,
     request: CompareRequest<'_>,
@@ -41,7 +43,7 @@ pub fn compare<R: Files + Eprint + AllocGlobal>(
     }
 }
 
-fn try_compare<R: Files + Eprint + AllocGlobal>(
+fn try_compare<R: Files + Eprint + AllocGlobal + Clock>(
     rt: &R,
     console: &mut Console,
     request: CompareRequest<'_>,
@@ -56,7 +58,7 @@ fn try_compare<R: Files + Eprint + AllocGlobal>(
 }
 
 /// Compares the notices of a story under two configurations. The error is the status.
-fn compared<R: Files + Eprint + AllocGlobal>(
+fn compared<R: Files + Eprint + AllocGlobal + Clock>(
     rt: &R,
     console: &mut Console,
     story: &Document<'_>,
@@ -89,7 +91,7 @@ fn print<R: Files + Eprint + AllocGlobal>(
 }
 
 /// Plays the story under the configuration of a file. The error is the status.
-fn played_under<R: Files + Eprint + AllocGlobal>(
+fn played_under<R: Files + Eprint + AllocGlobal + Clock>(
     rt: &R,
     console: &mut Console,
     story: &Document<'_>,
@@ -102,7 +104,9 @@ fn played_under<R: Files + Eprint + AllocGlobal>(
         config: Some(&config.value),
         overrides,
     };
-    match played(rt.alloc(), story, changes, &mut SystemZones::new(rt)) {
+    let mut files = SystemZones::new(rt);
+    let mut watch = Progress::begin(rt, console.is_terminal);
+    match played(rt.alloc(), story, changes, &mut files, &mut watch) {
         Ok(played) => Ok(played),
         Err(refusal) => Err(console.complain_of_refusal(rt, story, refusal)),
     }
@@ -127,20 +131,25 @@ fn accept_under<R: Files + Eprint + AllocGlobal>(
 }
 
 /// Plays a story that these changes are made to.
-fn played<Z: ZoneFiles>(
+fn played<Z: ZoneFiles, W: Watch>(
     alloc: Global,
     story: &Document<'_>,
     changes: Changes<'_>,
     files: &mut Z,
+    watch: &mut W,
 ) -> Result<PlayedStory, Refusal> {
     let input = read_input(alloc, &story.value, changes, files)?;
-    match play_input(alloc, input) {
+    match play_input(alloc, input, watch) {
         Ok(played) => Ok(played),
         Err(fault) => Err(Refusal::One(fault)),
     }
 }
 
-fn play_input(alloc: Global, input: Input) -> Result<PlayedStory, InputFault> {
+fn play_input<W: Watch>(
+    alloc: Global,
+    input: Input,
+    watch: &mut W,
+) -> Result<PlayedStory, InputFault> {
     let Input {
         rehearsal,
         origins,
@@ -149,7 +158,7 @@ fn play_input(alloc: Global, input: Input) -> Result<PlayedStory, InputFault> {
         output: _,
         dropped,
     } = input;
-    match play_or_refuse(alloc, rehearsal, origins.as_slice()) {
+    match play_or_refuse(alloc, rehearsal, origins.as_slice(), watch) {
         Ok(played) => Ok(PlayedStory {
             played,
             start,
@@ -164,19 +173,10 @@ fn compare_played(
     old: &PlayedStory,
     new: &PlayedStory,
 ) -> Result<Comparison, AllocError> {
-    let one = playback_of(&old.played);
-    let other = playback_of(&new.played);
+    let one = playback_of(&old.played, old.played.events.as_slice());
+    let other = playback_of(&new.played, new.played.events.as_slice());
     match &old.start {
         None => compare_notices(alloc, &one, &other, &Elapsed),
         Some(start) => compare_notices(alloc, &one, &other, start),
     }
-}
-
-fn playback_of(played: &Played) -> Playback<'_> {
-    Playback::new(
-        played.board.config(),
-        played.board.history(),
-        played.begins.as_slice(),
-        played.events.as_slice(),
-    )
 }

@@ -1,27 +1,37 @@
 //! `am-rehearse play`: simulates a story.
 use crate::commands::faults::faults_of;
 use crate::commands::given::given_to;
-use crate::console::{Console, Document, REJECTED, say_ignored};
+use crate::console::{Console, Document, REJECTED, UNWRITABLE, say_ignored};
 use crate::fault::RehearseFault;
 use crate::files::{FileFault, open};
-use crate::run::{Report, run_rehearsal};
+use crate::progress::Progress;
+use crate::run::{Judgement, Report, run_rehearsal};
 use crate::system_zones::SystemZones;
+use crate::wanted::Wanted;
 use am_alerts::duration::read_duration;
+use am_alerts::matcher::{Matcher, MatcherFault};
+use am_alerts::sequence::Sequence;
+use am_alerts::text::Text;
 use am_cli::fault::InputFault;
+use am_cli::matcher_text::parts_of_text;
 use am_command::request::{PlayRequest, STANDARD_INPUT};
 use am_config::dropped::IgnoredSettings;
 use am_config::faults::{Faults, Refusal};
 use am_input::faults::ReceiversOf;
 use am_input::input::{Changes, Output, Overrides};
 use am_rehearsal::MAX_UNTIL;
+use am_timeline::filtered::Filter;
 use am_yaml::document::read_document;
+use std::alloc::Global;
+use std::fs;
 use std::rt::Files;
+use std::time::Clock;
 
 /// Simulates a story, and returns the status.
-pub fn play<R: Files + Eprint + AllocGlobal>(
+pub fn play<R: Files + Eprint + AllocGlobal + Clock>(
     rt: &R,
     console: &mut Console,
-    request: PlayRequest<'_>,
+    request: &PlayRequest<'_>,
 ) -> u8 {
     match try_play(rt, console, request) {
         Ok(()) => 0,
@@ -29,15 +39,16 @@ pub fn play<R: Files + Eprint + AllocGlobal>(
     }
 }
 
-fn try_play<R: Files + Eprint + AllocGlobal>(
+fn try_play<R: Files + Eprint + AllocGlobal + Clock>(
     rt: &R,
     console: &mut Console,
-    request: PlayRequest<'_>,
+    request: &PlayRequest<'_>,
 ) -> Result<(), u8> {
     let overrides = Overrides {
-        output: output_of(rt, &request)?,
+        output: output_of(rt, request)?,
         until: until_of(rt, request.until)?,
     };
+    let wanted = wanted_of(rt, console, request)?;
     let config = match request.config {
         None => None,
         Some(path) => Some(console.read(rt, path)?),
@@ -50,35 +61,61 @@ fn try_play<R: Files + Eprint + AllocGlobal>(
     let mut report = Report {
         text: Vec::new(rt.alloc()),
         ignored: IgnoredSettings::nothing(),
+        judgement: Judgement::none(rt.alloc()),
     };
-    let ended = run(rt, console, request.story, changes, &mut report)?;
+    let ended = run(rt, console, request.story, changes, &wanted, &mut report)?;
     say_ignored(rt, request.config.unwrap_or(request.story), report.ignored);
+    if matches!(ended, Ok(()) | Err(RehearseFault::Unmet)) {
+        write_junit(rt, request.junit, &report.judgement.junit)?;
+    }
     match ended {
         Ok(()) => Ok(()),
-        Err(fault) => Err(complain(rt, console, &request, config, overrides, report, fault)),
+        Err(fault) => Err(complain(rt, console, request, config, overrides, report, fault)),
     }
 }
 
+/// Writes the report on the expectations to the file that the command line names. The error is the status.
+fn write_junit<R: Files + Eprint>(
+    rt: &R,
+    file: Option<&str>,
+    junit: &Option<String>,
+) -> Result<(), u8> {
+    let (Some(path), Some(text)) = (file, junit) else {
+        return Ok(());
+    };
+    if fs::write(rt, path, text.as_str()).is_ok() {
+        return Ok(());
+    }
+    let _ = eprintln!(rt; "am-rehearse: {path}: not writable");
+    Err(UNWRITABLE)
+}
+
 /// Runs a story from its file. The error is the status, if the file isn't there.
-fn run<R: Files + Eprint + AllocGlobal>(
+fn run<R: Files + Eprint + AllocGlobal + Clock>(
     rt: &R,
     console: &mut Console,
     story: &str,
     changes: Changes<'_>,
+    wanted: &Wanted,
     report: &mut Report,
 ) -> Result<Result<(), RehearseFault>, u8> {
     let alloc = rt.alloc();
     let mut files = SystemZones::new(rt);
+    let mut watch = Progress::begin(rt, console.is_terminal);
     if story == STANDARD_INPUT {
         let Console { input, output, .. } = console;
-        return Ok(run_rehearsal(alloc, input, changes, &mut files, output, report));
+        return Ok(run_rehearsal(
+            alloc, input, changes, wanted, &mut files, &mut watch, output, report,
+        ));
     }
     let mut file = match open(rt, story) {
         Ok(file) => file,
         Err(fault) => return Err(console.complain_of_file(rt, story, fault)),
     };
     let output = &mut console.output;
-    Ok(run_rehearsal(alloc, &mut file, changes, &mut files, output, report))
+    Ok(run_rehearsal(
+        alloc, &mut file, changes, wanted, &mut files, &mut watch, output, report,
+    ))
 }
 
 /// Returns the output that the command line asks for. It has checked the name. The error is the status.
@@ -99,6 +136,85 @@ fn output_of<R: Eprint>(rt: &R, request: &PlayRequest<'_>) -> Result<Option<Outp
         Some("json") => Ok(Some(Output::Json)),
         Some("html") => Ok(Some(Output::Html)),
         Some(_) => Ok(Some(Output::Timeline)),
+    }
+}
+
+/// Returns what of a rehearsal the command line wants to see. The error is the status.
+fn wanted_of<R: Eprint + AllocGlobal>(
+    rt: &R,
+    console: &Console,
+    request: &PlayRequest<'_>,
+) -> Result<Wanted, u8> {
+    let selection = &request.selection;
+    let matchers = matchers_of(rt, console, selection.alerts.as_slice())?;
+    let receiver = text_of(rt, console, selection.receiver)?;
+    let route = text_of(rt, console, selection.group)?;
+    let filter = Filter {
+        receiver,
+        route,
+        matchers: Sequence::from(matchers),
+    };
+    let changes = selection.changes;
+    if request.output == Some("html") && (changes || !filter.is_empty()) {
+        let _ = eprintln!(rt;
+            "am-rehearse: --receiver, --group, --alert and --changes leave out lines; a page has none"
+        );
+        return Err(REJECTED);
+    }
+    Ok(Wanted {
+        filter,
+        changes,
+        junit: request.junit.is_some(),
+    })
+}
+
+/// Returns a text of the command line, if there is one. The error is the status.
+fn text_of<R: Eprint + AllocGlobal>(
+    rt: &R,
+    console: &Console,
+    text: Option<&str>,
+) -> Result<Option<Text>, u8> {
+    match text {
+        None => Ok(None),
+        Some(text) => match Text::new(rt.alloc(), text) {
+            Ok(text) => Ok(Some(text)),
+            Err(_) => Err(console.complain_of_memory(rt)),
+        },
+    }
+}
+
+/// Returns the matchers of the command line. The error is the status.
+fn matchers_of<R: Eprint + AllocGlobal>(
+    rt: &R,
+    console: &Console,
+    texts: &[&str],
+) -> Result<Vec<Matcher>, u8> {
+    let mut matchers = Vec::new(rt.alloc());
+    for text in texts {
+        match matcher_of(rt.alloc(), text) {
+            Ok(matcher) => {
+                if matchers.push(matcher).is_err() {
+                    return Err(console.complain_of_memory(rt));
+                }
+            }
+            Err(MatcherFault::NoMemory) => return Err(console.complain_of_memory(rt)),
+            Err(_) => {
+                let _ = eprintln!(rt;
+                    "am-rehearse: --alert: `{text}` is no matcher; write it as severity=\"critical\" or dc=~\"a|b\""
+                );
+                return Err(REJECTED);
+            }
+        }
+    }
+    Ok(matchers)
+}
+
+/// Returns the matcher that a text writes.
+fn matcher_of(alloc: Global, text: &str) -> Result<Matcher, MatcherFault> {
+    match parts_of_text(alloc, text) {
+        Ok(Some(parts)) => Matcher::new(alloc, parts),
+        Ok(None) => Err(MatcherFault::BadName),
+        Err(_) => Err(MatcherFault::NoMemory),
     }
 }
 
@@ -140,6 +256,12 @@ fn complain<R: Files + Eprint + AllocGlobal>(
         RehearseFault::Unreadable => {
             return console.complain_of_file(rt, request.story, FileFault::Unreadable);
         }
+        RehearseFault::Unmet => {
+            complain_of_unmet(rt, console, request.story, report);
+            let unmet = RehearseFault::Unmet;
+            let _ = eprintln!(rt; "{unmet}");
+            return status;
+        }
         fault => {
             let _ = eprintln!(rt; "{fault}");
             return status;
@@ -154,6 +276,30 @@ fn complain<R: Files + Eprint + AllocGlobal>(
         value,
     };
     complain_of_story(rt, console, config, overrides, &document, refusal)
+}
+
+/// Says of each expectation that isn't met where it stands.
+fn complain_of_unmet<R: Files + Eprint + AllocGlobal>(
+    rt: &R,
+    console: &Console,
+    path: &str,
+    report: Report,
+) {
+    let Report {
+        text,
+        ignored: _,
+        judgement,
+    } = report;
+    let Ok(value) = read_document(rt.alloc(), text.as_slice()) else {
+        return;
+    };
+    let document = Document { path, text, value };
+    for number in &judgement.unmet {
+        if let Ok(pointer) = format!(in rt.alloc(); "/expect/{number}") {
+            let words = "this expectation isn't met";
+            let _ = console.complain_in_words(rt, &document, pointer.as_str(), words);
+        }
+    }
 }
 
 /// Complains of all faults of a story that was refused, and returns the status.

@@ -3,6 +3,7 @@ ghost use Rattle.std.specs.Prelude.{◌≤◌};
 ghost use Rattle.am_alerts.specs.RoutingTree.{last_of};
 
 use crate::commands::config::configured;
+use crate::commands::times::WrittenRoutes;
 use crate::commands::tree::{push_reached, tree_text};
 use crate::console::{Console, DIFFERS, REJECTED};
 use am_alerts::labels::{LabelFault, Labels};
@@ -34,16 +35,20 @@ fn try_routes<R: Files + Eprint + AllocGlobal>(
     console: &mut Console,
     request: RoutesRequest<'_, '_>,
 ) -> Result<u8, u8> {
-    let configured = configured(rt, console, request.file)?;
+    let document = console.read(rt, request.file)?;
+    let configured = configured(rt, console, &document)?;
     let routes = &configured.config.routes;
+    let Ok(written) = WrittenRoutes::of(rt.alloc(), &document.value) else {
+        return Err(console.complain_of_memory(rt));
+    };
     if !request.labels.is_empty() {
-        return print_reached(rt, console, routes, request);
+        return print_reached(rt, console, routes, &written, request);
     }
     if request.verify.is_some() {
         let _ = eprintln!(rt; "am-rehearse: --verify needs labels, such as severity=critical");
         return Err(REJECTED);
     }
-    print_tree(rt, console, routes)
+    print_tree(rt, console, routes, &written)
 }
 
 /// Prints the routing tree, and returns the status.
@@ -51,8 +56,9 @@ fn print_tree<R: Eprint + AllocGlobal>(
     rt: &R,
     console: &mut Console,
     routes: &Routes,
+    written: &WrittenRoutes<'_>,
 ) -> Result<u8, u8> {
-    match tree_text(rt.alloc(), routes) {
+    match tree_text(rt.alloc(), routes, written) {
         Ok(text) => Ok(console.print(rt, text.as_str())),
         Err(_) => Err(console.complain_of_memory(rt)),
     }
@@ -63,10 +69,11 @@ fn print_reached<R: Eprint + AllocGlobal>(
     rt: &R,
     console: &mut Console,
     routes: &Routes,
+    written: &WrittenRoutes<'_>,
     request: RoutesRequest<'_, '_>,
 ) -> Result<u8, u8> {
     let labels = labels_of(rt, console, request.labels)?;
-    let Ok(reached) = reached_by(rt.alloc(), routes, &labels) else {
+    let Ok(reached) = reached_by(rt.alloc(), routes, written, &labels) else {
         return Err(console.complain_of_memory(rt));
     };
     let printed = console.print(rt, reached.lines.as_str());
@@ -121,7 +128,12 @@ struct Reached {
     receivers: String,
 }
 
-fn reached_by(alloc: Global, routes: &Routes, labels: &Labels) -> Result<Reached, AllocError> {
+fn reached_by(
+    alloc: Global,
+    routes: &Routes,
+    written: &WrittenRoutes<'_>,
+    labels: &Labels,
+) -> Result<Reached, AllocError> {
     let mut reached = Reached {
         lines: String::new(alloc),
         receivers: String::new(alloc),
@@ -129,11 +141,13 @@ fn reached_by(alloc: Global, routes: &Routes, labels: &Labels) -> Result<Reached
     let positions = routes.of(alloc, labels)?;
     for position in &positions {
         push_position(alloc, routes, *position, labels, &mut reached)?;
+        written.push_times(alloc, *position, &mut reached.lines)?;
+        reached.lines.push('\n')?;
     }
     Ok(reached)
 }
 
-/// Adds the route at a position, which the label set reaches.
+/// Adds the route at a position, which the label set reaches, without its line's end.
 fn push_position(
     alloc: Global,
     routes: &Routes,

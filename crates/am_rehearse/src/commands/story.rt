@@ -8,6 +8,7 @@ use am_config::faults::Refusal;
 use am_story::alertmanager::{read_alerts, read_silences};
 use am_story::incident::{Incident, SeenSilence};
 use am_story::prometheus::read_prometheus;
+use serde_json::Value;
 use std::rt::Files;
 
 /// Prints the story, and returns the status.
@@ -40,6 +41,9 @@ fn try_story<R: Files + Eprint + AllocGlobal>(
             return Err(REJECTED);
         }
     };
+    if incident.alerts.is_empty() {
+        let _ = eprintln!(rt; "am-rehearse: the answer has no alerts; the story is empty");
+    }
     if let Some(path) = request.silences {
         incident.silences = silences(rt, console, path)?;
     }
@@ -54,6 +58,7 @@ fn prometheus<R: Files + Eprint + AllocGlobal>(
     gap: Option<u64>,
 ) -> Result<Incident, u8> {
     let document = console.read(rt, path)?;
+    refuse_error(rt, console, &document, "Prometheus")?;
     let read = read_prometheus(&Reader::top(rt.alloc(), &document.value), gap);
     accepted(rt, console, &document, read)
 }
@@ -65,8 +70,51 @@ fn alertmanager<R: Files + Eprint + AllocGlobal>(
     path: &str,
 ) -> Result<Incident, u8> {
     let document = console.read(rt, path)?;
+    refuse_error(rt, console, &document, "Alertmanager")?;
     let read = read_alerts(&Reader::top(rt.alloc(), &document.value));
     accepted(rt, console, &document, read)
+}
+
+/// Complains of an answer that is an error of this server, and says which. The error is the status.
+fn refuse_error<R: Eprint + AllocGlobal>(
+    rt: &R,
+    console: &Console,
+    document: &Document<'_>,
+    server: &str,
+) -> Result<(), u8> {
+    match error_in(&document.value) {
+        None => Ok(()),
+        Some((pointer, said)) => Err(complain_of_error(
+            rt, console, document, pointer, server, said,
+        )),
+    }
+}
+
+/// Returns where an answer says an error, and which, if it is one: `status` is `error`, or there are a `code` and a `message`.
+fn error_in(answer: &Value) -> Option<(&'static str, &str)> {
+    if answer.get("status").and_then(Value::as_str) == Some("error") {
+        return match answer.get("error").and_then(Value::as_str) {
+            Some(said) => Some(("/error", said)),
+            None => Some(("/status", "it doesn't say which")),
+        };
+    }
+    answer.get("code")?;
+    Some(("/message", answer.get("message")?.as_str()?))
+}
+
+/// Complains of an error that a server says at this place of its answer, and returns the status.
+fn complain_of_error<R: Eprint + AllocGlobal>(
+    rt: &R,
+    console: &Console,
+    document: &Document<'_>,
+    pointer: &str,
+    server: &str,
+    said: &str,
+) -> u8 {
+    match format!(in rt.alloc(); "{server} answered with an error: {said}") {
+        Ok(words) => console.complain_in_words(rt, document, pointer, words.as_str()),
+        Err(_) => console.complain_of_memory(rt),
+    }
 }
 
 /// Reads what Alertmanager answered when it was asked for its silences. The error is the status.

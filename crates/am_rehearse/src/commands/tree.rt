@@ -1,4 +1,5 @@
 //! Routes as text.
+use crate::commands::times::WrittenRoutes;
 use am_alerts::labels::Labels;
 use am_alerts::matcher::{Matcher, Operator};
 use am_alerts::route::{Child, GroupBy, Route, Routes};
@@ -6,10 +7,14 @@ use am_command::durations::push_duration;
 use std::alloc::{AllocError, Global};
 
 /// Returns the routing tree, a line for each route.
-pub fn tree_text(alloc: Global, routes: &Routes) -> Result<String, AllocError> {
+pub fn tree_text(
+    alloc: Global,
+    routes: &Routes,
+    written: &WrittenRoutes<'_>,
+) -> Result<String, AllocError> {
     let mut lines = String::new(alloc);
     push_root(routes.root(), &mut lines)?;
-    push_children(alloc, routes, &mut lines)?;
+    push_children(alloc, routes, written, &mut lines)?;
     Ok(lines)
 }
 
@@ -49,12 +54,19 @@ pub fn standings(alloc: Global, routes: &Routes) -> Result<Vec<Standing>, AllocE
     Ok(found)
 }
 
-/// Adds the routes below the root, a line for each: with its matchers, its receiver, and what it doesn't have from the
-/// route above it.
-fn push_children(alloc: Global, routes: &Routes, lines: &mut String) -> Result<(), AllocError> {
+/// Adds the routes below the root, a line for each: with its matchers, its receiver, what it doesn't have from the route
+/// above it, and the names of its time intervals.
+fn push_children(
+    alloc: Global,
+    routes: &Routes,
+    written: &WrittenRoutes<'_>,
+    lines: &mut String,
+) -> Result<(), AllocError> {
     let children = routes.children();
     let standings = standings(alloc, routes)?;
+    let mut position = 0u32;
     for (child, standing) in children.iter().zip(standings.as_slice()) {
+        position = position.saturating_add(1);
         let above = match standing
             .above
             .checked_sub(1)
@@ -64,10 +76,13 @@ fn push_children(alloc: Global, routes: &Routes, lines: &mut String) -> Result<(
             Some(above) => &above.route,
         };
         push_child(child, above, standing.level, lines)?;
+        written.push_times(alloc, position, lines)?;
+        lines.push('\n')?;
     }
     Ok(())
 }
 
+/// Adds a route below the root, without its line's end.
 fn push_child(
     child: &Child,
     above: &Route,
@@ -96,7 +111,7 @@ fn push_child(
     if child.goes_on {
         lines.push_str("; continue")?;
     }
-    lines.push('\n')
+    Ok(())
 }
 
 /// Returns whether two routes group by the same labels.
@@ -115,7 +130,7 @@ fn push_route(route: &Route, lines: &mut String) -> Result<(), AllocError> {
     push_waits(route, lines)
 }
 
-/// Adds a route that a label set reaches, in a line.
+/// Adds a route that a label set reaches, without its line's end.
 pub fn push_reached(
     route: &Route,
     group_labels: &Labels,
@@ -123,8 +138,7 @@ pub fn push_reached(
 ) -> Result<(), AllocError> {
     write!(lines, "{} -> {}; group ", route.name, route.receiver)?;
     group_labels.push_text(lines)?;
-    push_waits(route, lines)?;
-    lines.push('\n')
+    push_waits(route, lines)
 }
 
 fn push_waits(route: &Route, lines: &mut String) -> Result<(), AllocError> {

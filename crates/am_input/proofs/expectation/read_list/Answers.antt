@@ -1,25 +1,20 @@
-use Rattle.std.proofs.Common.{◌≡◌, ◌+◌, ◌<◌, ◌++◌, ◌∷◌, ◌∙◌, [], List, ap, length, subst, sym, take, arith}
-use Rattle.std.proofs.lemmas.List.{take_more}
-use Rattle.serde_json.specs.View.{items_view, view}
+use Rattle.std.proofs.Common.{◌<◌, length, subst, arith}
+use Rattle.serde_json.specs.View.{view}
 use Rattle.serde_json.specs.declared.value.Value.{Value}
-use Rattle.am_timeline.specs.declared.expectation.Expectation.{Expectation}
-use Rattle.am_input.specs.Expected.{AreExpectedOf, IsExpectedIn}
-use Rattle.am_input.proofs.Expectations.{expected_more}
+use Rattle.am_cli.specs.declared.reader.Dialect.{Dialect}
+use Rattle.am_input.specs.Expected.{IsExpectedIn}
+use Rattle.am_input.proofs.Lists.{decode_next}
 use Rattle.am_input.proofs.expectation.read_list.Goals as goal
 
 pub loop-index-preserved : goal.loop-index-preserved
 loop-index-preserved c =
-    let until = c.args.until in
-    let values = c.in_ok-values.values.now in
-    let i = c.loop-index.index in
+    let Expects = IsExpectedIn c.args.member.now.dialect c.args.until c.args.plans.now in
     let value = c.index-values-index.result in
     let x = c.in_ok-read_expectation.field-0 in
-    let here : i < length values = omega arith in
-    let taken : take (i + 1) values ≡ take i values ++ value ∷ [] =
-    take_more values i value here ∙ ap (λ (v : Value). take i values ++ v ∷ []) (sym c.index-values-index.is) in
-    let read : IsExpectedIn until (view value) x =
-    subst (λ (v : Value). IsExpectedIn until (view v) x) c.item.ensures.value c.in_ok-read_expectation.ensures in
-    let more = expected_more until (take i values) c.loop-index.expectations.items value x c.loop-index.invariant read in
-    let pushed : c.push.new.self.items ≡ c.loop-index.expectations.items ++ x ∷ [] = c.in_ok-push.ensures.items in
-    subst (λ (xs : List Expectation). AreExpectedOf until (items_view (take (i + 1) values)) xs) (sym pushed)
-    (subst (λ (vs : List Value). AreExpectedOf until (items_view vs) (c.loop-index.expectations.items ++ x ∷ [])) (sym taken) more)
+    let here : c.loop-index.index < length c.in_ok-values.values.now = omega arith in
+    let read : Expects (view value) x =
+    subst (λ (v : Value). Expects (view v) x) c.item.ensures.value
+    (subst (λ (dialect : Dialect). IsExpectedIn dialect c.args.until c.args.plans.now (view c.item.result.value) x) c.item.ensures.dialect
+    c.in_ok-read_expectation.ensures) in
+    decode_next Expects c.in_ok-values.values.now c.loop-index.index value x c.loop-index.expectations.items _ here c.index-values-index.is
+    c.loop-index.invariant read c.in_ok-push.ensures.items

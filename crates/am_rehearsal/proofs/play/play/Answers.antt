@@ -8,13 +8,13 @@ use Rattle.am_rehearsal.proofs.Keeping.{play_configured, play_planned}
 use Rattle.am_rehearsal.proofs.play.play.Goals as goal
 
 pub into_played-requires : goal.into_played-requires
-into_played-requires c =
+into_played-requires g c =
     let last = c.run.new.self in
     let none = (next_none (setting_in c.in_ok-course.course) (scene_in last) c.in-Ok.ensures.over).0 in
     last.sendings.ok.0 ∙ ap length none
 
 pub returns-in-Ok : goal.returns-in-Ok
-returns-in-Ok c =
+returns-in-Ok g c =
     let rehearsal = c.args.rehearsal in
     let config = rehearsal.config in
     let plans = rehearsal.plans.items in

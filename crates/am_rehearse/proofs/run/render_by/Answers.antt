@@ -1,13 +1,21 @@
-use Rattle.std.proofs.Common.{◌≡◌, ◌∙◌, ℕ, ap}
+use Rattle.std.proofs.Common.{◌≡◌, ◌∙◌, List, ℕ, ap}
 use Rattle.std.specs.List.{range_with_len}
-use Rattle.am_rehearse.proofs.Tales.{playback_with, output_of-board}
+use Rattle.am_rehearsal.specs.declared.event.Event.{Event}
+use Rattle.am_rehearse.specs.Printed.{playback_with, selected}
+use Rattle.am_rehearse.proofs.Tales.{output_of-board}
 use Rattle.am_rehearse.proofs.run.render_by.Goals as goal
 
 pub returns : goal.returns
 returns g c =
     let played = c.args.played.now in
-    let playback = c.new-playback.result in
-    let is_playback : playback ≡ playback_with played.board played.events.items played.begins.items =
-    cc (c.new-playback.ensures, c.config.ensures.config, c.history.ensures.history, c.as_slice.ensures.value, c.as_slice-2.ensures.value) in
+    let begins = played.begins.items in
+    let times = g.C.TimeFormat.times c.args.clock.now in
+    let playback = c.playback_of-playback.result in
+    let shown = c.playback_of-shown.result in
+    let is_playback : playback ≡ playback_with played.board played.events.items begins =
+    c.playback_of-playback.ensures.playback ∙ ap (λ (events : List Event). playback_with played.board events begins) c.as_slice-events.ensures.value in
+    let is_kept : shown ≡ playback_with played.board c.in_ok-kept.kept.items begins =
+    c.playback_of-shown.ensures.playback ∙ ap (λ (events : List Event). playback_with played.board events begins) c.as_slice.ensures.value in
+    let is_shown : shown ≡ selected c.args.wanted.now (playback_with played.board played.events.items begins) times = is_kept ∙ c.in_ok-kept.ensures in
     let is_begun = c.requires.begun ∙ ap (λ (n : ℕ). range_with_len 0 n) played.begins.ok.0 in
-    output_of-board c.args.output c.are_met-is_met.result _ played.board played.begins.items played.events.items playback (g.C.TimeFormat.times c.args.clock.now) c.args.expectations.now c.requires.ours c.requires.previews c.history.ensures.legal is_begun is_playback c.are_met-is_met.ensures c.in_ok-text.ensures
+    output_of-board c.args.output c.args.wanted.now c.in_ok-is_met.is_met _ played.board begins played.events.items shown playback times c.args.expectations.now c.requires.ours c.requires.previews c.playback_of-playback.ensures.legal is_begun is_playback is_shown c.in_ok-is_met.ensures c.in_ok-text.ensures

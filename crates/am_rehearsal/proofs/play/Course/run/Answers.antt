@@ -7,16 +7,16 @@ use Rattle.am_rehearsal.proofs.Stepping.{one_more}
 use Rattle.am_rehearsal.proofs.play.Course.run.Goals as goal
 
 pub loop-init : goal.loop-init
-loop-init c = record { same = refl; reached = (0, refl) }
+loop-init g c = record { same = refl; reached = (0, refl) }
 
 pub step-requires-clause-until : goal.step-requires-clause-until
-step-requires-clause-until c = omega (arith, ap (λ (r : Setting). r.until) c.loop.invariant.same, c.requires)
+step-requires-clause-until g c = omega (arith, ap (λ (r : Setting). r.until) c.loop.invariant.same, c.requires)
 
 pub step-requires-clause-comes : goal.step-requires-clause-comes
-step-requires-clause-comes c = sym c.next.ensures ∙ c.in-Some.is
+step-requires-clause-comes g c = sym c.next.ensures ∙ c.in-Some.is
 
 pub loop-preserved : goal.loop-preserved
-loop-preserved c =
+loop-preserved g c =
     let was = c.loop.self in
     let is = c.step.new.self in
     record {
@@ -26,7 +26,7 @@ loop-preserved c =
     }
 
 pub returns-in-None : goal.returns-in-None
-returns-in-None c =
+returns-in-None g c =
     record {
       reached = c.loop.invariant.reached;
       over = subst (λ (r : Setting). next r (scene_in c.loop.self) ≡ None) c.loop.invariant.same (sym c.next.ensures ∙ c.in-None.is);

@@ -1,7 +1,7 @@
 use Rattle.std.proofs.Common.{◌≡◌, ◌++◌, string_bytes, codes, take}
 use Rattle.std.specs.List.{flat_map}
 use Rattle.am_timeline.specs.Shown.{set_shown}
-use Rattle.am_timeline.proofs.expectation_report.push_more_sets.Given as goal
+use Rattle.am_timeline.proofs.expectation_report.wanted.push_more_sets.Given as goal
 
 -- the sets so far were added, with a `, ` before each
 abbrev pub invariant-loop-labels : goal.invariant-loop-labels

@@ -1,0 +1,14 @@
+//! `Wanted`: what the command line wants to see of a rehearsal. `run` prints it.
+use am_timeline::filtered::Filter;
+use std::alloc::Global;
+
+/// What the command line wants to see of a rehearsal, besides the output that it names.
+#[derive(Drop)]
+pub struct Wanted {
+    /// The groups whose lines are printed.
+    pub filter: Filter,
+    /// Whether the flushes are left out that say the same as the one before of their group.
+    pub changes: bool,
+    /// Whether a report on the expectations is made, as XML of JUnit.
+    pub junit: bool,
+}

@@ -54,7 +54,7 @@ impl Axis {
 /// The last time at which something happens.
 fn last_of(scene: &Scene) -> u64 {
     let mut last: u64 = 0;
-    for record in scene.history {
+    for record in scene.history() {
         last = time_of(&record.call).max(last);
     }
     for event in scene.events {

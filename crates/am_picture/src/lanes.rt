@@ -90,9 +90,9 @@ impl Lanes {
 
     /// Adds the alerts of a history, in their order.
     fn add_inserts(&mut self, scene: &Scene) -> Result<(), AllocError> {
-        for record in scene.history {
+        for record in scene.history() {
             if let Call::Insert { now: _, alert } = &record.call {
-                self.insert(scene.config, alert)?;
+                self.insert(scene.config(), alert)?;
             }
         }
         Ok(())
@@ -190,11 +190,11 @@ impl Lanes {
         event: &Event,
     ) -> Result<(), AllocError> {
         match event {
-            Event::Begun { begin } => match scene.begins.get(*begin) {
+            Event::Begun { begin } => match scene.begins().get(*begin) {
                 None => Ok(()),
                 Some(begin) => self.add_flush(begin, place),
             },
-            Event::Sent { begin, report } => match scene.begins.get(*begin) {
+            Event::Sent { begin, report } => match scene.begins().get(*begin) {
                 None => Ok(()),
                 Some(begin) => self.add_sent(scene, clock, place, begin, report),
             },

@@ -35,13 +35,13 @@ fn push_names(
     top: u64,
     out: &mut String,
 ) -> Result<(), AllocError> {
-    let integrations = scene.config.integrations_of(&lane.group).len();
+    let integrations = scene.config().integrations_of(&lane.group).len();
     for position in 0..integrations {
         let mut name = String::new(alloc);
         scene
-            .config
+            .config()
             .push_integration(&lane.group, position, &mut name)?;
-        let receiver = scene.config.route_of(&lane.group).receiver.as_str();
+        let receiver = scene.config().route_of(&lane.group).receiver.as_str();
         let bottom = middle(top, position).saturating_add(4);
         push_name(name.as_str(), receiver, bottom, out)?;
     }

@@ -99,7 +99,7 @@ fn push_lane_head(
     out: &mut String,
 ) -> Result<(), AllocError> {
     out.push_str("<section><h3>")?;
-    push_group(alloc, scene.config, &lane.group, out)?;
+    push_group(alloc, scene.config(), &lane.group, out)?;
     out.push_str("</h3><svg xmlns=\"http://www.w3.org/2000/svg\" width=\"1290\"")?;
     push_count(" height=\"", height, out)?;
     out.push_str("\">")
@@ -116,7 +116,7 @@ struct Heights {
 
 impl Heights {
     fn of(scene: &Scene, lane: &Lane) -> Heights {
-        let integrations = scene.config.integrations_of(&lane.group).len();
+        let integrations = scene.config().integrations_of(&lane.group).len();
         let others = below(0, lane.rows.len(), ROW);
         let flushes = below(others, 1, others_height(&lane.others));
         let notices = below(flushes, 1, FLUSHES);

@@ -3,25 +3,36 @@ use am_board::config::Config;
 use am_board::record::Record;
 use am_rehearsal::event::{Event, PreviewedBegin};
 use am_timeline::clock::TimeFormat;
+use am_timeline::logbook::Logbook;
 use am_timeline::notices::notices_text;
 use am_timeline::playback::Playback;
 use am_timeline::timeline::timeline_text;
 use std::alloc::{AllocError, Global};
 
-/// A rehearsal that ran. `Playback` is made of the same four.
+/// A rehearsal that ran. `Playback` is made of the same two.
 #[derive(Drop)]
 pub struct Scene<'s> {
-    pub config: &'s Config,
-    pub history: &'s [Record],
-    /// The begins that took a group, with what they were to do.
-    pub begins: &'s [PreviewedBegin],
+    pub log: &'s Logbook<'s>,
     pub events: &'s [Event],
 }
 
 impl<'s> Scene<'s> {
     /// Returns the rehearsal as the texts of `am_timeline` read it.
     pub fn playback(&self) -> Playback<'s> {
-        Playback::new(self.config, self.history, self.begins, self.events)
+        Playback::new(self.log, self.events)
+    }
+
+    pub(crate) fn config(&self) -> &'s Config {
+        self.log.config()
+    }
+
+    pub(crate) fn history(&self) -> &'s [Record] {
+        self.log.history()
+    }
+
+    /// The begins that took a group, with what they were to do.
+    pub(crate) fn begins(&self) -> &'s [PreviewedBegin] {
+        self.log.begins()
     }
 
     /// Returns the lines of the timeline on the event at a place.
@@ -47,12 +58,7 @@ impl<'s> Scene<'s> {
 
     /// The rehearsal with the event at a place alone.
     fn only(&self, place: usize) -> Playback<'s> {
-        Playback::new(
-            self.config,
-            self.history,
-            self.begins,
-            one_of(self.events, place),
-        )
+        self.playback().with_events(one_of(self.events, place))
     }
 }
 

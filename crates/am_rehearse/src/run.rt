@@ -41,6 +41,7 @@ use am_timeline::expectation::{Expectation, unmet_expectations};
 use am_timeline::expectation_report::expectations_text;
 use am_timeline::filtered::filtered_events;
 use am_timeline::json::json_text;
+use am_timeline::logbook::Logbook;
 use am_timeline::notices::notices_text;
 use am_timeline::playback::Playback;
 use am_timeline::short_timeline::short_timeline_text;
@@ -259,6 +260,7 @@ fn render_from(
 /// What is printed of a played rehearsal, with moments that this clock shows.
 fn render_by<C: TimeFormat>(
     alloc: Global,
+    log: &Logbook<'_>,
     played: &Played,
     clock: &C,
     expectations: &[Expectation],

@@ -2,6 +2,12 @@
 pub mod TimeFormatData
 -- texts and label sets without characters that a terminal would take as a command
 pub mod Shown
+-- when the entry of the log expired for whose lack a notice is a first one
+pub mod Expiry
+-- what is kept of a history while its expired entries are found
+pub mod Log
+-- a table of the entries that expired before flushes
+pub mod Entries
 -- a rehearsal that ran, and the notices that were sent in it
 pub mod Playback
 -- what happened in a rehearsal, a line for each event

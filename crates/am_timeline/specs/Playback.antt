@@ -14,6 +14,12 @@ use Rattle.am_rehearsal.specs.declared.event.Event.{Event}
 use Rattle.am_rehearsal.specs.declared.event.Event.TheVariants.{Begun, Sent}
 use Rattle.am_rehearsal.specs.declared.event.PreviewedBegin.{PreviewedBegin}
 
+-- a configuration, a history and what its begins were to do
+pub record LogbookData : Type 0 where
+  pub config : Config
+  pub history : List Record
+  pub begins : List PreviewedBegin
+
 -- a rehearsal that was played: its configuration and its history, what its begins were to do, and what happened
 pub record PlaybackData : Type 0 where
   pub config : Config

@@ -109,7 +109,7 @@ folded_begun playback times folds position =
 abbrev pub folded_event_lines : PlaybackData → TimeFormatData → List Fold → Event → List ℕ
 folded_event_lines playback times folds (Begun begin) = folded_begun playback times folds begin
 folded_event_lines playback times folds (Sent begin report) =
-    option_map_or (sent_line playback.config times) (sent_of playback (Sent begin report)) []
+    option_map_or (sent_line playback times) (sent_of playback (Sent begin report)) []
 
 -- what becomes of each begin
 abbrev pub begins_folded : PlaybackData → TimeFormatData → List Fold

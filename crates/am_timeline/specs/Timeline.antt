@@ -1,6 +1,6 @@
 -- Timeline: what happened in a rehearsal, a line for each event.
 use Rattle.std.specs.Prelude.{ℕ, ◌+◌, Bool, true, false, not, ◌&&◌, ◌==◌, List, [], ◌∷◌, ◌++◌, length, codes, decimal}
-use Rattle.std.specs.Prelude.{nat_lt, slice_get, if◌then◌else◌}
+use Rattle.std.specs.Prelude.{nat_lt, Option, None, slice_get, if◌then◌else◌}
 use Rattle.std.specs.List.{flat_map, join_by, list_all}
 use Rattle.std.specs.Option.{option_map_or}
 use Rattle.am_alerts.specs.AlertData.{AlertData}
@@ -22,6 +22,7 @@ use Rattle.am_model.specs.Notice.{NoticeData, is_nothing}
 use Rattle.am_rehearsal.specs.declared.event.Event.{Event}
 use Rattle.am_rehearsal.specs.declared.event.Event.TheVariants.{Begun, Sent}
 use Rattle.am_rehearsal.specs.declared.event.PreviewedBegin.{PreviewedBegin}
+use Rattle.am_timeline.specs.Expiry.{expired}
 use Rattle.am_timeline.specs.Shown.{text_shown, set_shown, sets_shown}
 use Rattle.am_timeline.specs.Playback.{PlaybackData, SentData, notices_at, notice_for, sent_of}
 use Rattle.am_timeline.specs.TimeFormatData.{TimeFormatData, column}
@@ -74,6 +75,26 @@ repeat_text times (RouteMuted until) = times.text until
 abbrev pub reason_text : TimeFormatData → Reason → List ℕ
 reason_text times reason = reason_words reason ++ repeat_text times reason
 
+-- when the entry expired whose lack makes a notice a first one, if it had
+abbrev pub expiry_if_first : Option ℕ → Reason → Option ℕ
+expiry_if_first expiry FirstNotice = expiry
+expiry_if_first expiry NewAlert = None
+expiry_if_first expiry AllResolved = None
+expiry_if_first expiry NewlyResolved = None
+expiry_if_first expiry Repeat = None
+expiry_if_first expiry NothingLeft = None
+expiry_if_first expiry NothingFiring = None
+expiry_if_first expiry (NotYet from) = None
+expiry_if_first expiry (RouteMuted until) = None
+
+-- that the log entry expired
+abbrev pub expired_text : TimeFormatData → ℕ → List ℕ
+expired_text times at = codes "log entry expired at " ++ times.text at
+
+-- why a notice was sent, where the log entry had expired at this moment, if it had
+abbrev pub sent_reason_text : TimeFormatData → Option ℕ → Reason → List ℕ
+sent_reason_text times expiry reason = option_map_or (expired_text times) (expiry_if_first expiry reason) (reason_text times reason)
+
 -- behind how many attempts something came, and when they began
 abbrev pub attempts_text : TimeFormatData → ℕ → ℕ → List ℕ
 attempts_text times attempts since =
@@ -121,19 +142,24 @@ outcome_text Expired config times s = failed_text config times s (codes " expire
 outcome_text Starved config times s = failed_text config times s (codes " starved")
 
 -- why a notice was sent, and the alerts that it has
-abbrev pub content_text : TimeFormatData → Reason → NoticeData → List ℕ
-content_text times reason n =
-    codes ": " ++ reason_text times reason ++ alerts_text (codes "; firing ") n.firing ++ alerts_text (codes "; resolved ") n.resolved
+abbrev pub content_text : TimeFormatData → Option ℕ → Reason → NoticeData → List ℕ
+content_text times expiry reason n =
+    codes ": " ++ sent_reason_text times expiry reason ++ alerts_text (codes "; firing ") n.firing ++ alerts_text (codes "; resolved ") n.resolved
     ++ codes "\n"
 
+-- when the log entry expired whose lack a notice found, if it had
+abbrev pub expiry_before : PlaybackData → SentData → Option ℕ
+expiry_before playback s = expired playback.config playback.history s.begin.place s.notice.integration
+
 -- a notice that was sent for a reason
-abbrev pub line_for : Config → TimeFormatData → SentData → Reason → List ℕ
-line_for config times s reason = outcome_text s.outcome config times s ++ content_text times reason s.notice
+abbrev pub line_for : PlaybackData → TimeFormatData → SentData → Reason → List ℕ
+line_for playback times s reason =
+    outcome_text s.outcome playback.config times s ++ content_text times (expiry_before playback s) reason s.notice
 
 -- a notice whose sending came to its end, with the reason that was told of its integration; nothing where none was
-abbrev pub sent_line : Config → TimeFormatData → SentData → List ℕ
-sent_line config times s =
-    option_map_or (line_for config times s) (slice_get s.begin.preview.reasons s.notice.integration) []
+abbrev pub sent_line : PlaybackData → TimeFormatData → SentData → List ℕ
+sent_line playback times s =
+    option_map_or (line_for playback times s) (slice_get s.begin.preview.reasons s.notice.integration) []
 
 -- how an alert is muted
 abbrev pub cause_words : MuteCause → List ℕ
@@ -252,7 +278,7 @@ own_lines playback times begin = begun_lines playback times (own_frame begin.pre
 abbrev pub event_lines : PlaybackData → TimeFormatData → Event → List ℕ
 event_lines playback times (Begun begin) = option_map_or (own_lines playback times) (slice_get playback.begins begin) []
 event_lines playback times (Sent begin report) =
-    option_map_or (sent_line playback.config times) (sent_of playback (Sent begin report)) []
+    option_map_or (sent_line playback times) (sent_of playback (Sent begin report)) []
 
 -- timeline: the lines on all events
 abbrev pub timeline_text : PlaybackData → TimeFormatData → List ℕ

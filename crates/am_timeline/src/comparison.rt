@@ -6,11 +6,10 @@
 use crate::alerts::push_alerts;
 use crate::clock::{TimeFormat, push_column};
 use crate::groups::push_integration;
-use crate::line::push_reason;
+use crate::line::push_sent_reason;
 use crate::playback::Playback;
-use crate::sent::{Sent, sent_of};
+use crate::sent::{Sent, expiry_before, sent_of};
 use crate::shown::{push_set, push_text};
-use am_board::config::Config;
 use std::alloc::{AllocError, Global};
 use std::cmp::Ordering;
 
@@ -171,7 +170,7 @@ fn add_notices<C: TimeFormat>(
     for event in playback.events {
         if let Some(sent) = sent_of(playback, event) {
             if sent.is_delivered() {
-                told.push(told_by(alloc, side, playback.config, clock, &sent)?)?;
+                told.push(told_by(alloc, side, playback, clock, &sent)?)?;
                 add_heard(alloc, side, &sent, heard)?;
             }
         }
@@ -182,10 +181,11 @@ fn add_notices<C: TimeFormat>(
 fn told_by<C: TimeFormat>(
     alloc: Global,
     side: Side,
-    config: &Config,
+    playback: &Playback<'_>,
     clock: &C,
     sent: &Sent<'_>,
 ) -> Result<Told, AllocError> {
+    let config = playback.config;
     let notice = sent.notice;
     let place = notice.integration as usize;
     let mut receiver = String::new(alloc);
@@ -201,7 +201,7 @@ fn told_by<C: TimeFormat>(
     push_alerts("; resolved ", notice.resolved.as_slice(), &mut alerts)?;
     let mut reason = String::new(alloc);
     if let Some(why) = sent.begin.preview.reasons.as_slice().get(place) {
-        push_reason(clock, why, &mut reason)?;
+        push_sent_reason(clock, expiry_before(playback, sent), why, &mut reason)?;
     }
     Ok(Told {
         side,

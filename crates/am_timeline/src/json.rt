@@ -3,9 +3,9 @@ mod object;
 
 use crate::begun::{is_sent_nothing, nothing_left};
 use crate::clock::TimeFormat;
-use crate::line::reason_words;
+use crate::line::{expiry_if_first, reason_words};
 use crate::playback::{Playback, notices_at};
-use crate::sent::{Sent, sent_of};
+use crate::sent::{Sent, expiry_before, sent_of};
 use am_board::config::Config;
 use am_board::notice::Notice;
 use am_board::preview::Preview;
@@ -21,7 +21,7 @@ use std::alloc::{AllocError, Global};
 /// start), `time` (as the format shows it), `route` and `group` (the group labels). Where they
 /// apply it has:
 /// - `receiver`, `integration` (as `hook/0`), `outcome`, `attempts`, `reason`;
-/// - `since`, `from`, `until`, and the `deadline` that a sending missed (milliseconds);
+/// - `since`, `from`, `until`, `expired`, and the `deadline` that a sending missed (milliseconds);
 /// - `firing` and `resolved` (lists of label sets);
 /// - `muted` (a list of objects with `labels`, `cause`, and `until` or `by` and `rule`).
 pub fn json_text<C: TimeFormat>(
@@ -50,14 +50,14 @@ fn push_event<C: TimeFormat>(
         },
         Event::Sent { .. } => match sent_of(playback, event) {
             None => Ok(()),
-            Some(sent) => push_sent(alloc, playback.config, clock, &sent, out),
+            Some(sent) => push_sent(alloc, playback, clock, &sent, out),
         },
     }
 }
 
 fn push_sent<C: TimeFormat>(
     alloc: Global,
-    config: &Config,
+    playback: &Playback,
     clock: &C,
     sent: &Sent,
     out: &mut String,
@@ -72,8 +72,11 @@ fn push_sent<C: TimeFormat>(
     } else {
         "failed"
     };
-    let mut object = sent_object(alloc, config, clock, event, sent)?;
-    put_reason(reason, &mut object)?;
+    let mut object = sent_object(alloc, playback.config, clock, event, sent)?;
+    match expiry_if_first(expiry_before(playback, sent), reason) {
+        None => put_reason(reason, &mut object)?,
+        Some(at) => put_expiry(at, &mut object)?,
+    }
     object.put("firing", sets_of(alloc, notice.firing.as_slice())?)?;
     object.put("resolved", sets_of(alloc, notice.resolved.as_slice())?)?;
     object.push_line(out)
@@ -121,6 +124,12 @@ fn put_reason(reason: &Reason, object: &mut Object) -> Result<(), AllocError> {
         }
         _ => object.put_text("reason", reason_words(reason)),
     }
+}
+
+/// The reason of a first notice after the log entry expired.
+fn put_expiry(at: u64, object: &mut Object) -> Result<(), AllocError> {
+    object.put_text("reason", "log entry expired")?;
+    object.put_number("expired", at)
 }
 
 fn push_begun<C: TimeFormat>(

@@ -23,6 +23,7 @@ mod groups;
 pub mod json;
 pub mod law;
 mod line;
+pub mod logbook;
 mod muted;
 pub mod notices;
 pub mod playback;

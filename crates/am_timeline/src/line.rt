@@ -1,6 +1,7 @@
 //! The parts of lines. The modules of lines call it.
 ghost use Rattle.std.specs.Prelude.{◌≡◌, ◌++◌, OnOk, string_bytes};
-ghost use Rattle.am_timeline.specs.Timeline.{attempts_text, time_text, reason_text, reason_words, repeat_text, retries_text};
+ghost use Rattle.am_timeline.specs.Timeline.{attempts_text, expired_text, expiry_if_first, time_text, reason_text, reason_words, repeat_text};
+ghost use Rattle.am_timeline.specs.Timeline.{retries_text, sent_reason_text};
 
 use crate::clock::{TimeFormat, push_column, push_number};
 use am_board::reason::Reason;
@@ -65,6 +66,39 @@ pub(crate) fn push_reason<C: TimeFormat>(
 {
     out.push_str(reason_words(reason))?;
     push_repeat(clock, reason, out)
+}
+
+/// Adds why a notice was sent, where the log entry had expired at this time, if it had.
+pub(crate) fn push_sent_reason<C: TimeFormat>(
+    clock: &C,
+    expiry: Option<u64>,
+    reason: &Reason,
+    out: &mut String,
+) -> Result<(), AllocError>
+    ensures { OnOk result (string_bytes out.new
+        ≡ string_bytes out.old ++ sent_reason_text (C.times clock.now) expiry reason.now) }
+{
+    match expiry_if_first(expiry, reason) {
+        None => push_reason(clock, reason, out),
+        Some(at) => push_expired(clock, at, out),
+    }
+}
+
+/// Returns when the entry expired whose lack makes a notice a first one, if it had.
+pub(crate) fn expiry_if_first(expiry: Option<u64>, reason: &Reason) -> Option<u64>
+    ensures { result ≡ expiry_if_first expiry reason.now }
+{
+    match reason {
+        Reason::FirstNotice => expiry,
+        _ => None,
+    }
+}
+
+fn push_expired<C: TimeFormat>(clock: &C, at: u64, out: &mut String) -> Result<(), AllocError>
+    ensures { OnOk result (string_bytes out.new ≡ string_bytes out.old ++ expired_text (C.times clock.now) at) }
+{
+    out.push_str("log entry expired at ")?;
+    clock.push_moment(at, out)
 }
 
 pub(crate) fn reason_words(reason: &Reason) -> &'static str

@@ -6,7 +6,6 @@ use crate::clock::TimeFormat;
 use crate::playback::Playback;
 use crate::sent::{Sent, sent_of};
 use crate::timeline::push_sent;
-use am_board::config::Config;
 use am_rehearsal::event::Event;
 use std::alloc::{AllocError, Global};
 
@@ -39,22 +38,22 @@ fn push_notice_of<C: TimeFormat>(
 {
     match sent_of(playback, event) {
         None => Ok(()),
-        Some(sent) => push_if_wanted(playback.config, clock, failures, &sent, out),
+        Some(sent) => push_if_wanted(playback, clock, failures, &sent, out),
     }
 }
 
 fn push_if_wanted<C: TimeFormat>(
-    config: &Config,
+    playback: &Playback,
     clock: &C,
     failures: bool,
     sent: &Sent,
     out: &mut String,
 ) -> Result<(), AllocError>
     ensures { OnOk result (string_bytes out.new
-        ≡ string_bytes out.old ++ line_if_wanted failures config.now (C.times clock.now) sent.now) }
+        ≡ string_bytes out.old ++ line_if_wanted failures playback.now (C.times clock.now) sent.now) }
 {
     if failures || sent.is_delivered() {
-        return push_sent(config, clock, sent, out);
+        return push_sent(playback, clock, sent, out);
     }
     Ok(())
 }

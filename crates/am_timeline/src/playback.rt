@@ -1,8 +1,10 @@
 //! `Playback`: a rehearsal that ran, as all texts read it. `am_rehearse` makes one.
 ghost use Rattle.std.specs.Prelude.{◌≡◌, ◌+◌, drop, option_copied};
+ghost use Rattle.am_timeline.specs.Expiry.{expired};
 ghost use Rattle.am_timeline.specs.Playback.{notice_for, notices_at};
 ghost use Rattle.am_model.specs.look_back.Past.{notices_in};
 
+use crate::logbook::Logbook;
 use am_board::config::Config;
 use am_board::notice::Notice;
 use am_board::record::{Record, Reply};
@@ -12,6 +14,7 @@ use std::marker::Model;
 /// A rehearsal that ran: its configuration, history, previews and events.
 #[derive(Drop)]
 pub struct Playback<'s> {
+    pub(crate) log: &'s Logbook<'s>,
     pub(crate) config: &'s Config,
     pub(crate) history: &'s [Record],
     pub(crate) begins: &'s [PreviewedBegin],
@@ -20,6 +23,7 @@ pub struct Playback<'s> {
 
 impl<'s> Model for Playback<'s> {
     ghost use Rattle.std.specs.Coded.{codes};
+    ghost use Rattle.std.specs.Prelude.{◌≡◌};
     ghost use Rattle.am_alerts.specs.Layout.{forest_code};
     ghost use Rattle.am_timeline.specs.Playback.{PlaybackData};
 
@@ -34,29 +38,42 @@ impl<'s> Model for Playback<'s> {
           begins = s.begins.now;
           events = s.events.now;
         } };
+
+    ghost invariant = { λ s. s.log.now ≡ record { config = s.config.now; history = s.history.now; begins = s.begins.now } };
 }
 
 impl<'s> Playback<'s> {
-    /// Returns the playback of a rehearsal with this configuration and this history.
-    pub fn new(
-        config: &'s Config,
-        history: &'s [Record],
-        begins: &'s [PreviewedBegin],
-        events: &'s [Event],
-    ) -> Playback<'s>
+    /// Returns the playback of these events of a logbook's rehearsal.
+    pub fn new(log: &'s Logbook<'s>, events: &'s [Event]) -> Playback<'s>
         ensures { result ≡ record {
-          config = config.now;
-          history = history.now;
-          begins = begins.now;
+          config = log.now.config;
+          history = log.now.history;
+          begins = log.now.begins;
           events = events.now;
         } }
     {
         Playback {
-            config,
-            history,
-            begins,
+            log,
+            config: log.config(),
+            history: log.history(),
+            begins: log.begins(),
             events,
         }
+    }
+
+    /// Returns the same playback with these events in place of its own.
+    pub fn with_events(&self, events: &'s [Event]) -> Playback<'s>
+        ensures { result ≡ record self.now { events = events.now } }
+    {
+        Playback::new(self.log, events)
+    }
+
+    /// Returns when the log entry of an integration expired whose lack the flush that began at a place found, in milliseconds,
+    /// if there was one.
+    pub(crate) fn expired(&self, place: usize, integration: usize) -> Option<u64>
+        ensures { result ≡ expired self.now.config self.now.history place integration }
+    {
+        self.log.expired(place, integration)
     }
 }
 

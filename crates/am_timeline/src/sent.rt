@@ -1,5 +1,6 @@
 //! Notices whose sending ended. `timeline`, `table`, `expectation` and `json` call it.
 ghost use Rattle.std.specs.Prelude.{◌≡◌};
+ghost use Rattle.am_timeline.specs.Timeline.{expiry_before};
 ghost use Rattle.am_timeline.specs.Playback.{is_delivered, outcome_after, sent_by, sent_of};
 
 use crate::playback::{Playback, later_than, notice_for, notices_at};
@@ -86,4 +87,12 @@ fn outcome_after(history: &[Record], place: usize, notice: &Notice) -> Option<Ou
         outcomes_in(notice.ticket, later_than(history, place)),
         notice.integration,
     )
+}
+
+/// Returns when the log entry expired whose lack a notice found, in milliseconds, if it had.
+pub(crate) fn expiry_before(playback: &Playback, sent: &Sent) -> Option<u64>
+    ensures { result ≡ expiry_before playback.now sent.now }
+{
+    let notice = sent.notice;
+    playback.expired(sent.begin.place, notice.integration as usize)
 }

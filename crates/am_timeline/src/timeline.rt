@@ -10,9 +10,9 @@ use crate::begun::push_begun;
 use crate::clock::TimeFormat;
 use crate::frame::Frame;
 use crate::groups::push_target;
-use crate::line::{push_attempts, push_reason, push_retries, push_time};
+use crate::line::{push_attempts, push_retries, push_sent_reason, push_time};
 use crate::playback::Playback;
-use crate::sent::{Sent, sent_of};
+use crate::sent::{Sent, expiry_before, sent_of};
 use am_board::config::Config;
 use am_board::notice::Notice;
 use am_board::reason::Reason;
@@ -82,44 +82,50 @@ pub(crate) fn push_sent_by<C: TimeFormat>(
     out: &mut String,
 ) -> Result<(), AllocError>
     ensures { OnOk result (string_bytes out.new ≡ string_bytes out.old
-        ++ option_map_or (sent_line playback.now.config (C.times clock.now)) (sent_of playback.now event.now) []) }
+        ++ option_map_or (sent_line playback.now (C.times clock.now)) (sent_of playback.now event.now) []) }
 {
     match sent_of(playback, event) {
         None => Ok(()),
-        Some(sent) => push_sent(playback.config, clock, &sent, out),
+        Some(sent) => push_sent(playback, clock, &sent, out),
     }
 }
 
 /// Adds the line on a notice whose sending came to its end, with the reason of its integration, if it has one.
 pub(crate) fn push_sent<C: TimeFormat>(
-    config: &Config,
+    playback: &Playback,
     clock: &C,
     sent: &Sent,
     out: &mut String,
 ) -> Result<(), AllocError>
     ensures { OnOk result (string_bytes out.new
-        ≡ string_bytes out.old ++ sent_line config.now (C.times clock.now) sent.now) }
+        ≡ string_bytes out.old ++ sent_line playback.now (C.times clock.now) sent.now) }
 {
     let notice = sent.notice;
     let reasons = sent.begin.preview.reasons.as_slice();
     match reasons.get(notice.integration as usize) {
         None => Ok(()),
-        Some(reason) => push_line(config, clock, sent, reason, out),
+        Some(reason) => push_line(playback, clock, sent, reason, out),
     }
 }
 
 fn push_line<C: TimeFormat>(
-    config: &Config,
+    playback: &Playback,
     clock: &C,
     sent: &Sent,
     reason: &Reason,
     out: &mut String,
 ) -> Result<(), AllocError>
     ensures { OnOk result (string_bytes out.new
-        ≡ string_bytes out.old ++ line_for config.now (C.times clock.now) sent.now reason.now) }
+        ≡ string_bytes out.old ++ line_for playback.now (C.times clock.now) sent.now reason.now) }
 {
-    push_outcome(config, clock, sent, out)?;
-    push_content(clock, reason, sent.notice, out)
+    push_outcome(playback.config, clock, sent, out)?;
+    push_content(
+        clock,
+        expiry_before(playback, sent),
+        reason,
+        sent.notice,
+        out,
+    )
 }
 
 /// Adds what a notice came to.
@@ -201,18 +207,19 @@ fn push_late<C: TimeFormat>(clock: &C, deadline: u64, out: &mut String) -> Resul
     out.push_str(", at which Alertmanager cuts it off")
 }
 
-/// Adds why a notice was sent, and its alerts.
+/// Adds why a notice was sent, where the log entry had expired at this time, if it had; and its alerts.
 fn push_content<C: TimeFormat>(
     clock: &C,
+    expiry: Option<u64>,
     reason: &Reason,
     notice: &Notice,
     out: &mut String,
 ) -> Result<(), AllocError>
     ensures { OnOk result (string_bytes out.new
-        ≡ string_bytes out.old ++ content_text (C.times clock.now) reason.now notice.now) }
+        ≡ string_bytes out.old ++ content_text (C.times clock.now) expiry reason.now notice.now) }
 {
     out.push_str(": ")?;
-    push_reason(clock, reason, out)?;
+    push_sent_reason(clock, expiry, reason, out)?;
     push_alerts("; firing ", notice.firing.as_slice(), out)?;
     push_alerts("; resolved ", notice.resolved.as_slice(), out)?;
     out.push_str("\n")

@@ -1,0 +1,152 @@
+-- What is kept of a history is what looking back finds in it.
+use Rattle.std.proofs.Common.{◌≡◌, ◌∙◌, ◌<◌, ◌+◌, ◌==◌, ◌&&◌, ◌||◌, ℕ, Bool, true, false, not, cond, List, [], ◌∷◌, Option, Some, None, ap, sym, refl, eqb-true, find, get_or, length, max, min, nat_eq, take, if◌then◌else◌}
+use Rattle.std.specs.HashMap.{get}
+use Rattle.std.specs.HashSet.{contains}
+use Rattle.std.specs.List.{list_any}
+use Rattle.std.specs.Option.{option_map_or}
+use Rattle.std.proofs.lemmas.Bool.{and_parts}
+use Rattle.std.proofs.lemmas.List.Folds.{list_any_more}
+use Rattle.am_alerts.specs.declared.limits.TheConstants.{MAX_MOMENT}
+use Rattle.am_retry.specs.declared.outcome.Outcome.{Outcome}
+use Rattle.am_model.specs.declared.group.GroupName.{GroupName}
+use Rattle.am_model.specs.declared.record.Call.{Call}
+use Rattle.am_model.specs.declared.record.Call.TheVariants.{Insert, Silence, Begin, Finish, Maintain, Note}
+use Rattle.am_model.specs.declared.record.Record.{Record}
+use Rattle.am_model.specs.look_back.Entry.{asked_and_succeeded, begins_group, logs}
+use Rattle.am_model.specs.look_back.Past.{Past, begin_of, is_flush, is_flush_of, is_note, moment_at, was_noted}
+use Rattle.am_model.specs.Notice.{NoticeData}
+use Rattle.am_model.specs.Records.{now_of}
+use Rattle.am_timeline.specs.declared.logbook.log.Log.{Log}
+use Rattle.am_timeline.specs.Expiry.{last_logged}
+use Rattle.am_timeline.specs.Log.{Follows, finish_logs, has_success, is_logged, logs_by, same_log_key, same_note_key}
+
+-- a test of one more
+pub cond_or : (a b : Bool) → cond a true b ≡ (a || b)
+cond_or true b = refl
+cond_or false b = refl
+
+-- a success that is new is logged
+new_success : (named before same noted : Bool) → (same ≡ true → noted ≡ false) → (x old : Option ℕ)
+    → (if named && same then x else (if named && (before && not noted) then x else old))
+    ≡ (if named && ((before || (same && true)) && not noted) then x else old)
+new_success false before same noted f x old = refl
+new_success true before true true f x old = let h : true ≡ false = f refl in cc
+new_success true true true false f x old = refl
+new_success true false true false f x old = refl
+new_success true true false true f x old = refl
+new_success true true false false f x old = refl
+new_success true false false true f x old = refl
+new_success true false false false f x old = refl
+
+-- one that is none, or was noted, changes nothing
+no_success : (before same success noted : Bool) → (same ≡ true → (success && not noted) ≡ false)
+    → (before && not noted) ≡ ((before || (same && success)) && not noted)
+no_success true same success noted f = refl
+no_success false false success noted f = refl
+no_success false true true true f = refl
+no_success false true true false f = let h : true ≡ false = f refl in cc
+no_success false true false noted f = refl
+
+not_true : (b : Bool) → not b ≡ true → b ≡ false
+not_true true e = let h : false ≡ true = e in cc
+not_true false e = refl
+
+-- the successes of some notices, and of one more that is a new success
+pub logged-success : (noted : ℕ → Bool) (outcomes : List (ℕ × Outcome)) (i : ℕ) (notices : List NoticeData) (j : ℕ) (n : NoticeData)
+    (named : Bool) (x old : Option ℕ)
+    → j < length notices → n ≡ get_or notices j n → (has_success noted outcomes n && not (noted n.integration)) ≡ true
+    → (if named && (n.integration == i) then x else (if named && is_logged noted outcomes i (take j notices) then x else old))
+    ≡ (if named && is_logged noted outcomes i (take (j + 1) notices) then x else old)
+logged-success noted outcomes i notices j n named x old inside is new =
+    let parts = and_parts (has_success noted outcomes n) (not (noted n.integration)) new in
+    let p : NoticeData → Bool = λ (m : NoticeData). (m.integration == i) && has_success noted outcomes m in
+    let here : (n.integration == i) ≡ true → noted i ≡ false =
+    λ (e : (n.integration == i) ≡ true). ap noted (sym (eqb-true n.integration i e)) ∙ not_true (noted n.integration) parts.1 in
+    new_success named (list_any p (take j notices)) (n.integration == i) (noted i) here x old
+    ∙ ap (λ (s : Bool). if named && ((list_any p (take j notices) || ((n.integration == i) && s)) && not (noted i)) then x else old) (sym parts.0)
+    ∙ ap (λ (m : NoticeData). if named && ((list_any p (take j notices) || p m) && not (noted i)) then x else old) is
+    ∙ ap (λ (b : Bool). if named && (b && not (noted i)) then x else old) (sym (list_any_more p notices j n inside))
+
+-- and of one that isn't
+pub logged-none : (noted : ℕ → Bool) (outcomes : List (ℕ × Outcome)) (i : ℕ) (notices : List NoticeData) (j : ℕ) (n : NoticeData)
+    → j < length notices → n ≡ get_or notices j n → (has_success noted outcomes n && not (noted n.integration)) ≡ false
+    → is_logged noted outcomes i (take j notices) ≡ is_logged noted outcomes i (take (j + 1) notices)
+logged-none noted outcomes i notices j n inside is none =
+    let p : NoticeData → Bool = λ (m : NoticeData). (m.integration == i) && has_success noted outcomes m in
+    let here : (n.integration == i) ≡ true → (has_success noted outcomes n && not (noted i)) ≡ false =
+    λ (e : (n.integration == i) ≡ true).
+    ap (λ (k : ℕ). has_success noted outcomes n && not (noted k)) (sym (eqb-true n.integration i e)) ∙ none in
+    no_success (list_any p (take j notices)) (n.integration == i) (has_success noted outcomes n) (noted i) here
+    ∙ ap (λ (m : NoticeData). (list_any p (take j notices) || p m) && not (noted i)) is
+    ∙ ap (λ (b : Bool). b && not (noted i)) (sym (list_any_more p notices j n inside))
+
+-- a finish logs by the record of its flush what it logs by looking back
+finish_logs-is : (last : Past) (number : ℕ) (outcomes : List (ℕ × Outcome)) (name : GroupName) (integration : ℕ) (past : Past)
+    → option_map_or (finish_logs (λ (i : ℕ). was_noted number i last) outcomes name integration) (find (λ (r : Record). is_flush number r.reply) past) false
+    ≡ (begins_group name (begin_of number past)
+    && (asked_and_succeeded number outcomes last integration (begin_of number past) && not (was_noted number integration last)))
+finish_logs-is last number outcomes name integration [] = refl
+finish_logs-is last number outcomes name integration (r ∷ past) = by (is_flush number r.reply) (finish_logs-is last number outcomes name integration past)
+  where
+    by : (here : Bool)
+        → option_map_or (finish_logs (λ (i : ℕ). was_noted number i last) outcomes name integration) (find (λ (x : Record). is_flush number x.reply) past) false
+        ≡ (begins_group name (begin_of number past)
+        && (asked_and_succeeded number outcomes last integration (begin_of number past) && not (was_noted number integration last)))
+        → option_map_or (finish_logs (λ (i : ℕ). was_noted number i last) outcomes name integration)
+        (cond here (Some r) (find (λ (x : Record). is_flush number x.reply) past)) false
+        ≡ (begins_group name (if here then r ∷ past else begin_of number past)
+        && (asked_and_succeeded number outcomes last integration (if here then r ∷ past else begin_of number past) && not (was_noted number integration last)))
+    by true rest = refl
+    by false rest = rest
+
+-- and so does a note
+note_logs-is : (number : ℕ) (name : GroupName) (past : Past)
+    → option_map_or (λ (r : Record). is_flush_of name r.reply) (find (λ (r : Record). is_flush number r.reply) past) false ≡ begins_group name (begin_of number past)
+note_logs-is number name [] = refl
+note_logs-is number name (r ∷ past) = by (is_flush number r.reply) (note_logs-is number name past)
+  where
+    by : (here : Bool)
+        → option_map_or (λ (x : Record). is_flush_of name x.reply) (find (λ (x : Record). is_flush number x.reply) past) false ≡ begins_group name (begin_of number past)
+        → option_map_or (λ (x : Record). is_flush_of name x.reply) (cond here (Some r) (find (λ (x : Record). is_flush number x.reply) past)) false
+        ≡ begins_group name (if here then r ∷ past else begin_of number past)
+    by true rest = refl
+    by false rest = rest
+
+-- a call logs by what is kept of a past what it logs by looking back
+logs_by-is : (name : GroupName) (integration : ℕ) (past : Past) (call : Call)
+    → logs_by (λ (k : ℕ). find (λ (r : Record). is_flush k r.reply) past) (λ (k i : ℕ). was_noted k i past) name integration call
+    ≡ logs name integration past call
+logs_by-is name integration past (Insert now alert) = refl
+logs_by-is name integration past (Silence now id matchers start end) = refl
+logs_by-is name integration past (Begin now) = refl
+logs_by-is name integration past (Finish now number outcomes) = finish_logs-is past number outcomes name integration past
+logs_by-is name integration past (Maintain now) = refl
+logs_by-is name integration past (Note now number i outcome) = ap (λ (b : Bool). b && (i == integration)) (note_logs-is number name past)
+
+-- what is kept of a past, and of one more record
+pub follows-more : (log new : Log) (r : Record) (past : Past)
+    → ((number : ℕ) → get nat_eq new.begun number ≡ (if is_flush number r.reply then Some r else get nat_eq log.begun number))
+    → ((number integration : ℕ) → contains same_note_key new.noted (record { number = number; integration = integration })
+    ≡ (is_note number integration r.call || contains same_note_key log.noted (record { number = number; integration = integration })))
+    → ((name : GroupName) (integration : ℕ) → get same_log_key new.logged (record { group = name; integration = integration })
+    ≡ (if logs_by (λ (k : ℕ). get nat_eq log.begun k) (λ (k i : ℕ). contains same_note_key log.noted (record { number = k; integration = i })) name integration r.call
+    then Some new.clock else get same_log_key log.logged (record { group = name; integration = integration })))
+    → new.clock ≡ max log.clock (min (now_of r.call) MAX_MOMENT)
+    → Follows log past → Follows new (r ∷ past)
+follows-more log new r past begun noted logged clock f =
+    let at : new.clock ≡ moment_at (r ∷ past) = clock ∙ ap (λ (t : ℕ). max t (min (now_of r.call) MAX_MOMENT)) f.clock in
+    let flushes : (λ (k : ℕ). get nat_eq log.begun k) ≡ (λ (k : ℕ). find (λ (x : Record). is_flush k x.reply) past) = λ j k. f.begun k j in
+    let notes : (λ (k i : ℕ). contains same_note_key log.noted (record { number = k; integration = i })) ≡ (λ (k i : ℕ). was_noted k i past) =
+    λ j k i. f.noted k i j in
+    record {
+      begun = λ number. begun number ∙ ap (λ (o : Option Record). if is_flush number r.reply then Some r else o) (f.begun number);
+      noted = λ number integration. noted number integration ∙ ap (λ (b : Bool). is_note number integration r.call || b) (f.noted number integration);
+      logged = λ name integration.
+          logged name integration
+          ∙ ap (λ (b : ℕ → Option Record). if logs_by b (λ (k i : ℕ). contains same_note_key log.noted (record { number = k; integration = i })) name integration r.call then Some new.clock else get same_log_key log.logged (record { group = name; integration = integration })) flushes
+          ∙ ap (λ (n : ℕ → ℕ → Bool). if logs_by (λ (k : ℕ). find (λ (x : Record). is_flush k x.reply) past) n name integration r.call then Some new.clock else get same_log_key log.logged (record { group = name; integration = integration })) notes
+          ∙ ap (λ (b : Bool). if b then Some new.clock else get same_log_key log.logged (record { group = name; integration = integration })) (logs_by-is name integration past r.call)
+          ∙ ap (λ (t : ℕ). if logs name integration past r.call then Some t else get same_log_key log.logged (record { group = name; integration = integration })) at
+          ∙ ap (λ (o : Option ℕ). if logs name integration past r.call then Some (moment_at (r ∷ past)) else o) (f.logged name integration);
+      clock = at;
+    }

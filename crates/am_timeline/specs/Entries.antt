@@ -1,0 +1,7 @@
+-- Entries: a table of the entries that expired before flushes.
+use Rattle.std.specs.Prelude.{ℕ, Bool, ◌&&◌, ◌==◌}
+use Rattle.am_timeline.specs.declared.logbook.entries.FlushKey.{FlushKey}
+
+-- whether two keys are of one place and integration
+abbrev pub same_flush_key : FlushKey → FlushKey → Bool
+same_flush_key a b = (a.place == b.place) && (a.integration == b.integration)

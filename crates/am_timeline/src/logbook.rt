@@ -1,0 +1,95 @@
+//! `Logbook`: a history with when the log entries expired whose lack its flushes found. `am_rehearse` makes one of a rehearsal that
+//! ran, and playbacks of that.
+ghost use Rattle.std.specs.Prelude.{◌≡◌, IfOk};
+ghost use Rattle.am_timeline.specs.Expiry.{expired};
+
+mod entries;
+mod log;
+
+use am_board::config::Config;
+use am_board::record::Record;
+use am_rehearsal::event::PreviewedBegin;
+use entries::{FlushKey, expired_entries};
+use std::alloc::{AllocError, Global};
+use std::collections::HashMap;
+use std::marker::Model;
+
+/// A configuration, a history and the previews of its begins. Contracts see these three.
+#[derive(Drop)]
+pub struct Logbook<'s> {
+    config: &'s Config,
+    history: &'s [Record],
+    begins: &'s [PreviewedBegin],
+    /// When the entries expired whose lack flushes found.
+    expiries: HashMap<FlushKey, u64>,
+}
+
+impl<'s> Model for Logbook<'s> {
+    ghost use Rattle.std.specs.Coded.{codes};
+    ghost use Rattle.std.specs.HashMap.{get};
+    ghost use Rattle.std.specs.Prelude.{◌≡◌, ℕ};
+    ghost use Rattle.am_alerts.specs.Layout.{forest_code};
+    ghost use Rattle.am_timeline.specs.Entries.{same_flush_key};
+    ghost use Rattle.am_timeline.specs.Expiry.{expired};
+    ghost use Rattle.am_timeline.specs.Playback.{LogbookData};
+
+    ghost Value = { LogbookData };
+
+    ghost coded = { Prim.hlevel (codes, forest_code) };
+
+    ghost view = { λ l.
+        record {
+          config = l.config.now;
+          history = l.history.now;
+          begins = l.begins.now;
+        } };
+
+    ghost invariant = { λ l. (place integration : ℕ)
+        → get same_flush_key l.expiries (record { place = place; integration = integration }) ≡ expired l.config.now l.history.now place integration };
+}
+
+impl<'s> Logbook<'s> {
+    /// Returns the logbook of this configuration, this history and the previews of its begins. Cost: the history.
+    pub fn new(
+        alloc: Global,
+        config: &'s Config,
+        history: &'s [Record],
+        begins: &'s [PreviewedBegin],
+    ) -> Result<Logbook<'s>, AllocError>
+        ensures { IfOk result (λ log. log ≡ record { config = config.now; history = history.now; begins = begins.now }) }
+    {
+        let expiries = expired_entries(alloc, config, history)?;
+        Ok(Logbook {
+            config,
+            history,
+            begins,
+            expiries,
+        })
+    }
+
+    pub fn config(&self) -> &'s Config
+        ensures { result.now ≡ self.now.config }
+    {
+        self.config
+    }
+
+    pub fn history(&self) -> &'s [Record]
+        ensures { result.now ≡ self.now.history }
+    {
+        self.history
+    }
+
+    pub fn begins(&self) -> &'s [PreviewedBegin]
+        ensures { result.now ≡ self.now.begins }
+    {
+        self.begins
+    }
+
+    /// Returns when the log entry of an integration expired whose lack the flush that began at a place found, in milliseconds,
+    /// if there was one.
+    pub(crate) fn expired(&self, place: usize, integration: usize) -> Option<u64>
+        ensures { result ≡ expired self.now.config self.now.history place integration }
+    {
+        self.expiries.get(&FlushKey { place, integration }).copied()
+    }
+}

@@ -1,0 +1,153 @@
+//! Log entries that had expired when flushes began. `logbook` keeps a table of them.
+ghost use Rattle.std.specs.Prelude.{◌≡◌, ◌∷◌, ◌*◌, min, ◌&&◌, ◌==◌, ℕ, IfOk, None, OnOk, if◌then◌else◌, length, nat_lt, option_and_then, option_copied};
+ghost use Rattle.std.specs.HashMap.{get};
+ghost use Rattle.std.specs.Option.{option_or};
+ghost use Rattle.am_model.specs.Configured.{expiry_at, route_of};
+ghost use Rattle.am_model.specs.look_back.Past.{Past};
+ghost use Rattle.am_timeline.specs.Entries.{same_flush_key};
+ghost use Rattle.am_timeline.specs.Expiry.{count_integrations, expired, expired_at, expired_before, expiry_of, flush_group, if_reached};
+ghost use Rattle.am_timeline.specs.Log.{Follows, same_log_key};
+
+use crate::logbook::log::{Log, LogKey, add_record, empty_log, next_moment};
+use am_board::config::Config;
+use am_board::group::GroupName;
+use am_board::record::{Record, Reply};
+use std::alloc::{AllocError, Global};
+use std::collections::HashMap;
+
+/// The place of a flush's begin in the history, and the position of an integration.
+#[derive(Clone, Copy, PartialEq, Eq, Hash)]
+pub struct FlushKey {
+    pub place: usize,
+    pub integration: usize,
+}
+
+/// Returns when the entries expired whose lack flushes of a history found: those of an integration that a success was logged
+/// for, and that had expired when the flush began.
+pub fn expired_entries(
+    alloc: Global,
+    config: &Config,
+    history: &[Record],
+) -> Result<HashMap<FlushKey, u64>, AllocError>
+    ensures { IfOk result (λ table. (place integration : ℕ)
+        → get same_flush_key table (record { place = place; integration = integration }) ≡ expired config.now history.now place integration) }
+{
+    let mut log = empty_log(alloc);
+    let mut table = HashMap::new(alloc);
+    for (place, added) in history.iter().enumerate() {
+        add_expired(alloc, config, &log, place, added, &mut table)?;
+        add_record(alloc, added, &mut log)?;
+    }
+    Ok(table)
+}
+
+/// Adds the entries that had expired when a record began a flush, if it does.
+fn add_expired(
+    alloc: Global,
+    config: &Config,
+    log: &Log<'_>,
+    place: usize,
+    added: &Record,
+    table: &mut HashMap<FlushKey, u64>,
+) -> Result<(), AllocError>
+    ensures { OnOk result ((past : Past) → Follows log.now past → (p i : ℕ)
+        → get same_flush_key table.new (record { place = p; integration = i })
+        ≡ option_or (if place == p then expired_before config.now i past added.now else None)
+        (get same_flush_key table.old (record { place = p; integration = i }))) }
+{
+    match flush_group(&added.reply) {
+        None => Ok(()),
+        Some(group) => {
+            let t = next_moment(log.clock, &added.call);
+            add_each(alloc, config, group, t, &log.logged, place, table)
+        }
+    }
+}
+
+/// The group of the flush that a reply begins.
+fn flush_group(reply: &Reply) -> Option<&GroupName>
+    ensures { option_copied result ≡ flush_group reply.now }
+{
+    match reply {
+        Reply::Flush { group, .. } => Some(group),
+        _ => None,
+    }
+}
+
+/// Adds the entries of the integrations of a group's receiver that had expired at `t`.
+fn add_each(
+    alloc: Global,
+    config: &Config,
+    group: &GroupName,
+    t: u64,
+    logged: &HashMap<LogKey, u64>,
+    place: usize,
+    table: &mut HashMap<FlushKey, u64>,
+) -> Result<(), AllocError>
+    ensures { OnOk result ((p i : ℕ) → get same_flush_key table.new (record { place = p; integration = i })
+        ≡ option_or (if (place == p) && nat_lt i (count_integrations config.now group.now)
+        then expiry_of config.now group.now t (get same_log_key logged.now (record { group = group.now; integration = i })) else None)
+        (get same_flush_key table.old (record { place = p; integration = i }))) }
+{
+    let count = config.integrations_of(group).len();
+    for integration in 0..count {
+        let expiry = expiry_of(alloc, config, group, integration, t, logged)?;
+        add_entry(place, integration, expiry, table)?;
+    }
+    Ok(())
+}
+
+/// Adds an entry that had expired, if it had.
+fn add_entry(
+    place: usize,
+    integration: usize,
+    expiry: Option<u64>,
+    table: &mut HashMap<FlushKey, u64>,
+) -> Result<(), AllocError>
+    ensures { OnOk result ((p i : ℕ) → get same_flush_key table.new (record { place = p; integration = i })
+        ≡ option_or (if (place == p) && (integration == i) then expiry else None)
+        (get same_flush_key table.old (record { place = p; integration = i }))) }
+{
+    if let Some(expiry) = expiry {
+        table.insert(FlushKey { place, integration }, expiry)?;
+    }
+    Ok(())
+}
+
+/// When the entry of a group and an integration expired, if it was logged and had expired by `t`.
+fn expiry_of(
+    alloc: Global,
+    config: &Config,
+    group: &GroupName,
+    integration: usize,
+    t: u64,
+    logged: &HashMap<LogKey, u64>,
+) -> Result<Option<u64>, AllocError>
+    ensures { IfOk result (λ expiry. expiry
+        ≡ expiry_of config.now group.now t (get same_log_key logged.now (record { group = group.now; integration = integration }))) }
+{
+    let key = LogKey {
+        group: group.copy(alloc)?,
+        integration,
+    };
+    match logged.get(&key) {
+        None => Ok(None),
+        Some(at) => Ok(if_reached(config, group, t, *at)),
+    }
+}
+
+/// When an entry that was logged at a time expires, if that is reached at `t`.
+fn if_reached(config: &Config, group: &GroupName, t: u64, at: u64) -> Option<u64>
+    ensures { result ≡ if_reached t (expiry_at config.now group.now at) }
+{
+    let expiry = at.checked_add(kept_for(config, group))?;
+    if expiry <= t { Some(expiry) } else { None }
+}
+
+/// How long an entry of a group is kept, in milliseconds.
+fn kept_for(config: &Config, group: &GroupName) -> u64
+    ensures { result ≡ min config.now.retention (2 * (route_of config.now group.now).repeat_interval) }
+{
+    let twice = config.route_of(group).repeat_interval.saturating_mul(2);
+    config.retention.min(twice)
+}

@@ -1,0 +1,310 @@
+//! `Log`: what is kept of a history while its expired log entries are found. `logbook` makes one.
+ghost use Rattle.std.specs.Prelude.{◌≡◌, ◌∷◌, ◌&&◌, ◌||◌, ◌==◌, [], ℕ, IfOk, OnOk, Some, not, if◌then◌else◌, max, min, nat_eq, option_copied};
+ghost use Rattle.std.specs.HashMap.{get};
+ghost use Rattle.std.specs.HashSet.{contains};
+ghost use Rattle.am_alerts.specs.declared.limits.TheConstants.{MAX_MOMENT};
+ghost use Rattle.am_model.specs.Finish.{is_delivered};
+ghost use Rattle.am_model.specs.State.{same_name};
+ghost use Rattle.am_model.specs.Records.{now_of};
+ghost use Rattle.am_model.specs.look_back.Past.{Past, is_flush, is_flush_of, is_note, notices_in};
+ghost use Rattle.am_model.specs.declared.group.GroupName as named;
+ghost use Rattle.am_timeline.specs.Log.{Follows, finish_logs, has_success, is_logged, logs_by, same_log_key, same_note_key};
+
+use am_alerts::limits::MAX_MOMENT;
+use am_board::group::GroupName;
+use am_board::notice::Notice;
+use am_board::record::{Call, Record, Reply};
+use am_model::outcome::outcome_of;
+use am_retry::Outcome;
+use std::alloc::{AllocError, Global};
+use std::collections::{HashMap, HashSet};
+use std::marker::Model;
+
+/// A group, and the position of an integration of its receiver.
+#[derive(Drop, PartialEq, Eq, Hash)]
+pub struct LogKey {
+    pub group: GroupName,
+    pub integration: usize,
+}
+
+/// The number of a flush, and the position of an integration that it notifies.
+#[derive(Clone, Copy, PartialEq, Eq, Hash)]
+pub struct NoteKey {
+    pub number: u64,
+    pub integration: u32,
+}
+
+/// The record that began a flush.
+#[derive(Drop)]
+pub struct Begun<'h> {
+    begin: &'h Record,
+}
+
+impl<'h> Model for Begun<'h> {
+    ghost use Rattle.am_model.specs.declared.record.Record as records;
+
+    ghost Value = { records.Record };
+
+    ghost view = { λ b. b.begin.now };
+}
+
+/// What is kept of a history: the flushes, their notes, and when successes were logged.
+#[derive(Drop)]
+pub struct Log<'h> {
+    /// The last flush of each number.
+    pub begun: HashMap<u64, Begun<'h>>,
+    pub noted: HashSet<NoteKey>,
+    /// When a success was logged last, in milliseconds.
+    pub logged: HashMap<LogKey, u64>,
+    /// The time of the last record, in milliseconds.
+    pub clock: u64,
+}
+
+/// Of no records.
+pub fn empty_log<'h>(alloc: Global) -> Log<'h>
+    ensures { Follows result [] }
+{
+    Log {
+        begun: HashMap::new(alloc),
+        noted: HashSet::new(alloc),
+        logged: HashMap::new(alloc),
+        clock: 0,
+    }
+}
+
+/// Adds a record.
+pub fn add_record<'h>(alloc: Global, added: &'h Record, log: &mut Log<'h>) -> Result<(), AllocError>
+    ensures { OnOk result ((past : Past) → Follows log.old past → Follows log.new (added.now ∷ past)) }
+{
+    let moment = next_moment(log.clock, &added.call);
+    add_logged(
+        alloc,
+        &log.begun,
+        &log.noted,
+        &added.call,
+        moment,
+        &mut log.logged,
+    )?;
+    add_noted(&added.call, &mut log.noted)?;
+    add_begun(added, &mut log.begun)?;
+    log.clock = moment;
+    Ok(())
+}
+
+/// The time of a call, after this one: the time that it handed in, or this if that is later.
+pub fn next_moment(clock: u64, call: &Call) -> u64
+    ensures { result ≡ max clock (min (now_of call.now) MAX_MOMENT) }
+{
+    clock.max(now_of(call).min(MAX_MOMENT))
+}
+
+/// The time that a call handed in.
+fn now_of(call: &Call) -> u64
+    ensures { result ≡ now_of call.now }
+{
+    match call {
+        Call::Insert { now, .. }
+        | Call::Silence { now, .. }
+        | Call::Begin { now }
+        | Call::Finish { now, .. }
+        | Call::Maintain { now }
+        | Call::Note { now, .. } => *now,
+    }
+}
+
+/// Adds the flush that a record begins, if it does.
+fn add_begun<'h>(added: &'h Record, begun: &mut HashMap<u64, Begun<'h>>) -> Result<(), AllocError>
+    ensures { OnOk result ((number : ℕ) → get nat_eq begun.new number
+        ≡ (if is_flush number added.now.reply then Some added.now else get nat_eq begun.old number)) }
+{
+    if let Reply::Flush { number, .. } = &added.reply {
+        begun.insert(*number, Begun { begin: added })?;
+    }
+    Ok(())
+}
+
+/// Adds what a call notes, if it does.
+fn add_noted(call: &Call, noted: &mut HashSet<NoteKey>) -> Result<(), AllocError>
+    ensures { OnOk result ((number integration : ℕ) → contains same_note_key noted.new (record { number = number; integration = integration })
+        ≡ (is_note number integration call.now
+        || contains same_note_key noted.old (record { number = number; integration = integration }))) }
+{
+    if let Call::Note {
+        number,
+        integration,
+        ..
+    } = call
+    {
+        noted.insert(NoteKey {
+            number: *number,
+            integration: *integration,
+        })?;
+    }
+    Ok(())
+}
+
+/// Adds when a call logs successes, if it does.
+fn add_logged(
+    alloc: Global,
+    begun: &HashMap<u64, Begun<'_>>,
+    noted: &HashSet<NoteKey>,
+    call: &Call,
+    moment: u64,
+    logged: &mut HashMap<LogKey, u64>,
+) -> Result<(), AllocError>
+    ensures { OnOk result ((name : named.GroupName) (integration : ℕ)
+        → get same_log_key logged.new (record { group = name; integration = integration })
+        ≡ (if logs_by (λ k. get nat_eq begun.now k) (λ k i. contains same_note_key noted.now (record { number = k; integration = i })) name
+        integration call.now
+        then Some moment else get same_log_key logged.old (record { group = name; integration = integration }))) }
+{
+    match call {
+        Call::Finish {
+            number,
+            outcomes,
+            ..
+        } => match begun.get(number) {
+            None => Ok(()),
+            Some(flush) => log_finish(
+                alloc,
+                flush.begin,
+                *number,
+                outcomes.as_slice(),
+                noted,
+                moment,
+                logged,
+            ),
+        },
+        Call::Note {
+            number,
+            integration,
+            ..
+        } => match begun.get(number) {
+            None => Ok(()),
+            Some(flush) => log_note(alloc, flush.begin, *integration as usize, moment, logged),
+        },
+        _ => Ok(()),
+    }
+}
+
+/// Logs a success of an integration at this time, for the group of a flush.
+fn log_note(
+    alloc: Global,
+    flush: &Record,
+    integration: usize,
+    moment: u64,
+    logged: &mut HashMap<LogKey, u64>,
+) -> Result<(), AllocError>
+    ensures { OnOk result ((name : named.GroupName) (i : ℕ)
+        → get same_log_key logged.new (record { group = name; integration = i })
+        ≡ (if is_flush_of name flush.now.reply && (integration == i)
+        then Some moment else get same_log_key logged.old (record { group = name; integration = i }))) }
+{
+    match &flush.reply {
+        Reply::Flush { group, .. } => log_success(alloc, group, integration, moment, logged),
+        _ => Ok(()),
+    }
+}
+
+/// Logs a success of an integration at this time, for a group.
+fn log_success(
+    alloc: Global,
+    group: &GroupName,
+    integration: usize,
+    moment: u64,
+    logged: &mut HashMap<LogKey, u64>,
+) -> Result<(), AllocError>
+    ensures { OnOk result ((name : named.GroupName) (i : ℕ)
+        → get same_log_key logged.new (record { group = name; integration = i })
+        ≡ (if same_name name group.now && (integration == i)
+        then Some moment else get same_log_key logged.old (record { group = name; integration = i }))) }
+{
+    let key = LogKey {
+        group: group.copy(alloc)?,
+        integration,
+    };
+    logged.insert(key, moment)?;
+    Ok(())
+}
+
+/// Logs the successes of a flush that is finished with these outcomes at this time.
+fn log_finish(
+    alloc: Global,
+    flush: &Record,
+    number: u64,
+    outcomes: &[(u32, Outcome)],
+    noted: &HashSet<NoteKey>,
+    moment: u64,
+    logged: &mut HashMap<LogKey, u64>,
+) -> Result<(), AllocError>
+    ensures { OnOk result ((name : named.GroupName) (i : ℕ)
+        → get same_log_key logged.new (record { group = name; integration = i })
+        ≡ (if finish_logs (λ k. contains same_note_key noted.now (record { number = number; integration = k })) outcomes.now name i flush.now
+        then Some moment else get same_log_key logged.old (record { group = name; integration = i }))) }
+{
+    match &flush.reply {
+        Reply::Flush { group, notices, .. } => log_notices(
+            alloc,
+            group,
+            notices.as_slice(),
+            number,
+            outcomes,
+            noted,
+            moment,
+            logged,
+        ),
+        _ => Ok(()),
+    }
+}
+
+/// Logs the successes of these notices of a flush that is finished with these outcomes at this time.
+fn log_notices(
+    alloc: Global,
+    group: &GroupName,
+    notices: &[Notice],
+    number: u64,
+    outcomes: &[(u32, Outcome)],
+    noted: &HashSet<NoteKey>,
+    moment: u64,
+    logged: &mut HashMap<LogKey, u64>,
+) -> Result<(), AllocError>
+    ensures { OnOk result ((name : named.GroupName) (i : ℕ)
+        → get same_log_key logged.new (record { group = name; integration = i })
+        ≡ (if same_name name group.now
+        && is_logged (λ k. contains same_note_key noted.now (record { number = number; integration = k })) outcomes.now i notices.now
+        then Some moment else get same_log_key logged.old (record { group = name; integration = i }))) }
+{
+    for notice in notices {
+        if is_new_success(noted, number, outcomes, notice) {
+            log_success(alloc, group, notice.integration as usize, moment, logged)?;
+        }
+    }
+    Ok(())
+}
+
+/// Whether the integration of a notice succeeded, and that wasn't noted.
+fn is_new_success(
+    noted: &HashSet<NoteKey>,
+    number: u64,
+    outcomes: &[(u32, Outcome)],
+    notice: &Notice,
+) -> bool
+    ensures { result ≡ (has_success (λ k. contains same_note_key noted.now (record { number = number; integration = k })) outcomes.now notice.now
+        && not (contains same_note_key noted.now (record { number = number; integration = notice.now.integration }))) }
+{
+    let key = NoteKey {
+        number,
+        integration: notice.integration,
+    };
+    !noted.contains(&key)
+        && (notice.nothing() || is_delivered(outcome_of(outcomes, notice.integration)))
+}
+
+fn is_delivered(outcome: Option<Outcome>) -> bool
+    ensures { result ≡ is_delivered outcome }
+{
+    match outcome {
+        Some(Outcome::Delivered) => true,
+        _ => false,
+    }
+}

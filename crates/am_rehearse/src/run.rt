@@ -260,7 +260,6 @@ fn render_from(
 /// What is printed of a played rehearsal, with moments that this clock shows.
 fn render_by<C: TimeFormat>(
     alloc: Global,
-    log: &Logbook<'_>,
     played: &Played,
     clock: &C,
     expectations: &[Expectation],
@@ -273,19 +272,11 @@ fn render_by<C: TimeFormat>(
     ensures { IfOk result (λ rendered. IsOutputOf played.now.board played.now.events.items output wanted.now (C.times clock.now)
         expectations.now rendered.is_met (string_bytes rendered.text)) }
 {
-    let events = played.events.as_slice();
-    let playback = playback_of(played, events);
-    let kept = selected_events(alloc, played, clock, wanted)?;
-    let shown = playback_of(played, kept.as_slice());
-    let text = printed(
-        alloc,
-        played,
-        &shown,
-        &playback,
-        clock,
-        expectations,
-        output,
-    )?;
+    let log = logbook_of(alloc, played)?;
+    let playback = Playback::new(&log, played.events.as_slice());
+    let kept = selected_events(alloc, &playback, clock, wanted)?;
+    let shown = playback.with_events(kept.as_slice());
+    let text = printed(alloc, &shown, &playback, clock, expectations, output)?;
     let is_met = are_met(alloc, &playback, expectations)?;
     let judgement = judge(alloc, &playback, clock, expectations, wanted)?;
     Ok(Rendered {
@@ -295,36 +286,37 @@ fn render_by<C: TimeFormat>(
     })
 }
 
-/// The playback of a rehearsal that was played, with these events.
-pub(crate) fn playback_of<'p>(played: &'p Played, events: &'p [Event]) -> Playback<'p>
-    ensures playback { result ≡ playback_with played.now.board events.now played.now.begins.items }
+/// The logbook of a rehearsal that was played.
+pub(crate) fn logbook_of(alloc: Global, played: &Played) -> Result<Logbook<'_>, AllocError>
+    ensures logbook { IfOk result (λ log. log ≡ record {
+          config = played.now.board.config;
+          history = played.now.board.history;
+          begins = played.now.begins.items;
+        }) }
     ensures legal { IsLegal played.now.board.config played.now.board.id played.now.board.history }
 {
-    Playback::new(
+    Logbook::new(
+        alloc,
         played.board.config(),
         played.board.history(),
         played.begins.as_slice(),
-        events,
     )
 }
 
-/// The events whose lines are wanted.
+/// The events of a playback whose lines are wanted.
 fn selected_events<C: TimeFormat>(
     alloc: Global,
-    played: &Played,
+    playback: &Playback<'_>,
     clock: &C,
     wanted: &Wanted,
 ) -> Result<Vec<Event>, AllocError>
-    ensures { IfOk result (λ events. playback_with played.now.board events.items played.now.begins.items
-        ≡ selected wanted.now (playback_with played.now.board played.now.events.items played.now.begins.items) (C.times clock.now)) }
+    ensures { IfOk result (λ events. record playback.now { events = events.items } ≡ selected wanted.now playback.now (C.times clock.now)) }
 {
-    let happened = played.events.as_slice();
-    let playback = playback_of(played, happened);
-    let filtered = filtered_events(alloc, &playback, &wanted.filter)?;
+    let filtered = filtered_events(alloc, playback, &wanted.filter)?;
     if !wanted.changes {
         return Ok(filtered);
     }
-    let narrowed = playback_of(played, filtered.as_slice());
+    let narrowed = playback.with_events(filtered.as_slice());
     changed_events(alloc, &narrowed, clock)
 }
 
@@ -347,13 +339,15 @@ fn judge<C: TimeFormat>(
     })
 }
 
-/// A played rehearsal as a page.
-fn picture<C: TimeFormat>(alloc: Global, played: &Played, clock: &C) -> Result<String, AllocError> {
+/// A rehearsal that was played as a page.
+fn picture<C: TimeFormat>(
+    alloc: Global,
+    playback: &Playback<'_>,
+    clock: &C,
+) -> Result<String, AllocError> {
     let scene = Scene {
-        config: played.board.config(),
-        history: played.board.history(),
-        begins: played.begins.as_slice(),
-        events: played.events.as_slice(),
+        log: playback.logbook(),
+        events: playback.events(),
     };
     page(alloc, &scene, clock, "Rehearsal")
 }
@@ -377,7 +371,6 @@ fn are_met(
 /// The output of a rehearsal that is asked for, of which this is the playback, with the lines of the one that is shown.
 fn printed<C: TimeFormat>(
     alloc: Global,
-    played: &Played,
     shown: &Playback<'_>,
     playback: &Playback<'_>,
     clock: &C,
@@ -393,7 +386,7 @@ fn printed<C: TimeFormat>(
         Output::Notices => notices_text(alloc, shown, clock, true),
         Output::Delivered => notices_text(alloc, shown, clock, false),
         Output::Json => json_text(alloc, shown, clock),
-        Output::Html => picture(alloc, played, clock),
+        Output::Html => picture(alloc, playback, clock),
     }
 }
 

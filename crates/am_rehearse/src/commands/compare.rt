@@ -4,7 +4,7 @@ use crate::commands::given::given_to;
 use crate::commands::play::until_of;
 use crate::console::{Console, DIFFERS, Document, say_ignored};
 use crate::progress::Progress;
-use crate::run::{play_or_refuse, playback_of};
+use crate::run::{logbook_of, play_or_refuse};
 use crate::system_zones::SystemZones;
 use am_cli::fault::InputFault;
 use am_command::request::CompareRequest;
@@ -18,6 +18,7 @@ use am_rehearsal::watch::Watch;
 use am_timeline::clock::Elapsed;
 use am_timeline::comparison::{Comparison, compare_notices};
 use am_timeline::dated::UtcDates;
+use am_timeline::playback::Playback;
 use std::alloc::{AllocError, Global};
 use std::rt::Files;
 use std::time::Clock;
@@ -173,8 +174,10 @@ fn compare_played(
     old: &PlayedStory,
     new: &PlayedStory,
 ) -> Result<Comparison, AllocError> {
-    let one = playback_of(&old.played, old.played.events.as_slice());
-    let other = playback_of(&new.played, new.played.events.as_slice());
+    let old_log = logbook_of(alloc, &old.played)?;
+    let new_log = logbook_of(alloc, &new.played)?;
+    let one = Playback::new(&old_log, old.played.events.as_slice());
+    let other = Playback::new(&new_log, new.played.events.as_slice());
     match &old.start {
         None => compare_notices(alloc, &one, &other, &Elapsed),
         Some(start) => compare_notices(alloc, &one, &other, start),

@@ -293,7 +293,7 @@ pub(crate) fn logbook_of(alloc: Global, played: &Played) -> Result<Logbook<'_>, 
           history = played.now.board.history;
           begins = played.now.begins.items;
         }) }
-    ensures legal { IsLegal played.now.board.config played.now.board.id played.now.board.history }
+    ensures legal { IfOk result (λ _. IsLegal played.now.board.config played.now.board.id played.now.board.history) }
 {
     Logbook::new(
         alloc,

@@ -1,20 +1,24 @@
 -- Request: what a rehearsal asks for.
-use Rattle.std.specs.Prelude.{◌≡◌, ℕ, List, codes, Option, Some, None, IsSomeAnd, if◌then◌else◌}
+use Rattle.std.specs.Prelude.{◌≡◌, ℕ, List, [], codes, Option, Some, None, IsSomeAnd, if◌then◌else◌}
 use Rattle.std.specs.Option.{option_and_then}
 use Rattle.std.specs.Str.{bytes_eq}
 use Rattle.serde_json.specs.Data.{Data, Members}
 use Rattle.serde_json.specs.Find.{as_object, as_str, get_member}
 use Rattle.am_cli.specs.Read.{duration_in, interval_in}
+use Rattle.am_cli.specs.Decoding.{IsList, HasOr}
+use Rattle.am_cli.specs.declared.reader.Dialect.{Dialect}
 use Rattle.am_cli.specs.declared.reader.Dialect.TheVariants.{Strict}
-use Rattle.am_yaml.specs.Document.{IsReadAs}
 use Rattle.am_timeline.specs.declared.expectation.Expectation.{Expectation}
 use Rattle.am_timeline.specs.UtcDates.{IsReadFrom, StartData, dated}
 use Rattle.am_timeline.specs.TimeFormatData.{TimeFormatData, counted}
+use Rattle.am_input.specs.Configured.{IsConfigFor, file_in}
+use Rattle.am_input.specs.Decoding.{DecodesToOutage}
 use Rattle.am_input.specs.Expected.{AreExpectedIn}
+use Rattle.am_input.specs.Planned.{ArePlannedIn}
 use Rattle.am_rehearsal.specs.declared.rehearsal.Rehearsal.{Rehearsal}
 use Rattle.am_input.specs.declared.input.TheConstants.{MAINTAIN}
 use Rattle.am_input.specs.declared.input.Output.{Output}
-use Rattle.am_input.specs.declared.input.Overrides.{Overrides}
+use Rattle.am_input.specs.declared.input.Changes.{Changes}
 use Rattle.am_input.specs.declared.input.Output.TheVariants.{Timeline, Notices, Json, Html}
 
 -- the output of a name
@@ -59,21 +63,19 @@ maintain_in None = Some MAINTAIN
 maintain_in (Some member) = interval_in member
 
 -- these members, with what the command line says in place of some, ask for this output, give this start and have these expectations, of
--- a rehearsal that ends and is maintained as they say
-pub record Requests (overrides : Overrides) (members : Members) (output : Output) (start : Option StartData)
+-- a rehearsal that has the configuration, the actions and the outages that they tell, and ends and is maintained as they say
+pub record Requests (dialect : Dialect) (changes : Changes) (members : Members) (output : Output) (start : Option StartData)
     (expectations : List Expectation) (rehearsal : Rehearsal) : Type 0 where
-  pub tells : output_for overrides.output (get_member (codes "output") members) ≡ Some output
+  pub configures : IsConfigFor (file_in changes) dialect members rehearsal.config
+  pub tells : output_for changes.overrides.output (get_member (codes "output") members) ≡ Some output
   pub starts : DecodesToStart (get_member (codes "start") members) start
-  pub ends : end_for overrides.until members ≡ Some rehearsal.until
+  pub ends : end_for changes.overrides.until members ≡ Some rehearsal.until
   pub maintains : maintain_in (get_member (codes "maintain") members) ≡ Some rehearsal.maintain
-  pub expects : AreExpectedIn Strict rehearsal.until rehearsal.plans.items (get_member (codes "expect") members) expectations
+  pub plans : ArePlannedIn dialect members rehearsal.plans.items
+  pub outages : HasOr (IsList DecodesToOutage) [] (codes "outages") members rehearsal.outages.items
+  pub expects : AreExpectedIn dialect rehearsal.until rehearsal.plans.items (get_member (codes "expect") members) expectations
 
 -- a JSON value is an object whose members ask for this
-abbrev pub IsRequestIn : Overrides → Data → Output → Option StartData → List Expectation → Rehearsal → Type 0
-IsRequestIn overrides value output start expectations rehearsal =
-    IsSomeAnd (as_object value) (λ members. Requests overrides members output start expectations rehearsal)
-
--- these bytes are read as such a value, which is that of a JSON text where they are one
-abbrev pub IsRequestBy : Overrides → List ℕ → Output → Option StartData → List Expectation → Rehearsal → Type 0
-IsRequestBy overrides input output start expectations rehearsal =
-    (value : Data) × IsReadAs input value × IsRequestIn overrides value output start expectations rehearsal
+abbrev pub IsRequestIn : Changes → Data → Output → Option StartData → List Expectation → Rehearsal → Type 0
+IsRequestIn changes value output start expectations rehearsal =
+    IsSomeAnd (as_object value) (λ members. Requests Strict changes members output start expectations rehearsal)

@@ -1,4 +1,9 @@
 //! The configuration of a rehearsal: `config`, or Alertmanager's own. `input` calls it.
+ghost use Rattle.std.specs.Prelude.{◌≡◌, IfOk, None, option_map};
+ghost use Rattle.serde_json.specs.View.{members_view, view};
+ghost use Rattle.am_cli.specs.Configured.{DecodesToConfig};
+ghost use Rattle.am_input.specs.Configured.{IsConfigFor, IsConfigIn, IsConfigOf, IsReadOfTheirs, form_in};
+
 use crate::form::{Form, alertmanager_in, form_of};
 use crate::hours::read_hours;
 use crate::zone_files::ZoneFiles;
@@ -29,21 +34,35 @@ pub fn read_configured<Z: ZoneFiles>(
     given: Option<&Value>,
     until: Option<u64>,
     files: &mut Z,
-) -> Result<Configured, Refusal> {
+) -> Result<Configured, Refusal>
+    ensures { IfOk result (λ read.
+        IsConfigFor (option_map (λ g. view g.now) given.entry) top.now.dialect (members_view top.now.members) read.config) }
+{
+    let hours = read_hours_for(top, given, until, files)?;
+    match given {
+        None => Ok(read_in_story(top, hours.as_ref())?),
+        Some(given) => Ok(read_file(top.alloc(), given, hours.as_ref())?),
+    }
+}
+
+/// Reads the clocks of a story for its configuration, or for the one that is given in its place, if that is one of
+/// Alertmanager.
+fn read_hours_for<Z: ZoneFiles>(
+    top: &Object<'_, '_>,
+    given: Option<&Value>,
+    until: Option<u64>,
+    files: &mut Z,
+) -> Result<Option<Hours>, InputFault> {
     let theirs = match given {
         None => top.members().get("alertmanager"),
         Some(given) => alertmanager_in(given),
     };
-    let hours = match theirs {
-        None => None,
+    match theirs {
+        None => Ok(None),
         Some(theirs) => {
             let config = Reader::strict(top.alloc(), theirs);
-            read_hours(top, &config, until, files)?
+            read_hours(top, &config, until, files)
         }
-    };
-    match given {
-        None => read_in_story(top, hours.as_ref()),
-        Some(given) => read_file(top.alloc(), given, hours.as_ref()),
     }
 }
 
@@ -63,33 +82,35 @@ pub fn configured_for<Z: ZoneFiles>(
 }
 
 /// Reads the configuration of a file: one of Alertmanager, one of our own, or that of a story.
-pub fn read_file(
-    alloc: Global,
-    value: &Value,
-    hours: Option<&Hours>,
-) -> Result<Configured, Refusal> {
+pub fn read_file(alloc: Global, value: &Value, hours: Option<&Hours>) -> Result<Configured, Refusal>
+    ensures { IfOk result (λ read. IsConfigOf (form_in (view value.now)) (view value.now) read.config) }
+{
     let reader = Reader::strict(alloc, value);
     match form_of(value) {
-        Form::Story => read_in_story(&reader.object()?, hours),
+        Form::Story => Ok(read_in_story(&reader.object()?, hours)?),
         Form::Own => Ok(read_own(&reader)?),
-        Form::Alertmanager => read_theirs(&reader, hours),
+        Form::Alertmanager => Ok(read_theirs(&reader, hours)?),
     }
 }
 
 /// Reads the configuration in a story. It stands in `config` or, as Alertmanager has it, in `alertmanager`, which is
 /// refused beside `config`.
-fn read_in_story(top: &Object<'_, '_>, hours: Option<&Hours>) -> Result<Configured, Refusal> {
+fn read_in_story(top: &Object<'_, '_>, hours: Option<&Hours>) -> Result<Configured, Refusal>
+    ensures { IfOk result (λ read. IsConfigIn top.now.dialect (members_view top.now.members) read.config) }
+{
     let Some(member) = top.optional("alertmanager") else {
         return Ok(read_own(&top.required("config")?)?);
     };
     if top.optional("config").is_some() {
         return Err(Refusal::One(member.refuse(FaultKind::BadValue)));
     }
-    read_theirs(&member, hours)
+    Ok(read_theirs(&member, hours)?)
 }
 
 /// Reads a configuration of our own.
-fn read_own(reader: &Reader<'_, '_>) -> Result<Configured, InputFault> {
+fn read_own(reader: &Reader<'_, '_>) -> Result<Configured, InputFault>
+    ensures { IfOk result (λ read. DecodesToConfig reader.now.dialect (view reader.now.value) read.config) }
+{
     Ok(Configured {
         config: read_config(reader)?,
         ignored: IgnoredSettings::nothing(),
@@ -98,7 +119,9 @@ fn read_own(reader: &Reader<'_, '_>) -> Result<Configured, InputFault> {
 }
 
 /// Reads a configuration of Alertmanager.
-fn read_theirs(reader: &Reader<'_, '_>, hours: Option<&Hours>) -> Result<Configured, Refusal> {
+fn read_theirs(reader: &Reader<'_, '_>, hours: Option<&Hours>) -> Result<Configured, Refusal>
+    ensures { IfOk result (λ read. IsReadOfTheirs (view reader.now.value) read.config) }
+{
     let read = read_alertmanager(reader, hours)?;
     Ok(Configured {
         config: read.config,

@@ -158,7 +158,7 @@ fn outage_faults(
     };
     for (index, value) in values.iter().enumerate() {
         let reader = member.item(index, value);
-        if let Some(outage) = faults.kept(OutageItem::read(&reader))? {
+        if let Some(OutageItem { outage }) = faults.kept(OutageItem::read(&reader))? {
             let receiver = outage.receiver.as_str();
             target_fault(faults, &reader, config, Some(receiver), outage.integration)?;
         }

@@ -6,13 +6,18 @@
 //! its end at that time, as Prometheus sends them. The configuration is `am_cli`'s, or
 //! Alertmanager's own (`configured`), whose faults are all reported; of the rest the first fault
 //! is. Contracts say by definitions over the JSON value's fields what was read for `output`,
-//! `start`, `until`, `maintain` and `expect` (`Request`, `Expected`).
-ghost use Rattle.std.specs.Prelude.{◌≡◌, ◌≤◌, ◌<◌, IfOk, Some, codes};
+//! `start`, `until`, `maintain`, `alerts`, `silences`, `outages` and `expect` (`Request`, `Decoding`,
+//! `Planned`, `Expected`).
+ghost use Rattle.std.specs.Prelude.{◌≡◌, ◌≤◌, ◌<◌, [], IfOk, Some, codes};
 ghost use Rattle.std.specs.Result.{result_ok};
 ghost use Rattle.serde_json.specs.Find.{get_member};
 ghost use Rattle.serde_json.specs.View.{members_view, view};
 ghost use Rattle.am_rehearsal.specs.declared.limits.TheConstants.{MAX_UNTIL};
+ghost use Rattle.am_cli.specs.Decoding.{HasOr, IsList};
+ghost use Rattle.am_input.specs.Configured.{IsConfigFor, file_in};
+ghost use Rattle.am_input.specs.Decoding.{DecodesToOutage};
 ghost use Rattle.am_input.specs.Expected.{AreExpectedIn};
+ghost use Rattle.am_input.specs.Planned.{ArePlannedIn};
 ghost use Rattle.am_input.specs.Request.{DecodesToStart, Requests, IsRequestIn, end_for, maintain_in, output_for};
 
 use crate::alert::AlertItem;
@@ -20,7 +25,7 @@ use crate::configured::{Configured, read_configured};
 use crate::expectation::read_expectations;
 use crate::hours::check_start;
 use crate::origin::Origin;
-use crate::outage::OutageItem;
+use crate::outage::{OutageItem, outages_of};
 use crate::silence::SilenceItem;
 use crate::target::check;
 use crate::zone_files::ZoneFiles;
@@ -30,7 +35,7 @@ use am_board::config::Config;
 use am_cli::duration::{duration, interval};
 use am_cli::fault::{FaultKind, InputFault};
 use am_cli::place::JsonPointer;
-use am_cli::reader::{Dialect, Object, Reader};
+use am_cli::reader::{Object, Reader};
 use am_config::dropped::IgnoredSettings;
 use am_config::faults::Refusal;
 use am_rehearsal::MAX_UNTIL;
@@ -120,32 +125,32 @@ pub fn read_input<Z: ZoneFiles>(
     changes: Changes<'_>,
     files: &mut Z,
 ) -> Result<Input, Refusal>
-    ensures { IfOk result (λ input. IsRequestIn changes.entry.overrides (view value.now) input.output input.start
+    ensures { IfOk result (λ input. IsRequestIn changes.entry (view value.now) input.output input.start
         input.expectations.items input.rehearsal) }
 {
     let reader = Reader::strict(alloc, value);
     let top = reader.object()?;
     top.only(&MEMBERS)?;
-    let Changes { config, overrides } = changes;
-    let configured = read_configured(&top, config, overrides.until, files)?;
-    read_planned(&top, configured, overrides).map_err(Refusal::One)
+    let configured = read_configured(&top, changes.config, changes.overrides.until, files)?;
+    Ok(read_planned(&top, configured, changes)?)
 }
 
 /// Reads what is planned against a configuration.
 fn read_planned(
     top: &Object<'_, '_>,
     configured: Configured,
-    overrides: Overrides,
+    changes: Changes<'_>,
 ) -> Result<Input, InputFault>
-    requires { top.now.dialect ≡ Dialect.Strict }
-    ensures { IfOk result (λ input.
-        Requests overrides (members_view top.now.members) input.output input.start input.expectations.items input.rehearsal) }
+    requires { IsConfigFor (file_in changes) top.now.dialect (members_view top.now.members) configured.config }
+    ensures { IfOk result (λ input. Requests top.now.dialect changes.entry (members_view top.now.members) input.output input.start
+        input.expectations.items input.rehearsal) }
 {
     let Configured {
         config,
         ignored,
         lacks_hours,
     } = configured;
+    let overrides = changes.overrides;
     let until = read_until(top, overrides.until)?;
     read_zones(top)?;
     check_start(top, overrides.until, lacks_hours)?;
@@ -197,9 +202,13 @@ fn read_rehearsal(
     until: u64,
 ) -> Result<(Rehearsal, Vec<Origin>), InputFault>
     requires { until ≤ MAX_UNTIL }
+    ensures config { IfOk result (λ read. read.0.config ≡ config) }
     ensures until { IfOk result (λ read. read.0.until ≡ until) }
     ensures maintain { IfOk result (λ read.
         maintain_in (get_member (codes "maintain") (members_view top.now.members)) ≡ Some read.0.maintain) }
+    ensures plans { IfOk result (λ read. ArePlannedIn top.now.dialect (members_view top.now.members) read.0.plans.items) }
+    ensures outages { IfOk result (λ read.
+        HasOr (IsList DecodesToOutage) [] (codes "outages") (members_view top.now.members) read.0.outages.items) }
 {
     let maintain = read_maintain(top)?;
     let outages = read_outages(top, &config)?;
@@ -217,10 +226,12 @@ fn read_rehearsal(
 /// Reads the planned actions, in the order of their times, and where each is in the input.
 pub(crate) fn read_plans(
     top: &Object<'_, '_>,
-) -> Result<(Vec<TimedAction>, Vec<Origin>), InputFault> {
+) -> Result<(Vec<TimedAction>, Vec<Origin>), InputFault>
+    ensures { IfOk result (λ read. ArePlannedIn top.now.dialect (members_view top.now.members) read.0.items) }
+{
     let alerts = top.list_or_none::<AlertItem>("alerts")?;
     let silences = top.list_or_none::<SilenceItem>("silences")?;
-    planned::in_order(top.alloc(), alerts, silences)
+    Ok(planned::in_order(top.alloc(), alerts, silences)?)
 }
 
 /// The time between two maintenances, in milliseconds.
@@ -261,24 +272,30 @@ fn end_of(top: &Object<'_, '_>, asked: Option<u64>) -> Result<u64, InputFault>
     }
 }
 
-fn read_outages(top: &Object<'_, '_>, config: &Config) -> Result<Vec<Outage>, InputFault> {
-    let mut outages = Vec::new(top.alloc());
-    for (index, item) in top
-        .list_or_none::<OutageItem>("outages")?
-        .into_iter()
-        .enumerate()
-    {
+/// Reads the outages, whose receivers and integrations the configuration has.
+fn read_outages(top: &Object<'_, '_>, config: &Config) -> Result<Vec<Outage>, InputFault>
+    ensures { IfOk result (λ outages.
+        HasOr (IsList DecodesToOutage) [] (codes "outages") (members_view top.now.members) outages.items) }
+{
+    let items = top.list_or_none::<OutageItem>("outages")?;
+    let outages = outages_of(top.alloc(), items)?;
+    check_outages(top.alloc(), config, outages.as_slice())?;
+    Ok(outages)
+}
+
+/// Refuses the first outage whose receiver or integration the configuration hasn't.
+fn check_outages(alloc: Global, config: &Config, outages: &[Outage]) -> Result<(), InputFault> {
+    for (index, outage) in outages.iter().enumerate() {
         let place = JsonPointer::Root;
         check(
-            top.alloc(),
+            alloc,
             config,
-            item.receiver.as_str(),
-            item.integration,
+            outage.receiver.as_str(),
+            outage.integration,
             place.member("outages").item(index),
         )?;
-        outages.push(item.into_outage())?;
     }
-    Ok(outages)
+    Ok(())
 }
 
 /// What is printed, as the command line says it, or else the member; the timeline, where it isn't said.

@@ -1,67 +1,62 @@
 //! The outages of a rehearsal, and how they are read. `input` calls it.
+ghost use Rattle.std.specs.Prelude.{◌≡◌, IfOk, codes, map};
+ghost use Rattle.serde_json.specs.View.{members_view};
+ghost use Rattle.am_cli.specs.Decoding.{HasOr, IsAnswer};
+
 use crate::span::Span;
 use crate::target::position;
-use am_alerts::text::Text;
 use am_cli::duration::duration_or;
-use am_cli::fault::{FaultKind, InputFault};
+use am_cli::fault::InputFault;
 use am_cli::reader::{FromJson, Object, Reader};
 use am_rehearsal::rehearsal::Outage;
 use am_retry::Answer;
+use std::alloc::{AllocError, Global};
 
 /// The answers of a receiver's integrations in a span.
 #[derive(Drop)]
 pub struct OutageItem {
-    pub receiver: Text,
-    pub integration: Option<u32>,
-    span: Span,
-    answer: Answer,
-    takes: u64,
+    pub outage: Outage,
 }
 
 impl<'v> FromJson<'v> for OutageItem {
+    ghost use Rattle.am_input.specs.Decoding.{DecodesToOutage};
+
+    ghost decodes_to = { λ dialect value item. DecodesToOutage value item.outage };
+
     fn read(reader: &Reader<'v, '_>) -> Result<OutageItem, InputFault> {
         let outage = reader.object()?;
         outage.only(&["receiver", "integration", "from", "to", "answer", "takes"])?;
+        let receiver = outage.required_text("receiver")?;
+        let integration = position(&outage)?;
+        let Span { from, to } = Span::of(&outage)?;
+        let answer = read_answer(&outage)?;
+        let takes = duration_or(&outage, "takes", 0)?;
         Ok(OutageItem {
-            receiver: outage.required_text("receiver")?,
-            integration: position(&outage)?,
-            span: Span::of(&outage)?,
-            answer: read_answer(&outage)?,
-            takes: duration_or(&outage, "takes", 0)?,
+            outage: Outage {
+                receiver,
+                integration,
+                from,
+                to,
+                answer,
+                takes,
+            },
         })
     }
 }
 
 /// What is answered; `again`, where it isn't said.
-fn read_answer(outage: &Object<'_, '_>) -> Result<Answer, InputFault> {
-    let Some(member) = outage.optional("answer") else {
-        return Ok(Answer::Again);
-    };
-    match member.text()? {
-        "done" => Ok(Answer::Done),
-        "again" => Ok(Answer::Again),
-        "never" => Ok(Answer::Never),
-        _ => Err(member.refuse(FaultKind::BadValue)),
+fn read_answer(outage: &Object<'_, '_>) -> Result<Answer, InputFault>
+    ensures { IfOk result (HasOr IsAnswer Answer.Again (codes "answer") (members_view outage.now.members)) }
+{
+    match outage.optional("answer") {
+        None => Ok(Answer::Again),
+        Some(member) => Answer::read(&member),
     }
 }
 
-impl OutageItem {
-    /// The outage.
-    pub fn into_outage(self) -> Outage {
-        let OutageItem {
-            receiver,
-            integration,
-            span,
-            answer,
-            takes,
-        } = self;
-        Outage {
-            receiver,
-            integration,
-            from: span.from,
-            to: span.to,
-            answer,
-            takes,
-        }
-    }
+/// The outages of items.
+pub fn outages_of(alloc: Global, items: Vec<OutageItem>) -> Result<Vec<Outage>, AllocError>
+    ensures { IfOk result (λ outages. outages.items ≡ map (λ i. i.outage) items.items) }
+{
+    items.into_iter().map(|item| item.outage).collect(alloc)
 }

@@ -1,6 +1,10 @@
 //! The planned actions of a rehearsal, in the order of their times. `input` calls it.
 //!
 //! An alert's span is two inserts: one without an end at its start, one with its end at that time.
+ghost use Rattle.std.specs.Prelude.{◌≡◌, ◌<◌, ◌+◌, [], ◌∷◌, IfOk, OnOk, map};
+ghost use Rattle.std.specs.List.{flat_map};
+ghost use Rattle.am_input.specs.Planned.{AddsPlans, insert_of, inserts_in, inserts_of, plans_of, set_of, sets_from};
+
 use crate::alert::AlertItem;
 use crate::origin::Origin;
 use crate::silence::SilenceItem;
@@ -27,22 +31,23 @@ pub fn in_order(
     alloc: Global,
     alerts: Vec<AlertItem>,
     silences: Vec<SilenceItem>,
-) -> Result<(Vec<TimedAction>, Vec<Origin>), InputFault> {
+) -> Result<(Vec<TimedAction>, Vec<Origin>), InputFault>
+    ensures { IfOk result (λ read. read.0.items ≡ plans_of alerts.items silences.items) }
+{
     let mut planned = Vec::new(alloc);
-    for (item, alert) in alerts.into_iter().enumerate() {
-        add_alert(alloc, item, &alert, &mut planned)?;
-    }
-    for (item, silence) in silences.into_iter().enumerate() {
-        add_silence(alloc, item, silence, &mut planned)?;
-    }
+    add_alerts(alloc, alerts.as_slice(), &mut planned)?;
+    add_silences(alloc, silences, &mut planned)?;
     planned.sort_unstable_by(|a, b| a.plan.at.cmp(&b.plan.at).then(a.number.cmp(&b.number)));
-    split(alloc, planned)
+    Ok(split(alloc, planned)?)
 }
 
+/// The plans, and where they stand in the input.
 fn split(
     alloc: Global,
     planned: Vec<Planned>,
-) -> Result<(Vec<TimedAction>, Vec<Origin>), InputFault> {
+) -> Result<(Vec<TimedAction>, Vec<Origin>), InputFault>
+    ensures { IfOk result (λ read. read.0.items ≡ map (λ p. p.plan) planned.items) }
+{
     let mut plans = Vec::with_capacity(alloc, planned.len())?;
     let mut origins = Vec::with_capacity(alloc, planned.len())?;
     for one in planned {
@@ -57,6 +62,20 @@ fn split(
     Ok((plans, origins))
 }
 
+/// Adds the inserts of alerts.
+fn add_alerts(
+    alloc: Global,
+    alerts: &[AlertItem],
+    planned: &mut Vec<Planned>,
+) -> Result<(), InputFault>
+    ensures { OnOk result (AddsPlans planned.old.items planned.new.items (flat_map inserts_of alerts.now)) }
+{
+    for (item, alert) in alerts.iter().enumerate() {
+        add_alert(alloc, item, alert, planned)?;
+    }
+    Ok(())
+}
+
 /// Adds the inserts of an alert: one at the start of each of its spans, and one at the end, by which
 /// it is resolved.
 fn add_alert(
@@ -64,7 +83,9 @@ fn add_alert(
     item: usize,
     alert: &AlertItem,
     planned: &mut Vec<Planned>,
-) -> Result<(), InputFault> {
+) -> Result<(), InputFault>
+    ensures { OnOk result (AddsPlans planned.old.items planned.new.items (inserts_of alert.now)) }
+{
     for (number, span) in alert.spans.as_slice().iter().enumerate() {
         let origin = Origin::Alert {
             item,
@@ -81,7 +102,9 @@ fn add_span(
     span: Span,
     origin: Origin,
     planned: &mut Vec<Planned>,
-) -> Result<(), InputFault> {
+) -> Result<(), InputFault>
+    ensures { OnOk result (AddsPlans planned.old.items planned.new.items (inserts_in labels.now span)) }
+{
     add_insert(alloc, labels, span.from, None, origin, planned)?;
     if span.to.is_some() {
         add_insert(alloc, labels, span.from, span.to, origin, planned)?;
@@ -96,7 +119,9 @@ fn add_insert(
     ends: Option<u64>,
     origin: Origin,
     planned: &mut Vec<Planned>,
-) -> Result<(), InputFault> {
+) -> Result<(), InputFault>
+    ensures { OnOk result (AddsPlans planned.old.items planned.new.items (insert_of labels.now starts ends ∷ [])) }
+{
     let Ok(alert) = Alert::new(labels.copy(alloc)?, starts, ends) else {
         return Err(origin.refuse_value(alloc));
     };
@@ -107,13 +132,30 @@ fn add_insert(
     add(plan, origin, planned)
 }
 
+/// Adds silences.
+fn add_silences(
+    alloc: Global,
+    silences: Vec<SilenceItem>,
+    planned: &mut Vec<Planned>,
+) -> Result<(), InputFault>
+    ensures { OnOk result (AddsPlans planned.old.items planned.new.items (sets_from 1 silences.items)) }
+{
+    for (item, silence) in silences.into_iter().enumerate() {
+        add_silence(alloc, item, silence, planned)?;
+    }
+    Ok(())
+}
+
 /// Adds a silence. Its id is its place in the input, from 1.
 fn add_silence(
     alloc: Global,
     item: usize,
     silence: SilenceItem,
     planned: &mut Vec<Planned>,
-) -> Result<(), InputFault> {
+) -> Result<(), InputFault>
+    requires { item < usize.MAX }
+    ensures { OnOk result (AddsPlans planned.old.items planned.new.items (set_of (item + 1) silence ∷ [])) }
+{
     let SilenceItem {
         matchers,
         from,
@@ -121,7 +163,7 @@ fn add_silence(
         set,
     } = silence;
     let origin = Origin::Silence { item };
-    let id = (item as u64).saturating_add(1);
+    let id = item as u64 + 1;
     let Ok(silence) = Silence::new(id, matchers, from, to) else {
         return Err(origin.refuse_value(alloc));
     };
@@ -132,7 +174,10 @@ fn add_silence(
     add(plan, origin, planned)
 }
 
-fn add(plan: TimedAction, origin: Origin, planned: &mut Vec<Planned>) -> Result<(), InputFault> {
+/// Adds a plan behind the others.
+fn add(plan: TimedAction, origin: Origin, planned: &mut Vec<Planned>) -> Result<(), InputFault>
+    ensures { OnOk result (AddsPlans planned.old.items planned.new.items (plan ∷ [])) }
+{
     let number = planned.len();
     planned.push(Planned {
         plan,

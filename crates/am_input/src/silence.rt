@@ -1,12 +1,16 @@
 //! The silences of a rehearsal, and how they are read. `input` calls it.
 //!
 //! A silence is set where its span begins, unless `set` gives another time.
+ghost use Rattle.std.specs.Prelude.{◌<◌, IfOk, codes};
+ghost use Rattle.serde_json.specs.View.{members_view};
+ghost use Rattle.am_cli.specs.Decoding.{Has, HasOr, IsDuration};
+
 use crate::span::Span;
 use am_alerts::limits::MAX_MATCHERS;
 use am_alerts::matcher::Matcher;
 use am_cli::duration::duration_or;
 use am_cli::fault::{FaultKind, InputFault};
-use am_cli::reader::{FromJson, Reader};
+use am_cli::reader::{FromJson, Object, Reader};
 
 /// A silence: what it mutes, in which span, and when it is made.
 #[derive(Drop)]
@@ -18,6 +22,10 @@ pub struct SilenceItem {
 }
 
 impl<'v> FromJson<'v> for SilenceItem {
+    ghost use Rattle.am_input.specs.Decoding.{DecodesToSilence};
+
+    ghost decodes_to = { λ dialect value silence. DecodesToSilence dialect value silence };
+
     fn read(reader: &Reader<'v, '_>) -> Result<SilenceItem, InputFault> {
         let silence = reader.object()?;
         silence.only(&["matchers", "from", "to", "set"])?;
@@ -26,11 +34,7 @@ impl<'v> FromJson<'v> for SilenceItem {
         if matchers.is_empty() {
             return Err(listed.refuse(FaultKind::BadValue));
         }
-        let Span { from, to } = Span::of(&silence)?;
-        let to = match to {
-            None => return Err(silence.required("to")?.refuse(FaultKind::BadValue)),
-            Some(to) => to,
-        };
+        let (from, to) = read_span(&silence)?;
         let set = duration_or(&silence, "set", from)?;
         Ok(SilenceItem {
             matchers,
@@ -38,5 +42,18 @@ impl<'v> FromJson<'v> for SilenceItem {
             to,
             set,
         })
+    }
+}
+
+/// The first moment of a silence, and its end.
+fn read_span(silence: &Object<'_, '_>) -> Result<(u64, u64), InputFault>
+    ensures from { IfOk result (λ span. HasOr IsDuration 0 (codes "from") (members_view silence.now.members) span.0) }
+    ensures to { IfOk result (λ span. Has IsDuration (codes "to") (members_view silence.now.members) span.1) }
+    ensures later { IfOk result (λ span. span.0 < span.1) }
+{
+    let Span { from, to } = Span::of(silence)?;
+    match to {
+        None => Err(silence.required("to")?.refuse(FaultKind::BadValue)),
+        Some(to) => Ok((from, to)),
     }
 }

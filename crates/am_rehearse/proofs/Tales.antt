@@ -19,7 +19,7 @@ use Rattle.am_timeline.specs.Playback.{PlaybackData}
 use Rattle.am_timeline.specs.TimeFormatData.{TimeFormatData}
 use Rattle.am_input.specs.Request.{IsRequestIn, times_from}
 use Rattle.am_input.specs.declared.input.Output.{Output}
-use Rattle.am_input.specs.declared.input.Overrides.{Overrides}
+use Rattle.am_input.specs.declared.input.Changes.{Changes}
 use Rattle.am_rehearse.specs.Printed.{WritesOutput, IsPrinted, IsOutputOf, IsOutputOfRun, IsOutputFor, playback_of, playback_with, selected}
 
 pub output_of-board : (output : Output) (wanted : Wanted) (met : Bool) (text : List ℕ) (board : BoardData) (begins : List PreviewedBegin) (events : List Event) (shown playback : PlaybackData) (times : TimeFormatData) (expectations : List Expectation)
@@ -41,23 +41,23 @@ output_of-board output wanted met text board begins events shown playback times 
           (subst (λ (s : PlaybackData). IsPrinted output shown s times expectations text) same is);
     }
 
-pub answered : (overrides : Overrides) (wanted : Wanted) (met is_met : Bool) (given_before given taken_before taken input text : List ℕ)
-    → given ≡ given_before ++ input → IsOutputFor overrides wanted input is_met text → is_met ≡ met → taken ≡ taken_before ++ text
-    → WritesOutput overrides wanted met given_before given taken_before taken
-answered overrides wanted met is_met given_before given taken_before taken input text given_is is_told same taken_is =
+pub answered : (changes : Changes) (wanted : Wanted) (met is_met : Bool) (given_before given taken_before taken input text : List ℕ)
+    → given ≡ given_before ++ input → IsOutputFor changes wanted input is_met text → is_met ≡ met → taken ≡ taken_before ++ text
+    → WritesOutput changes wanted met given_before given taken_before taken
+answered changes wanted met is_met given_before given taken_before taken input text given_is is_told same taken_is =
     record {
       input = input;
       text = text;
       given_is = given_is;
-      told = subst (λ (b : Bool). IsOutputFor overrides wanted input b text) same is_told;
+      told = subst (λ (b : Bool). IsOutputFor changes wanted input b text) same is_told;
       taken_is = taken_is;
     }
 
 -- what is told of a text, by what the value asks for that it is read as
-pub told_by : (overrides : Overrides) (wanted : Wanted) (input : List ℕ) (value : Data) (output : Output) (start : Option StartData) (expectations : List Expectation) (rehearsal : Rehearsal) (met : Bool) (text : List ℕ)
-    → IsReadAs input value → IsRequestIn overrides value output start expectations rehearsal
-    → IsOutputOfRun rehearsal output wanted (times_from start) expectations met text → IsOutputFor overrides wanted input met text
-told_by overrides wanted input value output start expectations rehearsal met text reads asked tale =
+pub told_by : (changes : Changes) (wanted : Wanted) (input : List ℕ) (value : Data) (output : Output) (start : Option StartData) (expectations : List Expectation) (rehearsal : Rehearsal) (met : Bool) (text : List ℕ)
+    → IsReadAs input value → IsRequestIn changes value output start expectations rehearsal
+    → IsOutputOfRun rehearsal output wanted (times_from start) expectations met text → IsOutputFor changes wanted input met text
+told_by changes wanted input value output start expectations rehearsal met text reads asked tale =
     record {
       output = output;
       start = start;

@@ -1,10 +1,12 @@
 -- Printed: what is printed of a rehearsal that ran.
 use Rattle.std.specs.Prelude.{◌≡◌, ◌==◌, ℕ, Bool, true, false, List, [], ◌++◌, codes, length, Option, if◌then◌else◌}
 use Rattle.std.specs.List.{list_all, range_with_len}
+use Rattle.serde_json.specs.Data.{Data}
 use Rattle.am_model.specs.declared.config.Config.{Config}
 use Rattle.am_model.specs.declared.record.Record.{Record}
 use Rattle.am_model.specs.Replay.{IsLegal}
 use Rattle.am_board.specs.History.{BoardData}
+use Rattle.am_yaml.specs.Document.{IsReadAs}
 use Rattle.am_rehearsal.specs.EventOrder.{begin_indices}
 use Rattle.am_rehearsal.specs.Play.{PlaysTo, setting_of}
 use Rattle.am_rehearsal.specs.Previews.{previews_of}
@@ -26,9 +28,9 @@ use Rattle.am_timeline.specs.Table.{table_text}
 use Rattle.am_timeline.specs.Timeline.{timeline_text}
 use Rattle.am_timeline.specs.TimeFormatData.{TimeFormatData}
 use Rattle.am_timeline.specs.Undelivered.{undelivered_text}
-use Rattle.am_input.specs.Request.{IsRequestBy, times_from}
+use Rattle.am_input.specs.Request.{IsRequestIn, times_from}
 use Rattle.am_input.specs.declared.input.Output.{Output}
-use Rattle.am_input.specs.declared.input.Overrides.{Overrides}
+use Rattle.am_input.specs.declared.input.Changes.{Changes}
 use Rattle.am_input.specs.declared.input.Output.TheVariants.{Timeline, Full, Notices, Delivered, Json, Html}
 
 -- what became of expectations, behind an empty line, if there are any
@@ -85,21 +87,26 @@ pub record IsOutputOfRun (rehearsal : Rehearsal) (output : Output) (wanted : Wan
   pub played : PlaysTo (setting_of rehearsal) rehearsal.config rehearsal.plans.items board events
   pub tale : IsOutputOf board events output wanted times expectations met text
 
+-- these bytes are read as a value that asks for this, which is that of a JSON text where they are one
+abbrev pub IsRequestBy : Changes → List ℕ → Output → Option StartData → List Expectation → Rehearsal → Type 0
+IsRequestBy changes input output start expectations rehearsal =
+    (value : Data) × IsReadAs input value × IsRequestIn changes value output start expectations rehearsal
+
 -- the text is the output that these bytes ask for, of a rehearsal with the end and the maintenance that they ask for, by the moments and
 -- the expectations that they ask for
-pub record IsOutputFor (overrides : Overrides) (wanted : Wanted) (input : List ℕ) (met : Bool) (text : List ℕ) : Type 0 where
+pub record IsOutputFor (changes : Changes) (wanted : Wanted) (input : List ℕ) (met : Bool) (text : List ℕ) : Type 0 where
   pub output : Output
   pub start : Option StartData
   pub expectations : List Expectation
   pub rehearsal : Rehearsal
-  pub asked : IsRequestBy overrides input output start expectations rehearsal
+  pub asked : IsRequestBy changes input output start expectations rehearsal
   pub tale : IsOutputOfRun rehearsal output wanted (times_from start) expectations met text
 
 -- of bytes that were given before and now, and of bytes that were taken before and now: what was taken since is the output that those that
 -- were given since ask for
-pub record WritesOutput (overrides : Overrides) (wanted : Wanted) (met : Bool) (given_before given taken_before taken : List ℕ) : Type 0 where
+pub record WritesOutput (changes : Changes) (wanted : Wanted) (met : Bool) (given_before given taken_before taken : List ℕ) : Type 0 where
   pub input : List ℕ
   pub text : List ℕ
   pub given_is : given ≡ given_before ++ input
-  pub told : IsOutputFor overrides wanted input met text
+  pub told : IsOutputFor changes wanted input met text
   pub taken_is : taken ≡ taken_before ++ text

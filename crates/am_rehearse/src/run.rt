@@ -92,10 +92,10 @@ struct Rendered {
 
 /// Reads a rehearsal from the source, in JSON or YAML, plays it and writes its output to the sink: on `Ok` and on
 /// `Unmet`, once and whole, the output that is asked for, of what a rehearsal plays to (`PlaysTo`). It is `Ok` where
-/// every expectation of it is met, and `Unmet` where one isn't. Output, start, end, maintenance and expectations are
-/// those of the value that the input is read as, which is that of a JSON text where it is one, or those of `changes`;
-/// but for the labels in an expectation's sets. Of the configuration, the alerts, silences and outages it isn't said
-/// that they are the input's.
+/// every expectation of it is met, and `Unmet` where one isn't. Configuration, alerts, silences, outages, output, start,
+/// end, maintenance and expectations are those of the value that the input is read as, which is that of a JSON text
+/// where it is one, or those of `changes`; but for the labels in an expectation's sets. Of a configuration of
+/// Alertmanager it isn't said that it is the one that its file tells.
 ///
 /// An input is refused as `NotRead` only where it is no JSON text; it was read whole before.
 ///
@@ -125,9 +125,9 @@ pub fn run_rehearsal<S: Source, Z: ZoneFiles, K: Sink, W: Watch>(
     ensures ended_unmet { IfErr result (λ fault.
         fault ≡ RehearseFault.Unmet → S.ended source.new ≡ S.ended source.old + 1) }
     ensures met { OnOk result
-        (WritesOutput changes.entry.overrides wanted.now true (S.given source.old) (S.given source.new) (K.taken sink.old) (K.taken sink.new)) }
+        (WritesOutput changes.entry wanted.now true (S.given source.old) (S.given source.new) (K.taken sink.old) (K.taken sink.new)) }
     ensures unmet { IfErr result (λ fault. fault ≡ RehearseFault.Unmet →
-        WritesOutput changes.entry.overrides wanted.now false (S.given source.old) (S.given source.new) (K.taken sink.old) (K.taken sink.new)) }
+        WritesOutput changes.entry wanted.now false (S.given source.old) (S.given source.new) (K.taken sink.old) (K.taken sink.new)) }
     ensures refused { IfErr result (λ fault. status_of fault ≡ 2 → (input : List ℕ) × Refuses input fault
         × (S.given source.new ≡ S.given source.old ++ input)
         × (S.ended source.new ≡ S.ended source.old + 1)) }
@@ -182,7 +182,7 @@ fn render<Z: ZoneFiles, W: Watch>(
     watch: &mut W,
     ignored: &mut IgnoredSettings,
 ) -> Result<Rendered, RehearseFault>
-    ensures told { IfOk result (λ rendered. IsOutputFor changes.entry.overrides wanted.now input.now rendered.is_met (string_bytes rendered.text)) }
+    ensures told { IfOk result (λ rendered. IsOutputFor changes.entry wanted.now input.now rendered.is_met (string_bytes rendered.text)) }
     ensures refused { IfErr result (Refuses input.now) }
 {
     let value = read_document(alloc, input)?;

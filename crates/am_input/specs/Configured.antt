@@ -1,0 +1,48 @@
+-- Configured: under which configuration a story is played.
+use Rattle.std.specs.Prelude.{◌≡◌, ◌||◌, Option, Some, None, codes, is_some, option_map, if◌then◌else◌, IsSomeAnd, MatchOption}
+use Rattle.std.specs.List.{list_any}
+use Rattle.serde_json.specs.Data.{Data, Members}
+use Rattle.serde_json.specs.Find.{as_object, get, get_member, pointer}
+use Rattle.serde_json.specs.View.{view}
+use Rattle.am_cli.specs.Configured.{DecodesToConfig}
+use Rattle.am_cli.specs.Decoding.{Has, HasNone}
+use Rattle.am_cli.specs.declared.reader.Dialect.{Dialect}
+use Rattle.am_cli.specs.declared.reader.Dialect.TheVariants.{Strict}
+use Rattle.am_input.specs.declared.form.Form.{Form}
+use Rattle.am_input.specs.declared.form.Form.TheVariants.{Story, Own, Alertmanager}
+use Rattle.am_input.specs.declared.form.TheConstants.{OF_OUR_OWN, OF_STORIES}
+use Rattle.am_input.specs.declared.input.Changes.{Changes}
+use Rattle.am_model.specs.Config.{config_fault}
+use Rattle.am_model.specs.declared.config.Config.{Config}
+
+-- what a file is, by the fields that it has
+abbrev pub form_in : Data → Form
+form_in value =
+    if list_any (λ name. is_some (get name.now value)) OF_STORIES then Story
+    else (if is_some (pointer (codes "/receivers/0/integrations") value) || list_any (λ name. is_some (get name.now value)) OF_OUR_OWN
+    then Own else Alertmanager)
+
+-- a configuration that was read of Alertmanager's has no fault. Whether it is the one that its JSON tells isn't said
+abbrev pub IsReadOfTheirs : Data → Config → Type 0
+IsReadOfTheirs value config = config_fault config ≡ None
+
+-- the configuration in a story: that of `config`, or else Alertmanager's, beside which there is no `config`
+abbrev pub IsConfigIn : Dialect → Members → Config → Type 0
+IsConfigIn dialect members config = MatchOption (get_member (codes "alertmanager") members)
+    (Has (DecodesToConfig dialect) (codes "config") members config)
+    (λ value. HasNone (codes "config") members × IsReadOfTheirs value config)
+
+-- the configuration in a file of a form
+abbrev pub IsConfigOf : Form → Data → Config → Type 0
+IsConfigOf Story value config = IsSomeAnd (as_object value) (λ members. IsConfigIn Strict members config)
+IsConfigOf Own value config = DecodesToConfig Strict value config
+IsConfigOf Alertmanager value config = IsReadOfTheirs value config
+
+-- the configuration of a story, or of a file that the command line gives in its place
+abbrev pub IsConfigFor : Option Data → Dialect → Members → Config → Type 0
+IsConfigFor None dialect members config = IsConfigIn dialect members config
+IsConfigFor (Some file) _ _ config = IsConfigOf (form_in file) file config
+
+-- the file that stands in place of a story's configuration, if there is one
+abbrev pub file_in : Changes → Option Data
+file_in changes = option_map (λ value. view value.now) changes.config

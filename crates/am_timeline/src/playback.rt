@@ -68,6 +68,20 @@ impl<'s> Playback<'s> {
         Playback::new(self.log, events)
     }
 
+    /// Returns the logbook.
+    pub fn logbook(&self) -> &'s Logbook<'s>
+        ensures { result.now ≡ record { config = self.now.config; history = self.now.history; begins = self.now.begins } }
+    {
+        self.log
+    }
+
+    /// Returns the events.
+    pub fn events(&self) -> &'s [Event]
+        ensures { result.now ≡ self.now.events }
+    {
+        self.events
+    }
+
     /// Returns when the log entry of an integration expired whose lack the flush that began at a place found, in milliseconds,
     /// if there was one.
     pub(crate) fn expired(&self, place: usize, integration: usize) -> Option<u64>

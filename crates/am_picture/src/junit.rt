@@ -1,6 +1,7 @@
 //! The report on expectations for CI, as JUnit's XML. `am_rehearse` writes it.
 ghost use Rattle.std.specs.Prelude.{◌≡◌, ◌++◌, IfOk, OnOk, option_copied, string_bytes};
-ghost use Rattle.am_picture.specs.Junit.{case_name, case_text, cases_text, failure_text, junit_text, name_escaped, outcome_text, suite_head};
+ghost use Rattle.am_picture.specs.Junit.{case_name, case_text, cases_text, failure_text, junit_text};
+ghost use Rattle.am_picture.specs.Junit.{name_escaped, outcome_text, suite_head};
 
 use crate::escape::push_escaped;
 use am_alerts::text::Text;

@@ -144,8 +144,8 @@ outcome_text Starved config times s = failed_text config times s (codes " starve
 -- why a notice was sent, and the alerts that it has
 abbrev pub content_text : TimeFormatData → Option ℕ → Reason → NoticeData → List ℕ
 content_text times expiry reason n =
-    codes ": " ++ sent_reason_text times expiry reason ++ alerts_text (codes "; firing ") n.firing ++ alerts_text (codes "; resolved ") n.resolved
-    ++ codes "\n"
+    codes ": " ++ sent_reason_text times expiry reason ++ alerts_text (codes "; firing ") n.firing
+    ++ alerts_text (codes "; resolved ") n.resolved ++ codes "\n"
 
 -- when the log entry expired whose lack a notice found, if it had
 abbrev pub expiry_before : PlaybackData → SentData → Option ℕ

@@ -1,7 +1,7 @@
 //! The parts of lines. The modules of lines call it.
 ghost use Rattle.std.specs.Prelude.{◌≡◌, ◌++◌, OnOk, string_bytes};
-ghost use Rattle.am_timeline.specs.Timeline.{attempts_text, expired_text, expiry_if_first, time_text, reason_text, reason_words, repeat_text};
-ghost use Rattle.am_timeline.specs.Timeline.{retries_text, sent_reason_text};
+ghost use Rattle.am_timeline.specs.Timeline.{attempts_text, expired_text, expiry_if_first, time_text, reason_text, reason_words};
+ghost use Rattle.am_timeline.specs.Timeline.{repeat_text, retries_text, sent_reason_text};
 
 use crate::clock::{TimeFormat, push_column, push_number};
 use am_board::reason::Reason;

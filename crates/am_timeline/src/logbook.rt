@@ -45,7 +45,8 @@ impl<'s> Model for Logbook<'s> {
         } };
 
     ghost invariant = { λ l. (place integration : ℕ)
-        → get same_flush_key l.expiries (record { place = place; integration = integration }) ≡ expired l.config.now l.history.now place integration };
+        → get same_flush_key l.expiries (record { place = place; integration = integration })
+        ≡ expired l.config.now l.history.now place integration };
 }
 
 impl<'s> Logbook<'s> {

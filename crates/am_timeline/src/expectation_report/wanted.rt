@@ -1,9 +1,9 @@
 //! What is expected, as text. `expectation_report` calls it.
 ghost use Rattle.std.specs.Prelude.{◌≡◌, ◌++◌, OnOk, codes, option_copied, string_bytes};
 ghost use Rattle.std.specs.List.{flat_map, join_by};
-ghost use Rattle.am_timeline.specs.ExpectationReport.{about_text, amount_text, exact_text, expected_line, has_text, kind_of, kind_text, listed_text};
-ghost use Rattle.am_timeline.specs.ExpectationReport.{matcher_shown, matchers_text, notices_wanted, operator_shown, reason_part, sets_text, span_text};
-ghost use Rattle.am_timeline.specs.ExpectationReport.{wanted_reason_text, wanted_text};
+ghost use Rattle.am_timeline.specs.ExpectationReport.{about_text, amount_text, exact_text, expected_line, has_text, kind_of, kind_text};
+ghost use Rattle.am_timeline.specs.ExpectationReport.{listed_text, matcher_shown, matchers_text, notices_wanted, operator_shown};
+ghost use Rattle.am_timeline.specs.ExpectationReport.{reason_part, sets_text, span_text, wanted_reason_text, wanted_text};
 ghost use Rattle.am_timeline.specs.Shown.{set_shown};
 
 use crate::clock::{TimeFormat, push_number};

@@ -1,5 +1,6 @@
 //! Log entries that had expired when flushes began. `logbook` keeps a table of them.
-ghost use Rattle.std.specs.Prelude.{◌≡◌, ◌∷◌, ◌*◌, min, ◌&&◌, ◌==◌, ℕ, IfOk, None, OnOk, if◌then◌else◌, length, nat_lt, option_and_then, option_copied};
+ghost use Rattle.std.specs.Prelude.{◌≡◌, ◌∷◌, ◌*◌, min, ◌&&◌, ◌==◌, ℕ, IfOk, None, OnOk, if◌then◌else◌};
+ghost use Rattle.std.specs.Prelude.{length, nat_lt, option_and_then, option_copied};
 ghost use Rattle.std.specs.HashMap.{get};
 ghost use Rattle.std.specs.Option.{option_or};
 ghost use Rattle.am_model.specs.Configured.{expiry_at, route_of};
@@ -30,7 +31,8 @@ pub fn expired_entries(
     history: &[Record],
 ) -> Result<HashMap<FlushKey, u64>, AllocError>
     ensures { IfOk result (λ table. (place integration : ℕ)
-        → get same_flush_key table (record { place = place; integration = integration }) ≡ expired config.now history.now place integration) }
+        → get same_flush_key table (record { place = place; integration = integration })
+        ≡ expired config.now history.now place integration) }
 {
     let mut log = empty_log(alloc);
     let mut table = HashMap::new(alloc);

@@ -1,5 +1,6 @@
 //! `Log`: what is kept of a history while its expired log entries are found. `logbook` makes one.
-ghost use Rattle.std.specs.Prelude.{◌≡◌, ◌∷◌, ◌&&◌, ◌||◌, ◌==◌, [], ℕ, IfOk, OnOk, Some, not, if◌then◌else◌, max, min, nat_eq, option_copied};
+ghost use Rattle.std.specs.Prelude.{◌≡◌, ◌∷◌, ◌&&◌, ◌||◌, ◌==◌, [], ℕ, IfOk, OnOk, Some, not, if◌then◌else◌};
+ghost use Rattle.std.specs.Prelude.{max, min, nat_eq, option_copied};
 ghost use Rattle.std.specs.HashMap.{get};
 ghost use Rattle.std.specs.HashSet.{contains};
 ghost use Rattle.am_alerts.specs.declared.limits.TheConstants.{MAX_MOMENT};
@@ -125,7 +126,8 @@ fn add_begun<'h>(added: &'h Record, begun: &mut HashMap<u64, Begun<'h>>) -> Resu
 
 /// Adds what a call notes, if it does.
 fn add_noted(call: &Call, noted: &mut HashSet<NoteKey>) -> Result<(), AllocError>
-    ensures { OnOk result ((number integration : ℕ) → contains same_note_key noted.new (record { number = number; integration = integration })
+    ensures { OnOk result ((number integration : ℕ)
+        → contains same_note_key noted.new (record { number = number; integration = integration })
         ≡ (is_note number integration call.now
         || contains same_note_key noted.old (record { number = number; integration = integration }))) }
 {
@@ -154,9 +156,8 @@ fn add_logged(
 ) -> Result<(), AllocError>
     ensures { OnOk result ((name : named.GroupName) (integration : ℕ)
         → get same_log_key logged.new (record { group = name; integration = integration })
-        ≡ (if logs_by (λ k. get nat_eq begun.now k) (λ k i. contains same_note_key noted.now (record { number = k; integration = i })) name
-        integration call.now
-        then Some moment else get same_log_key logged.old (record { group = name; integration = integration }))) }
+        ≡ (if logs_by (λ k. get nat_eq begun.now k) (λ k i. contains same_note_key noted.now (record { number = k; integration = i }))
+        name integration call.now then Some moment else get same_log_key logged.old (record { group = name; integration = integration }))) }
 {
     match call {
         Call::Finish {
@@ -239,8 +240,8 @@ fn log_finish(
 ) -> Result<(), AllocError>
     ensures { OnOk result ((name : named.GroupName) (i : ℕ)
         → get same_log_key logged.new (record { group = name; integration = i })
-        ≡ (if finish_logs (λ k. contains same_note_key noted.now (record { number = number; integration = k })) outcomes.now name i flush.now
-        then Some moment else get same_log_key logged.old (record { group = name; integration = i }))) }
+        ≡ (if finish_logs (λ k. contains same_note_key noted.now (record { number = number; integration = k })) outcomes.now name i
+        flush.now then Some moment else get same_log_key logged.old (record { group = name; integration = i }))) }
 {
     match &flush.reply {
         Reply::Flush { group, notices, .. } => log_notices(
@@ -289,8 +290,8 @@ fn is_new_success(
     outcomes: &[(u32, Outcome)],
     notice: &Notice,
 ) -> bool
-    ensures { result ≡ (has_success (λ k. contains same_note_key noted.now (record { number = number; integration = k })) outcomes.now notice.now
-        && not (contains same_note_key noted.now (record { number = number; integration = notice.now.integration }))) }
+    ensures { result ≡ (has_success (λ k. contains same_note_key noted.now (record { number = number; integration = k })) outcomes.now
+        notice.now && not (contains same_note_key noted.now (record { number = number; integration = notice.now.integration }))) }
 {
     let key = NoteKey {
         number,

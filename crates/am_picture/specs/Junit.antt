@@ -7,11 +7,14 @@ use Rattle.am_timeline.specs.Playback.{PlaybackData}
 use Rattle.am_timeline.specs.TimeFormatData.{TimeFormatData}
 use Rattle.am_picture.specs.Escaped.{escaped}
 
+-- how many cases a suite has, and how many of them fail
+unfoldable pub suite_counts : ℕ → ℕ → List ℕ
+suite_counts cases failures = decimal cases ++ codes "\" failures=\"" ++ decimal failures ++ codes "\">\n"
+
 -- the start of a suite of so many cases, of which so many fail
-unfoldable pub suite_head : ℕ → ℕ → List ℕ
+abbrev pub suite_head : ℕ → ℕ → List ℕ
 suite_head cases failures =
-    codes "<?xml version=\"1.0\" encoding=\"UTF-8\"?>\n<testsuite name=\"am-rehearse\" tests=\"" ++ decimal cases
-    ++ codes "\" failures=\"" ++ decimal failures ++ codes "\">\n"
+    codes "<?xml version=\"1.0\" encoding=\"UTF-8\"?>\n<testsuite name=\"am-rehearse\" tests=\"" ++ suite_counts cases failures
 
 -- a name; nothing where there is none
 abbrev pub name_escaped : Option (List ℕ) → List ℕ

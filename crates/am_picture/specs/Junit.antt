@@ -7,11 +7,18 @@ use Rattle.am_timeline.specs.Playback.{PlaybackData}
 use Rattle.am_timeline.specs.TimeFormatData.{TimeFormatData}
 use Rattle.am_picture.specs.Escaped.{escaped}
 
+-- how many cases of a suite fail
+abbrev pub failures_text : ℕ → List ℕ
+failures_text failures = codes "\" failures=\"" ++ decimal failures ++ codes "\">\n"
+
+-- how many cases a suite has, and how many of them fail
+abbrev pub suite_counts : ℕ → ℕ → List ℕ
+suite_counts cases failures = decimal cases ++ failures_text failures
+
 -- the start of a suite of so many cases, of which so many fail
-unfoldable pub suite_head : ℕ → ℕ → List ℕ
+abbrev pub suite_head : ℕ → ℕ → List ℕ
 suite_head cases failures =
-    codes "<?xml version=\"1.0\" encoding=\"UTF-8\"?>\n<testsuite name=\"am-rehearse\" tests=\"" ++ decimal cases
-    ++ codes "\" failures=\"" ++ decimal failures ++ codes "\">\n"
+    codes "<?xml version=\"1.0\" encoding=\"UTF-8\"?>\n<testsuite name=\"am-rehearse\" tests=\"" ++ suite_counts cases failures
 
 -- a name; nothing where there is none
 abbrev pub name_escaped : Option (List ℕ) → List ℕ
@@ -22,10 +29,13 @@ name_escaped (Some name) = codes ": " ++ escaped name
 unfoldable pub case_name : ℕ → Expectation → List ℕ
 case_name number x = codes "expect " ++ decimal number ++ name_escaped x.name
 
+-- a failure with a text
+abbrev pub failure_with : List ℕ → List ℕ
+failure_with text = codes "><failure message=\"not met\">\n" ++ escaped text ++ codes "</failure></testcase>\n"
+
 -- what was expected, and what came
 unfoldable pub failure_text : PlaybackData → TimeFormatData → Expectation → List ℕ
-failure_text playback times x =
-    codes "><failure message=\"not met\">\n" ++ escaped (answer_text playback times x) ++ codes "</failure></testcase>\n"
+failure_text playback times x = failure_with (answer_text playback times x)
 
 -- the end of a case: its failure, if the expectation isn't met
 abbrev pub outcome_text : PlaybackData → TimeFormatData → Expectation → List ℕ

@@ -1,7 +1,8 @@
 //! The report on expectations for CI, as JUnit's XML. `am_rehearse` writes it.
 ghost use Rattle.std.specs.Prelude.{◌≡◌, ◌++◌, IfOk, OnOk, option_copied, string_bytes};
-ghost use Rattle.am_picture.specs.Junit.{case_name, case_text, cases_text, failure_text, junit_text};
-ghost use Rattle.am_picture.specs.Junit.{name_escaped, outcome_text, suite_head};
+ghost use Rattle.am_picture.specs.Junit.{case_name, case_text, cases_text, failure_text, failure_with, failures_text, junit_text};
+ghost use Rattle.am_picture.specs.Junit.{name_escaped, outcome_text, suite_counts, suite_head};
+ghost use Rattle.am_timeline.specs.ExpectationReport.{answer_text};
 
 use crate::escape::push_escaped;
 use am_alerts::text::Text;
@@ -32,14 +33,25 @@ pub fn junit_text<C: TimeFormat>(
 }
 
 /// Adds the start of a suite, with the number of its cases and of those that fail.
-#[tactic(auto, unfolding(crate::specs::Junit::suite_head))]
 fn push_head(cases: usize, failures: usize, out: &mut String) -> Result<(), AllocError>
     ensures { OnOk result (string_bytes out.new ≡ string_bytes out.old ++ suite_head cases failures) }
 {
     out.push_str(
         "<?xml version=\"1.0\" encoding=\"UTF-8\"?>\n<testsuite name=\"am-rehearse\" tests=\"",
     )?;
+    push_counts(cases, failures, out)
+}
+
+fn push_counts(cases: usize, failures: usize, out: &mut String) -> Result<(), AllocError>
+    ensures { OnOk result (string_bytes out.new ≡ string_bytes out.old ++ suite_counts cases failures) }
+{
     push_number(cases as u64, out)?;
+    push_failures(failures, out)
+}
+
+fn push_failures(failures: usize, out: &mut String) -> Result<(), AllocError>
+    ensures { OnOk result (string_bytes out.new ≡ string_bytes out.old ++ failures_text failures) }
+{
     out.push_str("\" failures=\"")?;
     push_number(failures as u64, out)?;
     out.push_str("\">\n")
@@ -133,9 +145,28 @@ fn push_failure<C: TimeFormat>(
     ensures { OnOk result (string_bytes out.new
         ≡ string_bytes out.old ++ failure_text playback.now (C.times clock.now) expectation.now) }
 {
+    let answer = answer_of(alloc, playback, clock, expectation)?;
+    push_failure_with(answer.as_str(), out)
+}
+
+fn push_failure_with(text: &str, out: &mut String) -> Result<(), AllocError>
+    ensures { OnOk result (string_bytes out.new ≡ string_bytes out.old ++ failure_with text.now) }
+{
+    out.push_str("><failure message=\"not met\">\n")?;
+    push_escaped(text, out)?;
+    out.push_str("</failure></testcase>\n")
+}
+
+/// Returns what was expected, and the notices that came.
+fn answer_of<C: TimeFormat>(
+    alloc: Global,
+    playback: &Playback,
+    clock: &C,
+    expectation: &Expectation,
+) -> Result<String, AllocError>
+    ensures { IfOk result (λ text. string_bytes text ≡ answer_text playback.now (C.times clock.now) expectation.now) }
+{
     let mut answer = String::new(alloc);
     push_answer(alloc, playback, clock, expectation, &mut answer)?;
-    out.push_str("><failure message=\"not met\">\n")?;
-    push_escaped(answer.as_str(), out)?;
-    out.push_str("</failure></testcase>\n")
+    Ok(answer)
 }

@@ -2,3 +2,5 @@
 pub mod Content
 -- what is escaped of a text from one of its characters on
 pub mod Escaping
+-- a text to which two more are added, one after the other
+pub mod Appended

@@ -54,7 +54,8 @@ fn push_failures(failures: usize, out: &mut String) -> Result<(), AllocError>
 {
     out.push_str("\" failures=\"")?;
     push_number(failures as u64, out)?;
-    out.push_str("\">\n")
+    out.push_str("\">\n")?;
+    Ok(())
 }
 
 fn push_cases<C: TimeFormat>(
@@ -154,7 +155,8 @@ fn push_failure_with(text: &str, out: &mut String) -> Result<(), AllocError>
 {
     out.push_str("><failure message=\"not met\">\n")?;
     push_escaped(text, out)?;
-    out.push_str("</failure></testcase>\n")
+    out.push_str("</failure></testcase>\n")?;
+    Ok(())
 }
 
 /// Returns what was expected, and the notices that came.

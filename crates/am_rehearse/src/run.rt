@@ -1,6 +1,6 @@
 //! The run of a rehearsal: reads the whole input, runs it, writes the output. `main` calls it.
 ghost use Rattle.std.specs.Prelude.{◌≡◌, ◌≢◌, ◌≤◌, ◌<◌, ◌+◌, ◌++◌, ◌⊎◌, ◌↔◌, List, ℕ, Some, false, true, length, string_bytes, vec_len};
-ghost use Rattle.std.specs.Prelude.{IfErr, IfOk, OnOk, option_and_then};
+ghost use Rattle.std.specs.Prelude.{IfErr, IfOk, OnOk, option_and_then, if◌then◌else◌};
 ghost use Rattle.std.specs.List.{list_all, range_with_len};
 ghost use Rattle.am_cli.specs.declared.transfer.TheConstants.{MAX_INPUT};
 ghost use Rattle.am_rehearsal.specs.EventOrder.{begin_indices};
@@ -10,7 +10,8 @@ ghost use Rattle.am_rehearsal.specs.declared.limits.TheConstants.{BOARD_ID};
 ghost use Rattle.am_input.specs.Request.{times_from};
 ghost use Rattle.am_rehearse.specs.Faults.{Refuses, status_of};
 ghost use Rattle.am_model.specs.Replay.{IsLegal};
-ghost use Rattle.am_rehearse.specs.Printed.{WritesOutput, IsPrinted, IsOutputOf, IsOutputOfRun, IsOutputFor, expectations_section, playback_with, selected, summary};
+ghost use Rattle.am_rehearse.specs.Printed.{WritesOutput, IsPrinted, IsOutputOf, IsOutputOfRun, IsOutputFor, expectations_section, summary};
+ghost use Rattle.am_timeline.specs.Changed.{changed};
 ghost use Rattle.am_timeline.specs.Expectation.{is_met};
 ghost use Rattle.am_timeline.specs.Runs.{short_timeline_text};
 ghost use Rattle.am_timeline.specs.Table.{table_text};
@@ -274,8 +275,10 @@ fn render_by<C: TimeFormat>(
 {
     let log = logbook_of(alloc, played)?;
     let playback = Playback::new(&log, played.events.as_slice());
-    let kept = selected_events(alloc, &playback, clock, wanted)?;
-    let shown = playback.with_events(kept.as_slice());
+    let of_filter = filtered_events(alloc, &playback, &wanted.filter)?;
+    let filtered = playback.with_events(of_filter.as_slice());
+    let kept = wanted_events(alloc, &filtered, clock, wanted)?;
+    let shown = filtered.with_events(kept.as_slice());
     let text = printed(alloc, &shown, &playback, clock, expectations, output)?;
     let is_met = are_met(alloc, &playback, expectations)?;
     let judgement = judge(alloc, &playback, clock, expectations, wanted)?;
@@ -303,21 +306,22 @@ pub(crate) fn logbook_of(alloc: Global, played: &Played) -> Result<Logbook<'_>, 
     )
 }
 
-/// The events of a playback whose lines are wanted.
-fn selected_events<C: TimeFormat>(
+/// The events of a playback whose lines are wanted: all, or those that say something new.
+fn wanted_events<C: TimeFormat>(
     alloc: Global,
-    playback: &Playback<'_>,
+    filtered: &Playback<'_>,
     clock: &C,
     wanted: &Wanted,
 ) -> Result<Vec<Event>, AllocError>
-    ensures { IfOk result (λ events. record playback.now { events = events.items } ≡ selected wanted.now playback.now (C.times clock.now)) }
+    ensures { IfOk result (λ events. record filtered.now { events = events.items }
+        ≡ (if wanted.now.changes then changed filtered.now (C.times clock.now) else filtered.now)) }
 {
-    let filtered = filtered_events(alloc, playback, &wanted.filter)?;
-    if !wanted.changes {
-        return Ok(filtered);
+    if wanted.changes {
+        return changed_events(alloc, filtered, clock);
     }
-    let narrowed = playback.with_events(filtered.as_slice());
-    changed_events(alloc, &narrowed, clock)
+    let mut events = Vec::new(alloc);
+    events.extend_from_slice(filtered.events())?;
+    Ok(events)
 }
 
 /// What became of the expectations, besides the output.

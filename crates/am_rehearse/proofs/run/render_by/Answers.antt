@@ -1,5 +1,6 @@
-use Rattle.std.proofs.Common.{◌≡◌, ◌∙◌, ℕ, ap, if◌then◌else◌}
+use Rattle.std.proofs.Common.{◌≡◌, ◌∙◌, ℕ, List, ap, if◌then◌else◌}
 use Rattle.std.specs.List.{range_with_len}
+use Rattle.am_rehearsal.specs.declared.event.Event.{Event}
 use Rattle.am_timeline.specs.Changed.{changed}
 use Rattle.am_timeline.specs.Filtered.{filtered}
 use Rattle.am_timeline.specs.Playback.{PlaybackData}
@@ -17,11 +18,18 @@ returns g c =
     let narrowed = c.with_events-filtered.result in
     let shown = c.with_events-shown.result in
     let is_playback : playback ≡ playback_with played.board played.events.items begins =
-    cc (c.new-playback.ensures, c.in_ok-log.ensures.logbook, c.as_slice-playback.ensures.value) in
+    c.new-playback.ensures
+    ∙ (λ i. record {
+        config = (c.in_ok-log.ensures.logbook i).config;
+        history = (c.in_ok-log.ensures.logbook i).history;
+        begins = (c.in_ok-log.ensures.logbook i).begins;
+        events = c.as_slice.ensures.value i;
+      }) in
     let is_narrowed : narrowed ≡ filtered playback wanted.filter =
-    cc (c.with_events-filtered.ensures, c.as_slice-filtered.ensures.value, c.in_ok-of_filter.ensures) in
+    c.with_events-filtered.ensures
+    ∙ ap (λ (events : List Event). record playback { events = events }) (c.as_slice-2.ensures.value ∙ c.in_ok-of_filter.ensures) in
     let is_kept : shown ≡ record narrowed { events = c.in_ok-kept.kept.items } =
-    cc (c.with_events-shown.ensures, c.as_slice-shown.ensures.value) in
+    c.with_events-shown.ensures ∙ ap (λ (events : List Event). record narrowed { events = events }) c.as_slice-3.ensures.value in
     let is_chosen : shown ≡ (if wanted.changes then changed narrowed times else narrowed) = is_kept ∙ c.in_ok-kept.ensures in
     let is_selected : shown ≡ selected wanted playback times =
     is_chosen ∙ ap (λ (s : PlaybackData). if wanted.changes then changed s times else s) is_narrowed in

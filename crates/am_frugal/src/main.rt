@@ -1,13 +1,15 @@
 //! Makes calls that promise to take no memory, and prints each with its answer: those that work on
-//! texts, lists, logs, boards and tickets, and those that are handed an allocator. A call that only hands
-//! out a number or a reference has nothing to ask with, and is left out. The name is written before the
+//! texts, lists, logs, boards, desks and tickets, and those that are handed an allocator. A call that only
+//! hands out a number or a reference has nothing to ask with, and is left out. The name is written before the
 //! call, and the answer after it, so that requests for memory which come between the two writes are the
 //! call's. A few calls that take memory stand among them, as `with memory`: they show that requests are seen.
+//! Calls that a limit refuses stand there as `without memory`: `.ci/frugal` refuses each request that they make.
 #![tactic(auto)]
 
 mod alerts;
 mod board;
 mod delivery;
+mod desk;
 mod labels;
 mod log;
 mod probe;
@@ -19,21 +21,23 @@ mod values;
 use probe::Probe;
 use std::alloc::{AllocError, Global};
 use std::process::ExitCode;
+use std::sync::Wait;
 
 fn main(rt: HostRuntime) -> ExitCode {
     let probe = Probe::new(rt.stdout());
-    match run(&probe, rt.alloc()) {
+    match run(&probe, &rt, rt.alloc()) {
         Ok(()) => ExitCode::SUCCESS,
         Err(_) => ExitCode::from(3),
     }
 }
 
 /// Makes the calls, lowest crates first.
-fn run(probe: &Probe, alloc: Global) -> Result<(), AllocError> {
+fn run<R: Wait>(probe: &Probe, rt: &R, alloc: Global) -> Result<(), AllocError> {
     labels::make_calls(probe, alloc)?;
     alerts::make_calls(probe, alloc)?;
     routes::make_calls(probe, alloc)?;
     silences::make_calls(probe, alloc)?;
     log::make_calls(probe, alloc)?;
-    board::make_calls(probe, alloc)
+    board::make_calls(probe, alloc)?;
+    desk::make_calls(probe, rt, alloc)
 }

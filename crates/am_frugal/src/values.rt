@@ -63,9 +63,11 @@ pub fn rule(alloc: Global) -> Result<InhibitRule, AllocError> {
 
 /// A route to the receiver, which groups by alertname and waits 30s, 5m and 4h.
 pub fn route(alloc: Global, name: &str) -> Result<Route, AllocError> {
+    let name = Text::new(alloc, name)?;
+    let receiver = Text::new(alloc, "team")?;
     Ok(Route {
-        name: Text::new(alloc, name)?,
-        receiver: Text::new(alloc, "team")?,
+        name,
+        receiver,
         group_by: GroupBy::Names(Sequence::from(names(alloc, "alertname")?)),
         group_wait: 30_000,
         group_interval: 300_000,
@@ -75,9 +77,10 @@ pub fn route(alloc: Global, name: &str) -> Result<Route, AllocError> {
 
 /// A child that no label set of this program matches, in a list.
 pub fn children(alloc: Global) -> Result<Vec<Child>, AllocError> {
+    let matchers = matchers(alloc, "alertname", "B")?;
     let child = Child {
         route: route(alloc, "other")?,
-        matchers: Sequence::from(matchers(alloc, "alertname", "B")?),
+        matchers: Sequence::from(matchers),
         goes_on: false,
     };
     listed(alloc, child)
@@ -85,8 +88,8 @@ pub fn children(alloc: Global) -> Result<Vec<Child>, AllocError> {
 
 /// The root with that child.
 fn routes(alloc: Global) -> Result<Routes, AllocError> {
-    let root = route(alloc, "root")?;
-    match Routes::new(root, children(alloc)?) {
+    let children = children(alloc)?;
+    match Routes::new(route(alloc, "root")?, children) {
         Ok(routes) => Ok(routes),
         Err(_) => Err(AllocError),
     }
@@ -114,9 +117,10 @@ fn integrations(alloc: Global) -> Result<Sequence<Integration>, AllocError> {
 
 /// A configuration of these routes and this receiver, without rules.
 pub fn config(alloc: Global) -> Result<Config, AllocError> {
+    let receivers = receivers(alloc)?;
     Ok(Config {
         routes: routes(alloc)?,
-        receivers: receivers(alloc)?,
+        receivers,
         rules: Sequence::empty(alloc),
         retention: 432_000_000,
         limits: Limits::default(),

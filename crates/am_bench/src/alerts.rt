@@ -27,17 +27,21 @@ pub struct Sample {
 impl Sample {
     /// The alert of these numbers, which starts at 0.
     pub fn build(&self, alloc: Global, ends: Option<u64>) -> Result<Alert, Trouble> {
+        let labels = self.labels(alloc)?;
+        Alert::new(labels, 0, ends).map_err(|_| Trouble::BadLine)
+    }
+
+    fn labels(&self, alloc: Global) -> Result<Labels, Trouble> {
         let alertname = format!(in alloc; "A{:04}", self.group)?;
         let instance = instance(alloc, self.instance)?;
         let job = format!(in alloc; "exporter-{:05}", self.number)?;
-        let labels = labels(
+        labels(
             alloc,
             alertname.as_str(),
             instance.as_str(),
             job.as_str(),
             self.severity,
-        )?;
-        Alert::new(labels, 0, ends).map_err(|_| Trouble::BadLine)
+        )
     }
 }
 
@@ -89,24 +93,31 @@ pub fn spread(
     Ok(alerts)
 }
 
-/// Matches the label sets in which this label has this value.
-pub fn matcher(alloc: Global, name: &str, value: &str) -> Result<Vec<Matcher>, Trouble> {
+/// Matches the label sets in which this label has this value, in a list.
+pub fn matchers(alloc: Global, name: &str, value: &str) -> Result<Vec<Matcher>, Trouble> {
+    let matcher = matcher(alloc, name, value)?;
+    Ok(listed(alloc, matcher)?)
+}
+
+fn matcher(alloc: Global, name: &str, value: &str) -> Result<Matcher, Trouble> {
     let parts = MatcherParts {
         name: Text::new(alloc, name)?,
         op: Operator::Equal,
         value: Text::new(alloc, value)?,
     };
-    let mut matchers = Vec::new(alloc);
-    match Matcher::new(alloc, parts) {
-        Ok(matcher) => matchers.push(matcher)?,
-        Err(_) => return Err(Trouble::NoMemory),
-    }
-    Ok(matchers)
+    Matcher::new(alloc, parts).map_err(|_| Trouble::NoMemory)
+}
+
+/// A list of one value.
+pub fn listed<T: Drop>(alloc: Global, value: T) -> Result<Vec<T>, AllocError> {
+    let mut list = Vec::new(alloc);
+    list.push(value)?;
+    Ok(list)
 }
 
 /// The silence of this id, which mutes an instance up to a moment.
 pub fn silence(alloc: Global, id: u64, number: usize, end: u64) -> Result<Silence, Trouble> {
     let value = instance(alloc, number)?;
-    let matchers = matcher(alloc, "instance", value.as_str())?;
+    let matchers = matchers(alloc, "instance", value.as_str())?;
     Silence::new(id, matchers, 0, end).map_err(|_| Trouble::BadLine)
 }

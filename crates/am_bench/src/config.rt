@@ -1,5 +1,5 @@
 //! The configuration of a board.
-use crate::alerts::{CRITICAL, WARNING, matcher};
+use crate::alerts::{CRITICAL, WARNING, listed, matchers};
 use crate::words::Trouble;
 use am_alerts::route::{Child, GroupBy, Route, Routes};
 use am_alerts::sequence::Sequence;
@@ -22,57 +22,59 @@ const LONG: u64 = 1_000_000_000;
 
 /// One route, which groups by alertname and cluster, and one receiver with one integration.
 pub fn plain(alloc: Global) -> Result<Config, Trouble> {
-    let root = route(alloc, "root", WAIT)?;
-    config(alloc, root, Vec::new(alloc), Vec::new(alloc))
+    let receivers = receivers(alloc)?;
+    let routes = routes(alloc, Vec::new(alloc))?;
+    Ok(config(routes, receivers, Vec::new(alloc)))
 }
 
 /// The same, with a rule by which critical alerts inhibit warnings of their cluster and instance, and
 /// with a route by which critical alerts aren't flushed.
 pub fn inhibiting(alloc: Global) -> Result<Config, Trouble> {
-    let mut children = Vec::new(alloc);
-    children.push(critical(alloc)?)?;
-    let mut rules = Vec::new(alloc);
-    rules.push(rule(alloc)?)?;
-    config(alloc, route(alloc, "root", WAIT)?, children, rules)
+    let receivers = receivers(alloc)?;
+    let rules = rules(alloc)?;
+    let routes = routes(alloc, critical(alloc)?)?;
+    Ok(config(routes, receivers, rules))
 }
 
-fn config(
-    alloc: Global,
-    root: Route,
-    children: Vec<Child>,
-    rules: Vec<InhibitRule>,
-) -> Result<Config, Trouble> {
-    let Ok(routes) = Routes::new(root, children) else {
-        return Err(Trouble::BadLine);
-    };
-    Ok(Config {
+/// The root with these children.
+fn routes(alloc: Global, children: Vec<Child>) -> Result<Routes, Trouble> {
+    let root = route(alloc, "root", WAIT)?;
+    Routes::new(root, children).map_err(|_| Trouble::BadLine)
+}
+
+fn config(routes: Routes, receivers: Sequence<Receiver>, rules: Vec<InhibitRule>) -> Config {
+    Config {
         routes,
-        receivers: receivers(alloc)?,
+        receivers,
         rules: Sequence::from(rules),
         retention: 432_000_000,
         limits: Limits::default(),
-    })
+    }
 }
 
 fn receivers(alloc: Global) -> Result<Sequence<Receiver>, AllocError> {
-    let mut integrations = Vec::new(alloc);
-    integrations.push(Integration {
+    let receiver = Receiver {
+        name: Text::new(alloc, "team")?,
+        integrations: integrations(alloc)?,
+    };
+    Ok(Sequence::from(listed(alloc, receiver)?))
+}
+
+fn integrations(alloc: Global) -> Result<Sequence<Integration>, AllocError> {
+    let integration = Integration {
         kind: Text::new(alloc, "hook")?,
         send_resolved: true,
-    })?;
-    let mut receivers = Vec::new(alloc);
-    receivers.push(Receiver {
-        name: Text::new(alloc, "team")?,
-        integrations: Sequence::from(integrations),
-    })?;
-    Ok(Sequence::from(receivers))
+    };
+    Ok(Sequence::from(listed(alloc, integration)?))
 }
 
 fn route(alloc: Global, name: &str, group_wait: u64) -> Result<Route, AllocError> {
+    let name = Text::new(alloc, name)?;
+    let receiver = Text::new(alloc, "team")?;
     let grouping = names(alloc, &["alertname", "cluster"])?;
     Ok(Route {
-        name: Text::new(alloc, name)?,
-        receiver: Text::new(alloc, "team")?,
+        name,
+        receiver,
         group_by: GroupBy::Names(Sequence::from(grouping)),
         group_wait,
         group_interval: INTERVAL,
@@ -80,17 +82,26 @@ fn route(alloc: Global, name: &str, group_wait: u64) -> Result<Route, AllocError
     })
 }
 
-fn critical(alloc: Global) -> Result<Child, Trouble> {
-    Ok(Child {
+/// The route of critical alerts, in a list.
+fn critical(alloc: Global) -> Result<Vec<Child>, Trouble> {
+    let matchers = matchers(alloc, "severity", CRITICAL)?;
+    let child = Child {
         route: route(alloc, "critical", LONG)?,
-        matchers: Sequence::from(matcher(alloc, "severity", CRITICAL)?),
+        matchers: Sequence::from(matchers),
         goes_on: false,
-    })
+    };
+    Ok(listed(alloc, child)?)
+}
+
+/// The rule, in a list.
+fn rules(alloc: Global) -> Result<Vec<InhibitRule>, Trouble> {
+    let rule = rule(alloc)?;
+    Ok(listed(alloc, rule)?)
 }
 
 fn rule(alloc: Global) -> Result<InhibitRule, Trouble> {
-    let source = matcher(alloc, "severity", CRITICAL)?;
-    let target = matcher(alloc, "severity", WARNING)?;
+    let source = matchers(alloc, "severity", CRITICAL)?;
+    let target = matchers(alloc, "severity", WARNING)?;
     let equal = names(alloc, &["cluster", "instance"])?;
     InhibitRule::new(source, target, equal).map_err(|_| Trouble::BadLine)
 }

@@ -5,6 +5,7 @@ use crate::desk::Desk;
 use crate::piece::{FIRST, SECOND, THIRD, flush, insert};
 use crate::watch::Watch;
 use crate::words::Trouble;
+use am_board::record::Maintained;
 use std::alloc::Global;
 use std::rt::Clock;
 use std::time::CpuClock;
@@ -74,6 +75,10 @@ fn collect(
     let watch = Watch::start(rt);
     let maintained = desk.maintain(alloc, EXPIRED)?;
     watch.stop(rt, "maintenance", groups);
+    tell_maintained(rt, maintained)
+}
+
+fn tell_maintained(rt: &impl Print, maintained: Maintained) -> Result<(), Trouble> {
     let (groups, entries) = (maintained.groups, maintained.entries);
     println!(rt; "maintenance: groups {groups}, rows {entries}")?;
     Ok(())

@@ -31,14 +31,20 @@ pub fn run_line(
     let name = words.word();
     let first = words.size()?;
     let second = words.size()?;
-    println!(rt; "{line}")?;
-    eprintln!(rt; "{line}")?;
+    tell_line(rt, line)?;
     match name {
         "flushes" => run_flushes(rt, alloc, first, second),
         "inhibition" => run_inhibition(rt, alloc, first, second),
         "silences" => run_silences(rt, alloc, first, second, words.size()?),
         _ => Err(Trouble::BadLine),
     }
+}
+
+/// Writes a line to the standard output and error.
+fn tell_line(rt: &(impl Print + Eprint), line: &str) -> Result<(), Trouble> {
+    println!(rt; "{line}")?;
+    eprintln!(rt; "{line}")?;
+    Ok(())
 }
 
 /// Inserts alerts at a moment.
@@ -54,6 +60,10 @@ pub fn insert(
     let watch = Watch::start(rt);
     let made = desk.insert_all(alloc, now, alerts)?;
     watch.stop(rt, step, count);
+    tell_made(rt, step, count, made)
+}
+
+fn tell_made(rt: &impl Print, step: &str, count: usize, made: usize) -> Result<(), Trouble> {
     println!(rt; "{step}: accepted {count}, groups made {made}")?;
     Ok(())
 }
@@ -70,8 +80,13 @@ pub fn flush(
     let watch = Watch::start(rt);
     let tally = desk.flush_all(alloc, now)?;
     watch.stop(rt, step, alerts);
-    println!(rt; "{step}: {tally}")?;
+    tell_tally(rt, step, &tally)?;
     Ok(tally)
+}
+
+fn tell_tally(rt: &impl Print, step: &str, tally: &Tally) -> Result<(), Trouble> {
+    println!(rt; "{step}: {tally}")?;
+    Ok(())
 }
 
 /// Tells how many of these alerts are muted: at their first flush nobody was told of them.

@@ -1,5 +1,5 @@
 //! Alerts beside silences.
-use crate::alerts::{silence, spread};
+use crate::alerts::{listed, silence, spread};
 use crate::config::plain;
 use crate::desk::Desk;
 use crate::piece::{FIRST, SECOND, THIRD, flush, insert, tell_muted};
@@ -67,6 +67,15 @@ fn mute(
     let watch = Watch::start(rt);
     let replaced = desk.silence_all(alloc, 0, silences)?;
     watch.stop(rt, step, count);
+    tell_replaced(rt, step, count, replaced)
+}
+
+fn tell_replaced(
+    rt: &impl Print,
+    step: &str,
+    count: usize,
+    replaced: usize,
+) -> Result<(), Trouble> {
     println!(rt; "{step}: accepted {count}, replaced {replaced}")?;
     Ok(())
 }
@@ -82,7 +91,6 @@ fn build_silences(alloc: Global, count: usize) -> Result<Vec<Silence>, Trouble> 
 
 /// The first silence, as one that has ended.
 fn build_changed(alloc: Global) -> Result<Vec<Silence>, Trouble> {
-    let mut silences = Vec::new(alloc);
-    silences.push(silence(alloc, 0, 0, SECOND)?)?;
-    Ok(silences)
+    let changed = silence(alloc, 0, 0, SECOND)?;
+    Ok(listed(alloc, changed)?)
 }

@@ -32,9 +32,13 @@ impl Watch {
         if let (Some(started), Some(ended)) = (self.started, ended) {
             let wall = each(ended.wall.duration_since(started.wall), count);
             let processor = each(ended.processor.saturating_sub(started.processor), count);
-            let _ = eprintln!(rt; "{step}: {count}, each {wall} ns, of a processor {processor} ns");
+            tell(rt, step, count, wall, processor);
         }
     }
+}
+
+fn tell(rt: &impl Eprint, step: &str, count: usize, wall: u128, processor: u128) {
+    let _ = eprintln!(rt; "{step}: {count}, each {wall} ns, of a processor {processor} ns");
 }
 
 fn look(clock: &(impl Clock + CpuClock)) -> Option<Moment> {

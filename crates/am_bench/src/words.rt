@@ -52,7 +52,7 @@ impl From<io::Error> for Trouble {
 }
 
 /// The words of a line that are left.
-#[derive(Drop)]
+#[derive(Clone, Copy)]
 pub struct Words<'a> {
     rest: &'a str,
 }

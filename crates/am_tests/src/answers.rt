@@ -5,57 +5,74 @@ use am_alerts::alert::Alert;
 use am_alerts::labels::Labels;
 use am_board::board::Board;
 use am_board::preview::{MutedAlert, Preview};
-use am_board::record::Call;
+use am_board::record::{Call, Record};
+use am_board::views::{GroupView, RowView, Summary};
 use am_mute::mute::MuteCause;
 use am_retry::Outcome;
 use std::alloc::{AllocError, Global};
 
 /// The text of an answer.
 pub fn answer(alloc: Global, stage: &Stage, told: Answer) -> Result<String, AllocError> {
+    let mut text = String::new(alloc);
+    push_answer(&mut text, alloc, stage, told)?;
+    Ok(text)
+}
+
+fn push_answer(
+    text: &mut String,
+    alloc: Global,
+    stage: &Stage,
+    told: Answer,
+) -> Result<(), AllocError> {
     match told {
-        Answer::Kept => String::from_str(alloc, "kept"),
-        Answer::Opened => String::from_str(alloc, "opened"),
-        Answer::BadConfig(fault) => format!(in alloc; "{fault:?}"),
+        Answer::Kept => text.push_str("kept"),
+        Answer::Opened => text.push_str("opened"),
+        Answer::BadConfig(fault) => write!(text, "{fault:?}"),
         Answer::Inserted(told) => {
             let (stamp, groups, made) = (told.stamp, told.groups, told.made);
-            format!(in alloc; "stamp {stamp}, groups {groups}, made {made}")
+            write!(text, "stamp {stamp}, groups {groups}, made {made}")
         }
-        Answer::Filled(count) => format!(in alloc; "{count} accepted"),
+        Answer::Filled(count) => write!(text, "{count} accepted"),
         Answer::Silenced(told) => {
             let replaced = told.replaced;
-            format!(in alloc; "replaced {replaced}")
+            write!(text, "replaced {replaced}")
         }
         Answer::Maintained(told) => {
             let (groups, entries) = (told.groups, told.entries);
-            format!(in alloc; "groups {groups}, entries {entries}")
+            write!(text, "groups {groups}, entries {entries}")
         }
         Answer::Finished(told) => {
             let (logged, removed) = (told.logged, told.removed);
-            format!(in alloc; "logged {logged}, removed {removed}")
+            write!(text, "logged {logged}, removed {removed}")
         }
-        Answer::Foreign(records) => format!(in alloc; "Foreign, {records} record there"),
-        Answer::Refused(fault) => format!(in alloc; "{fault:?}"),
-        Answer::Unnoted(fault) => format!(in alloc; "{fault:?}"),
-        Answer::Unrecorded(fault) => format!(in alloc; "{fault:?}"),
-        _ => of_flush(alloc, stage, told),
+        Answer::Foreign(records) => write!(text, "Foreign, {records} record there"),
+        Answer::Refused(fault) => write!(text, "{fault:?}"),
+        Answer::Unnoted(fault) => write!(text, "{fault:?}"),
+        Answer::Unrecorded(fault) => write!(text, "{fault:?}"),
+        _ => push_of_flush(text, alloc, stage, told),
     }
 }
 
 /// The text of an answer on flushes and tickets, or of a look.
-fn of_flush(alloc: Global, stage: &Stage, told: Answer) -> Result<String, AllocError> {
+fn push_of_flush(
+    text: &mut String,
+    alloc: Global,
+    stage: &Stage,
+    told: Answer,
+) -> Result<(), AllocError> {
     match told {
-        Answer::NothingDue => String::from_str(alloc, "nothing due"),
-        Answer::Quiet(removed) => format!(in alloc; "quiet, removed {removed}"),
-        Answer::Flush(place) => opened(alloc, stage.tickets().get(place)),
-        Answer::Outcomes(place) => outcomes(alloc, stage.tickets().get(place)),
-        Answer::Recorded => String::from_str(alloc, "recorded"),
-        Answer::Noted => String::from_str(alloc, "noted"),
-        Answer::NotOpen => String::from_str(alloc, "NotOpen"),
-        Answer::Preview(now) => preview(alloc, stage.board(), now),
-        Answer::Rows => rows(alloc, stage.board()),
-        Answer::Groups => groups(alloc, stage.board()),
-        Answer::Summary => summary(alloc, stage.board()),
-        _ => history(alloc, stage.board()),
+        Answer::NothingDue => text.push_str("nothing due"),
+        Answer::Quiet(removed) => write!(text, "quiet, removed {removed}"),
+        Answer::Flush(place) => push_opened(text, stage.tickets().get(place)),
+        Answer::Outcomes(place) => push_outcomes(text, stage.tickets().get(place)),
+        Answer::Recorded => text.push_str("recorded"),
+        Answer::Noted => text.push_str("noted"),
+        Answer::NotOpen => text.push_str("NotOpen"),
+        Answer::Preview(now) => push_preview(text, alloc, stage.board(), now),
+        Answer::Rows => push_rows(text, alloc, stage.board()),
+        Answer::Groups => push_groups(text, alloc, stage.board()),
+        Answer::Summary => push_summary(text, &stage.board().summary()),
+        _ => push_history(text, stage.board().history()),
     }
 }
 
@@ -75,27 +92,26 @@ pub fn look(alloc: Global, board: &Board) -> Result<String, AllocError> {
 }
 
 /// A flush that was opened: its number and deadline, and its notices.
-fn opened(alloc: Global, own: Option<&OwnTicket>) -> Result<String, AllocError> {
+fn push_opened(text: &mut String, own: Option<&OwnTicket>) -> Result<(), AllocError> {
     let Some(own) = own else {
-        return Ok(String::new(alloc));
+        return Ok(());
     };
     let (number, deadline) = (own.number(), own.deadline());
-    let mut text = format!(in alloc; "flush {number} until {deadline}")?;
+    write!(text, "flush {number} until {deadline}")?;
     for notice in own.notices() {
         let integration = notice.integration;
         write!(text, ", {integration} firing")?;
-        push_alerts(&mut text, notice.firing.as_slice())?;
+        push_alerts(text, notice.firing.as_slice())?;
         text.push_str(" resolved")?;
-        push_alerts(&mut text, notice.resolved.as_slice())?;
+        push_alerts(text, notice.resolved.as_slice())?;
     }
-    Ok(text)
+    Ok(())
 }
 
 /// What was recorded for each notice of a ticket.
-fn outcomes(alloc: Global, own: Option<&OwnTicket>) -> Result<String, AllocError> {
-    let mut text = String::new(alloc);
+fn push_outcomes(text: &mut String, own: Option<&OwnTicket>) -> Result<(), AllocError> {
     let Some(own) = own else {
-        return Ok(text);
+        return Ok(());
     };
     for place in 0..own.notices().len() {
         if place > 0 {
@@ -103,7 +119,7 @@ fn outcomes(alloc: Global, own: Option<&OwnTicket>) -> Result<String, AllocError
         }
         text.push_str(outcome_text(own.outcome(place)))?;
     }
-    Ok(text)
+    Ok(())
 }
 
 fn outcome_text(outcome: Option<Outcome>) -> &'static str {
@@ -164,26 +180,31 @@ fn push_labels(text: &mut String, labels: &Labels) -> Result<(), AllocError> {
 }
 
 /// What a begin at a moment is to do.
-fn preview(alloc: Global, board: &Board, now: u64) -> Result<String, AllocError> {
+fn push_preview(
+    text: &mut String,
+    alloc: Global,
+    board: &Board,
+    now: u64,
+) -> Result<(), AllocError> {
     match board.preview(alloc, now)? {
-        None => String::from_str(alloc, "nothing due"),
-        Some(preview) => on_group(alloc, &preview),
+        None => text.push_str("nothing due"),
+        Some(preview) => push_on_group(text, &preview),
     }
 }
 
 /// The moment of a begin, its group, each alert that is muted, and the reason of each integration.
-fn on_group(alloc: Global, preview: &Preview) -> Result<String, AllocError> {
+fn push_on_group(text: &mut String, preview: &Preview) -> Result<(), AllocError> {
     let (moment, route) = (preview.moment, preview.group.route);
-    let mut text = format!(in alloc; "at {moment} {route}:")?;
-    push_labels(&mut text, &preview.group.labels)?;
+    write!(text, "at {moment} {route}:")?;
+    push_labels(text, &preview.group.labels)?;
     for muted in preview.muted.as_slice() {
-        push_muted(&mut text, muted)?;
+        push_muted(text, muted)?;
     }
     text.push_str(":")?;
     for reason in preview.reasons.as_slice() {
         write!(text, " {reason:?}")?;
     }
-    Ok(text)
+    Ok(())
 }
 
 fn push_muted(text: &mut String, muted: &MutedAlert) -> Result<(), AllocError> {
@@ -199,49 +220,59 @@ fn push_muted(text: &mut String, muted: &MutedAlert) -> Result<(), AllocError> {
 }
 
 /// The rows of the log: group, integration, moment, expiry, firing and resolved label sets.
-fn rows(alloc: Global, board: &Board) -> Result<String, AllocError> {
-    let mut text = String::from_str(alloc, "rows")?;
-    for row in board.rows(alloc)? {
-        text.push_str(" ")?;
-        push_labels(&mut text, &row.group.labels)?;
-        let (integration, moment, expiry) = (row.integration, row.moment, row.expiry);
-        write!(text, "/{integration} at {moment} until {expiry} firing")?;
-        push_sets(&mut text, row.firing.as_slice())?;
-        text.push_str(" resolved")?;
-        push_sets(&mut text, row.resolved.as_slice())?;
-        text.push_str(";")?;
+fn push_rows(text: &mut String, alloc: Global, board: &Board) -> Result<(), AllocError> {
+    text.push_str("rows")?;
+    let rows = board.rows(alloc)?;
+    for row in rows.as_slice() {
+        push_row(text, row)?;
     }
-    Ok(text)
+    Ok(())
+}
+
+fn push_row(text: &mut String, row: &RowView) -> Result<(), AllocError> {
+    text.push_str(" ")?;
+    push_labels(text, &row.group.labels)?;
+    let (integration, moment, expiry) = (row.integration, row.moment, row.expiry);
+    write!(text, "/{integration} at {moment} until {expiry} firing")?;
+    push_sets(text, row.firing.as_slice())?;
+    text.push_str(" resolved")?;
+    push_sets(text, row.resolved.as_slice())?;
+    text.push_str(";")
 }
 
 /// The groups: route, labels, due moment, whether flushed, and alerts.
-fn groups(alloc: Global, board: &Board) -> Result<String, AllocError> {
-    let mut text = String::from_str(alloc, "groups")?;
-    for view in board.groups(alloc)? {
-        let (route, due) = (view.group.route, view.due);
-        write!(text, " {route}:")?;
-        push_labels(&mut text, &view.group.labels)?;
-        let state = if view.flushed { "flushed" } else { "new" };
-        write!(text, " due {due} {state}")?;
-        push_alerts(&mut text, view.alerts.as_slice())?;
-        text.push_str(";")?;
+fn push_groups(text: &mut String, alloc: Global, board: &Board) -> Result<(), AllocError> {
+    text.push_str("groups")?;
+    let groups = board.groups(alloc)?;
+    for view in groups.as_slice() {
+        push_group(text, view)?;
     }
-    Ok(text)
+    Ok(())
 }
 
-fn summary(alloc: Global, board: &Board) -> Result<String, AllocError> {
-    let s = board.summary();
+fn push_group(text: &mut String, view: &GroupView) -> Result<(), AllocError> {
+    let (route, due) = (view.group.route, view.due);
+    write!(text, " {route}:")?;
+    push_labels(text, &view.group.labels)?;
+    let state = if view.flushed { "flushed" } else { "new" };
+    write!(text, " due {due} {state}")?;
+    push_alerts(text, view.alerts.as_slice())?;
+    text.push_str(";")
+}
+
+fn push_summary(text: &mut String, s: &Summary) -> Result<(), AllocError> {
     let (calls, groups, alerts) = (s.calls, s.groups, s.alerts);
     let (flushes, entries) = (s.flushes, s.entries);
-    format!(in alloc;
+    write!(
+        text,
         "calls {calls}, groups {groups}, alerts {alerts}, flushes {flushes}, entries {entries}"
     )
 }
 
-/// The calls of the history, by name.
-fn history(alloc: Global, board: &Board) -> Result<String, AllocError> {
-    let mut text = String::from_str(alloc, "history")?;
-    for record in board.history() {
+/// The calls of a history, by name.
+fn push_history(text: &mut String, history: &[Record]) -> Result<(), AllocError> {
+    text.push_str("history")?;
+    for record in history {
         text.push_str(match &record.call {
             Call::Insert { .. } => " insert",
             Call::Silence { .. } => " silence",
@@ -251,5 +282,5 @@ fn history(alloc: Global, board: &Board) -> Result<String, AllocError> {
             Call::Maintain { .. } => " maintain",
         })?;
     }
-    Ok(text)
+    Ok(())
 }

@@ -1,5 +1,5 @@
 //! The configuration of a desk, read from the lines of a script.
-use crate::values::read_matchers;
+use crate::values::{listed, read_matchers, read_names};
 use crate::words::{Trouble, Words};
 use am_alerts::route::{Child, GroupBy, Route, Routes};
 use am_alerts::sequence::Sequence;
@@ -30,10 +30,8 @@ pub fn read_config(alloc: Global, lines: &[String], integrations: &str) -> Resul
 
 impl Setup {
     fn base(alloc: Global) -> Result<Setup, AllocError> {
-        let mut grouping = Vec::new(alloc);
-        grouping.push(Text::new(alloc, "alertname")?)?;
         Ok(Setup {
-            grouping,
+            grouping: read_names(alloc, "alertname")?,
             children: Vec::new(alloc),
             rules: Vec::new(alloc),
             retention: 432_000_000,
@@ -76,6 +74,7 @@ impl Setup {
     }
 
     fn into_config(self, alloc: Global, integrations: &str) -> Result<Config, Trouble> {
+        let receivers = receivers(alloc, integrations)?;
         let Setup {
             grouping,
             children,
@@ -83,23 +82,32 @@ impl Setup {
             retention,
             limits,
         } = self;
-        let root = route(alloc, "root", grouping)?;
-        let Ok(routes) = Routes::new(root, children) else {
-            return Err(Trouble::BadLine);
-        };
-        let mut receivers = Vec::new(alloc);
-        receivers.push(Receiver {
-            name: Text::new(alloc, "team")?,
-            integrations: Sequence::from(read_integrations(alloc, integrations)?),
-        })?;
         Ok(Config {
-            routes,
-            receivers: Sequence::from(receivers),
+            routes: routes(alloc, grouping, children)?,
+            receivers,
             rules: Sequence::from(rules),
             retention,
             limits,
         })
     }
+}
+
+/// The root, which groups by these names, with its children.
+fn routes(alloc: Global, grouping: Vec<Text>, children: Vec<Child>) -> Result<Routes, Trouble> {
+    let root = route(alloc, "root", grouping)?;
+    match Routes::new(root, children) {
+        Ok(routes) => Ok(routes),
+        Err(_) => Err(Trouble::BadLine),
+    }
+}
+
+/// The one receiver, with integrations of these kinds.
+fn receivers(alloc: Global, kinds: &str) -> Result<Sequence<Receiver>, AllocError> {
+    let receiver = Receiver {
+        name: Text::new(alloc, "team")?,
+        integrations: read_integrations(alloc, kinds)?,
+    };
+    Ok(Sequence::from(listed(alloc, receiver)?))
 }
 
 /// A route of this name to the receiver.
@@ -116,39 +124,42 @@ fn route(alloc: Global, name: &str, grouping: Vec<Text>) -> Result<Route, AllocE
 
 fn read_child(alloc: Global, words: &mut Words<'_>) -> Result<Child, Trouble> {
     let name = words.word()?;
-    let matchers = read_matchers(alloc, words.word()?)?;
-    let mut grouping = Vec::new(alloc);
-    grouping.push(Text::new(alloc, "alertname")?)?;
+    let matcher = words.word()?;
+    let matchers = read_matchers(alloc, matcher)?;
     Ok(Child {
-        route: route(alloc, name, grouping)?,
+        route: route(alloc, name, read_names(alloc, "alertname")?)?,
         matchers: Sequence::from(matchers),
         goes_on: words.next().is_some(),
     })
 }
 
 fn read_rule(alloc: Global, words: &mut Words<'_>) -> Result<InhibitRule, Trouble> {
-    let source = read_matchers(alloc, words.word()?)?;
-    let target = read_matchers(alloc, words.word()?)?;
-    let mut equal = Vec::new(alloc);
-    equal.push(Text::new(alloc, words.word()?)?)?;
-    match InhibitRule::new(source, target, equal) {
+    let (source, target, equal) = (words.word()?, words.word()?, words.word()?);
+    let source = read_matchers(alloc, source)?;
+    let target = read_matchers(alloc, target)?;
+    match InhibitRule::new(source, target, read_names(alloc, equal)?) {
         Ok(rule) => Ok(rule),
         Err(_) => Err(Trouble::BadLine),
     }
 }
 
 /// The kinds of the integrations; `hook=firing` isn't sent resolved alerts.
-fn read_integrations(alloc: Global, kinds: &str) -> Result<Vec<Integration>, AllocError> {
+fn read_integrations(alloc: Global, kinds: &str) -> Result<Sequence<Integration>, AllocError> {
     let mut integrations = Vec::new(alloc);
     for word in kinds.split_whitespace() {
-        let (kind, send_resolved) = match word.split_once('=') {
-            None => (word, true),
-            Some((kind, _)) => (kind, false),
-        };
-        integrations.push(Integration {
-            kind: Text::new(alloc, kind)?,
-            send_resolved,
-        })?;
+        let integration = read_integration(alloc, word)?;
+        integrations.push(integration)?;
     }
-    Ok(integrations)
+    Ok(Sequence::from(integrations))
+}
+
+fn read_integration(alloc: Global, word: &str) -> Result<Integration, AllocError> {
+    let (kind, send_resolved) = match word.split_once('=') {
+        None => (word, true),
+        Some((kind, _)) => (kind, false),
+    };
+    Ok(Integration {
+        kind: Text::new(alloc, kind)?,
+        send_resolved,
+    })
 }

@@ -55,15 +55,14 @@ pub enum Answer {
 impl Stage {
     /// A stage with a desk of the configuration that no line changes.
     pub fn new(alloc: Global) -> Result<Stage, Trouble> {
-        let setup = Vec::new(alloc);
-        let config = read_config(alloc, setup.as_slice(), "hook")?;
+        let config = read_config(alloc, &[], "hook")?;
         let Ok(desk) = Desk::open(alloc, config) else {
             return Err(Trouble::NoMemory);
         };
         Ok(Stage {
             desk,
             tickets: Vec::new(alloc),
-            setup,
+            setup: Vec::new(alloc),
         })
     }
 
@@ -299,14 +298,19 @@ fn other(alloc: Global, which: &str) -> Result<Board, Trouble> {
         "namesake" => HOME,
         _ => return Err(Trouble::BadLine),
     };
-    let lines = Vec::new(alloc);
-    let config = read_config(alloc, lines.as_slice(), "hook")?;
-    let Ok(mut board) = Board::new(alloc, config, id) else {
-        return Err(Trouble::NoMemory);
-    };
     let alert = read_alert(alloc, &mut Words::of("A 0"))?;
+    let mut board = blank(alloc, id)?;
     match board.insert(alloc, 0, 0, alert) {
         Ok(_) => Ok(board),
+        Err(_) => Err(Trouble::NoMemory),
+    }
+}
+
+/// A board of this id and of the configuration that no line changes.
+fn blank(alloc: Global, id: u64) -> Result<Board, Trouble> {
+    let config = read_config(alloc, &[], "hook")?;
+    match Board::new(alloc, config, id) {
+        Ok(board) => Ok(board),
         Err(_) => Err(Trouble::NoMemory),
     }
 }

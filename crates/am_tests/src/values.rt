@@ -6,7 +6,7 @@ use am_alerts::matcher::{Matcher, MatcherFault, MatcherParts, Operator};
 use am_alerts::text::Text;
 use am_mute::silence::Silence;
 use am_retry::Outcome;
-use std::alloc::Global;
+use std::alloc::{AllocError, Global};
 
 /// The name and the value of a label: `dc=x`, or `A` for `alertname=A`.
 pub fn read_pair(word: &str) -> (&str, &str) {
@@ -17,7 +17,7 @@ pub fn read_pair(word: &str) -> (&str, &str) {
 }
 
 /// A label set: pairs joined by commas, as `A,inst=1`.
-pub fn read_labels(alloc: Global, word: &str) -> Result<Labels, Trouble> {
+fn read_labels(alloc: Global, word: &str) -> Result<Labels, Trouble> {
     let mut pairs = Vec::new(alloc);
     for pair in word.split(',') {
         pairs.push(read_pair(pair))?;
@@ -31,23 +31,23 @@ pub fn read_labels(alloc: Global, word: &str) -> Result<Labels, Trouble> {
 
 /// An alert: its labels, its start, and its end if it has one.
 pub fn read_alert(alloc: Global, words: &mut Words<'_>) -> Result<Alert, Trouble> {
-    let labels = read_labels(alloc, words.word()?)?;
+    let set = words.word()?;
     let starts = words.number()?;
-    let ends = match words.next() {
-        None => None,
-        Some(word) => match word.parse::<u64>() {
-            Ok(end) => Some(end),
-            Err(_) => return Err(Trouble::BadLine),
-        },
-    };
-    match Alert::new(labels, starts, ends) {
+    let ends = words.last_number()?;
+    match Alert::new(read_labels(alloc, set)?, starts, ends) {
         Ok(alert) => Ok(alert),
         Err(_) => Err(Trouble::BadLine),
     }
 }
 
-/// The matcher of one label and its value, in a list; a value that begins with `~` is a pattern.
+/// The matcher of one label and its value, in a list.
 pub fn read_matchers(alloc: Global, word: &str) -> Result<Vec<Matcher>, Trouble> {
+    let matcher = read_matcher(alloc, word)?;
+    Ok(listed(alloc, matcher)?)
+}
+
+/// A matcher; a value that begins with `~` is a pattern.
+fn read_matcher(alloc: Global, word: &str) -> Result<Matcher, Trouble> {
     let (name, value) = read_pair(word);
     let (op, value) = match value.strip_prefix('~') {
         None => (Operator::Equal, value),
@@ -58,22 +58,33 @@ pub fn read_matchers(alloc: Global, word: &str) -> Result<Vec<Matcher>, Trouble>
         op,
         value: Text::new(alloc, value)?,
     };
-    let mut matchers = Vec::new(alloc);
     match Matcher::new(alloc, parts) {
-        Ok(matcher) => matchers.push(matcher)?,
-        Err(MatcherFault::NoMemory) => return Err(Trouble::NoMemory),
-        Err(_) => return Err(Trouble::BadLine),
+        Ok(matcher) => Ok(matcher),
+        Err(MatcherFault::NoMemory) => Err(Trouble::NoMemory),
+        Err(_) => Err(Trouble::BadLine),
     }
-    Ok(matchers)
+}
+
+/// The text of a word, in a list.
+pub fn read_names(alloc: Global, word: &str) -> Result<Vec<Text>, AllocError> {
+    let text = Text::new(alloc, word)?;
+    listed(alloc, text)
+}
+
+/// A list of one value.
+pub fn listed<T: Drop>(alloc: Global, value: T) -> Result<Vec<T>, AllocError> {
+    let mut list = Vec::new(alloc);
+    list.push(value)?;
+    Ok(list)
 }
 
 /// A silence: its id, its matcher, its start and its end.
 pub fn read_silence(alloc: Global, words: &mut Words<'_>) -> Result<Silence, Trouble> {
     let id = words.number()?;
-    let matchers = read_matchers(alloc, words.word()?)?;
+    let matcher = words.word()?;
     let start = words.number()?;
     let end = words.number()?;
-    match Silence::new(id, matchers, start, end) {
+    match Silence::new(id, read_matchers(alloc, matcher)?, start, end) {
         Ok(silence) => Ok(silence),
         Err(_) => Err(Trouble::BadLine),
     }

@@ -23,7 +23,7 @@ impl<T: Drop> From<AllocFailed<T>> for Trouble {
 }
 
 /// The words of a line that are left.
-#[derive(Drop)]
+#[derive(Clone, Copy)]
 pub struct Words<'a> {
     rest: &'a str,
 }
@@ -67,6 +67,15 @@ impl<'a> Words<'a> {
         match self.word()?.parse::<u64>() {
             Ok(number) => Ok(number),
             Err(_) => Err(Trouble::BadLine),
+        }
+    }
+
+    /// The last word, as a number, if there is one.
+    pub fn last_number(&mut self) -> Result<Option<u64>, Trouble> {
+        if self.rest.is_empty() {
+            Ok(None)
+        } else {
+            Ok(Some(self.number()?))
         }
     }
 

@@ -113,7 +113,7 @@ fn selecting<'a>(alloc: Global, play: Command<'a>) -> Result<Command<'a>, AllocE
     let changes = Arg::new(alloc, "changes")
         .long("changes")
         .action(ArgAction::SetTrue)
-        .help("Prints only the lines that differ from the flush before of their group");
+        .help("Leaves out a flush whose lines are all those of the flush before of its group");
     play.arg(receiver)?.arg(group)?.arg(alert)?.arg(changes)
 }
 

@@ -40,7 +40,7 @@ pub struct Selection<'a> {
     pub group: Option<&'a str>,
     /// Matchers. One alert of their groups matches all of them.
     pub alerts: Vec<&'a str>,
-    /// Whether they differ from the flush before of their group.
+    /// Whether a flush is left out whose lines are all those of the flush before of its group.
     pub changes: bool,
 }
 

@@ -95,8 +95,8 @@ struct Rendered {
 /// `Unmet`, once and whole, the output that is asked for, of what a rehearsal plays to (`PlaysTo`). It is `Ok` where
 /// every expectation of it is met, and `Unmet` where one isn't. Configuration, alerts, silences, outages, output, start,
 /// end, maintenance and expectations are those of the value that the input is read as, which is that of a JSON text
-/// where it is one, or those of `changes`; but for the labels in an expectation's sets. Of a configuration of
-/// Alertmanager it isn't said that it is the one that its file tells.
+/// where it is one, or those of `changes`. Of a configuration of Alertmanager it isn't said that it is the one that its
+/// file tells.
 ///
 /// An input is refused as `NotRead` only where it is no JSON text; it was read whole before.
 ///

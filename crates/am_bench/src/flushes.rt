@@ -21,7 +21,9 @@ pub fn run_flushes(
     groups: usize,
 ) -> Result<(), Trouble> {
     let mut desk = Desk::open(alloc, plain(alloc)?)?;
-    run_steps(rt, alloc, &mut desk, alerts, groups)
+    let ran = run_steps(rt, alloc, &mut desk, alerts, groups);
+    desk.close();
+    ran
 }
 
 fn run_steps(

@@ -20,7 +20,9 @@ pub fn run_inhibition(
     targets: usize,
 ) -> Result<(), Trouble> {
     let mut desk = Desk::open(alloc, inhibiting(alloc)?)?;
-    run_steps(rt, alloc, &mut desk, sources, targets)
+    let ran = run_steps(rt, alloc, &mut desk, sources, targets);
+    desk.close();
+    ran
 }
 
 fn run_steps(

@@ -22,7 +22,9 @@ pub fn run_silences(
     groups: usize,
 ) -> Result<(), Trouble> {
     let mut desk = Desk::open(alloc, plain(alloc)?)?;
-    run_steps(rt, alloc, &mut desk, silences, alerts, groups)
+    let ran = run_steps(rt, alloc, &mut desk, silences, alerts, groups);
+    desk.close();
+    ran
 }
 
 fn run_steps(

@@ -120,7 +120,16 @@ impl Desk {
             Err(FinishFault::Foreign(_ticket)) => unreachable!(),
         }
     }
+
+    /// Drops the board.
+    pub fn close(self) {
+        let Desk { board } = self;
+        discard(board);
+    }
 }
+
+/// Drops a board. All boards end with this call, so that a board's drop is proved once.
+pub fn discard(_board: Board) {}
 
 /// Notes a notice of a ticket at any board.
 pub fn note_at(

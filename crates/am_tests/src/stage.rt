@@ -1,5 +1,7 @@
 //! The calls of a script, one after the other, on one desk.
-use crate::desk::{ABROAD, Desk, Elsewhere, Ending, HOME, OwnBegun, OwnTicket, finish_at, note_at};
+use crate::desk::{
+    ABROAD, Desk, Elsewhere, Ending, HOME, OwnBegun, OwnTicket, discard, finish_at, note_at,
+};
 use crate::setup::read_config;
 use crate::values::{read_alert, read_outcome, read_silence};
 use crate::words::{Trouble, Words};
@@ -115,7 +117,7 @@ impl Stage {
         match Desk::open(alloc, config) {
             Ok(desk) => {
                 finish_all(&mut self.desk, replace(&mut self.tickets, Vec::new(alloc)));
-                self.desk = desk;
+                replace(&mut self.desk, desk).close();
                 self.setup.clear();
                 Ok(Answer::Opened)
             }
@@ -217,7 +219,12 @@ impl Stage {
         };
         let noted = match words.next() {
             None => self.desk.note(alloc, own, place, now),
-            Some(which) => note_at(alloc, &mut other(alloc, which)?, own, place, now),
+            Some(which) => {
+                let mut board = other(alloc, which)?;
+                let noted = note_at(alloc, &mut board, own, place, now);
+                discard(board);
+                noted
+            }
         };
         Ok(match noted {
             Ok(_) => Answer::Noted,
@@ -234,7 +241,9 @@ impl Stage {
             None => self.finish_here(i, now),
             Some(which) => {
                 let mut board = other(alloc, which)?;
-                self.finish_there(&mut board, i, now)
+                let told = self.finish_there(&mut board, i, now);
+                discard(board);
+                told
             }
         }
     }
@@ -279,6 +288,7 @@ impl Stage {
             setup: _,
         } = self;
         finish_all(&mut desk, tickets);
+        desk.close();
     }
 }
 
@@ -302,7 +312,10 @@ fn other(alloc: Global, which: &str) -> Result<Board, Trouble> {
     let mut board = blank(alloc, id)?;
     match board.insert(alloc, 0, 0, alert) {
         Ok(_) => Ok(board),
-        Err(_) => Err(Trouble::NoMemory),
+        Err(_) => {
+            discard(board);
+            Err(Trouble::NoMemory)
+        }
     }
 }
 

@@ -292,10 +292,10 @@ fn render_by<C: TimeFormat>(
 /// The logbook of a rehearsal that was played.
 pub(crate) fn logbook_of(alloc: Global, played: &Played) -> Result<Logbook<'_>, AllocError>
     ensures logbook { IfOk result (λ log. log ≡ record {
-          config = played.now.board.config;
-          history = played.now.board.history;
-          begins = played.now.begins.items;
-        }) }
+      config = played.now.board.config;
+      history = played.now.board.history;
+      begins = played.now.begins.items;
+    }) }
     ensures legal { IfOk result (λ _. IsLegal played.now.board.config played.now.board.id played.now.board.history) }
 {
     Logbook::new(

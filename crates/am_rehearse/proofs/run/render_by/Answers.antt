@@ -20,11 +20,11 @@ returns g c =
     let is_playback : playback ≡ playback_with played.board played.events.items begins =
     c.new-playback.ensures
     ∙ (λ i. record {
-        config = (c.in_ok-log.ensures.logbook i).config;
-        history = (c.in_ok-log.ensures.logbook i).history;
-        begins = (c.in_ok-log.ensures.logbook i).begins;
-        events = c.as_slice.ensures.value i;
-      }) in
+      config = (c.in_ok-log.ensures.logbook i).config;
+      history = (c.in_ok-log.ensures.logbook i).history;
+      begins = (c.in_ok-log.ensures.logbook i).begins;
+      events = c.as_slice.ensures.value i;
+    }) in
     let is_narrowed : narrowed ≡ filtered playback wanted.filter =
     c.with_events-filtered.ensures
     ∙ ap (λ (events : List Event). record playback { events = events }) (c.as_slice-2.ensures.value ∙ c.in_ok-of_filter.ensures) in

@@ -1,5 +1,5 @@
 -- What the main thread's pass has seen of the passes of the lanes.
-use Rattle.std.specs.Prelude.{◌≡◌, ◌<◌, ℕ, All, List, [], ◌++◌, length}
+use Rattle.std.specs.Prelude.{◌≡◌, ◌<◌, ℕ, true, All, List, [], ◌++◌, length}
 use Rattle.std.specs.List.{AllZip}
 use mathlib.Core.List.{IsPrefix}
 use Rattle.am_model.specs.declared.notice.Report.{Report}
@@ -11,6 +11,7 @@ use Rattle.am_desk.specs.declared.word.Terms.{Terms}
 use Rattle.am_pool.specs.declared.courier.Tried.{Tried}
 use Rattle.am_play.specs.Parts.{SplitsByPhase}
 use Rattle.am_play.specs.Steps.{AfterMainSteps, MadeRecords, RunsMainSteps}
+use Rattle.am_play.specs.Turns.{BeginsExhausted}
 use Rattle.am_scenario.specs.declared.scenario.Phase.{Phase}
 
 -- one pass met another (it was p and is q, the other was l and is m): neither made a call, and each has seen what the other had seen
@@ -39,13 +40,15 @@ pub record RanBefore (p q : Seen) (ls ms : List Seen) : Type 0 where
   pub ran : RanConcurrently p joined ls ms
   pub begins : IsPrefix joined.log q.log
 
--- the main thread had its turn in a phase, and the passes of the lanes made their calls between its begins and its notes
+-- the main thread had its turn in a phase; its begins went on until no group was due or as many flushes were open as may be, and the
+-- passes of the lanes made their calls after that and before its notes
 pub record RunsPhase (Answers : Tried → Type 0) (t : Terms) (phase : Phase) (p q : Seen) (ls ms : List Seen)
     (reports reports_since : List Report) : Type 0 where
   pub took : RunsMainSteps Answers t phase p q reports reports_since
   pub begun : Seen
   pub joined : Seen
   pub begins : MadeRecords took.turn.begins p begun
+  pub ended : phase.flush ≡ true → BeginsExhausted t phase.at begun.log took.turn.begins
   pub beside : RanConcurrently begun joined ls ms
   pub ends : MadeRecords (took.turn.notes ++ took.turn.finishes) joined q
 
@@ -60,7 +63,7 @@ pub record AfterPhases (Answers : Tried → Type 0) (t : Terms) (phases : List P
     (reports : List Report) : Type 0 where
   pub main : AfterMainSteps Answers t phases p reports
   pub sees : All (λ l. IsPrefix (own l.number l.log) (own l.number p.log)) ls
-  pub parts : HasNoOtherCalls ls p.log → SplitsByPhase phases main.1.turns p.log
+  pub parts : HasNoOtherCalls ls p.log → SplitsByPhase t phases main.1.turns p.log
 
 -- the main thread's pass has had no turn, the passes of the lanes have made no calls, and there is no report
 abbrev pub BeforePhases : Seen → List Seen → List Report → Type 0

@@ -53,7 +53,7 @@ pub record Begins (t : Terms) (flush more : Bool) (at : ℕ) (p q : Seen) (ts us
   pub made : MadeRecords begins p q
   pub begun : All (λ r. (flush ≡ true) × (r.call ≡ call.Begin at)) begins
   pub found : more ≡ true → All FoundDue begins
-  pub ended : flush ≡ true → more ≡ false → BeginsExhausted t p.number q.log (own p.number p.log) at begins
+  pub ended : flush ≡ true → more ≡ false → BeginsExhausted t at q.log begins
   pub opened : map opened_of us ≡ map opened_of ts ++ opened_by begins
   pub unrecorded : All IsUnrecorded ts → All IsUnrecorded us
 

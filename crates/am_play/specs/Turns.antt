@@ -122,10 +122,9 @@ abbrev pub EndsWithNothingDue : List Record → Type 0
 EndsWithNothingDue begins =
     (found : List Record) × (last : Record) × (begins ≡ found ++ last ∷ []) × All FoundDue found × (last.reply ≡ reply.NothingDue)
 
--- these begins, which a pass made after those records, ended when no group was due, or when as many flushes were open as may be
-abbrev pub BeginsExhausted : Terms → ℕ → List Record → List Record → ℕ → List Record → Type 0
-BeginsExhausted t pass history before at begins =
-    EndsWithNothingDue begins ⊎ (All FoundDue begins × AtSomePrefix pass history (before ++ begins) (FailsTooManyOpen t at))
+-- these begins ended when no group was due, or when as many flushes were open as may be: the history was just this then
+abbrev pub BeginsExhausted : Terms → ℕ → List Record → List Record → Type 0
+BeginsExhausted t at front begins = EndsWithNothingDue begins ⊎ (All FoundDue begins × FailsTooManyOpen t at front)
 
 -- a pass that had made the records before made these then: a record of each of the calls, in their order, but of those for which
 -- there was no room when their turn came
@@ -146,14 +145,13 @@ pub record MainSteps : Type 0 where
 abbrev pub records_in : MainSteps → List Record
 records_in turn = turn.begins ++ turn.notes ++ turn.finishes
 
--- the turn of a phase, of a pass that had made the records before: the begins are at the phase's moment, and go on until no group is
--- due or as many flushes are open as may be; each notice that has something to send has one report, of a sending from that moment on
--- whose tries are answered so; each success is noted, at the end of its sending, but where there was no room; and each flush is
--- finished once, in their order, at the end of the last
+-- the turn of a phase, of a pass that had made the records before: the begins are at the phase's moment; each notice that has
+-- something to send has one report, of a sending from that moment on whose tries are answered so; each success is noted, at the end of
+-- its sending, but where there was no room; and each flush is finished once, in their order, at the end of the last. When the begins
+-- end is said of the part of the phase
 pub record AreMainStepsOf (Answers : Tried → Type 0) (t : Terms) (pass : ℕ) (history before : List Record) (phase : Phase)
     (turn : MainSteps) : Type 0 where
   pub begun : All (IsBeginOf phase) turn.begins
-  pub ended : phase.flush ≡ true → BeginsExhausted t pass history before phase.at turn.begins
   pub sent : AllZip (IsSentFrom Answers phase.at) (to_send (opened_by turn.begins)) turn.reports
   pub noted : AreNotesWithRoom t pass history (before ++ turn.begins)
       (all_notes_due phase.at turn.reports (opened_by turn.begins)) turn.notes

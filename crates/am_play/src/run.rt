@@ -18,7 +18,8 @@
 //!   list. So the history is cut at what the main thread's pass had seen after its begins, when the
 //!   lanes were joined, and when a phase ended.
 //! - The list that the pass had seen by then shows where the begins stop for the open flushes, and
-//!   where a note finds no capacity. The closed history begins with each such list.
+//!   where a note finds no capacity. The closed history begins with each such list. The first has
+//!   just what came before the phase, and its begins.
 ghost use Rattle.std.specs.Prelude.{◌≡◌, ◌≢◌, ◌≤◌, ◌<◌, ◌+◌, ◌++◌, ◌⊎◌, ◌↔◌, All, List, ℕ, length, vec_len};
 ghost use Rattle.std.specs.Prelude.{IfErr, IfOk, None, OnOk, string_bytes};
 ghost use Rattle.am_cli.specs.Read.{IsRefusedBy};
@@ -28,12 +29,13 @@ ghost use Rattle.am_model.specs.Config.{config_fault};
 ghost use Rattle.am_model.specs.Replay.{IsLegal};
 ghost use Rattle.am_play.specs.Faults.{Refuses, status_of};
 ghost use Rattle.am_play.specs.Plays.{IsPlay, IsPlayOf};
+ghost use Rattle.am_play.specs.Runs.{HasRun, IsFresh, IsReportOnRun};
 ghost use Rattle.am_report.specs.Report.{report_text};
 ghost use Rattle.am_scenario.specs.Decoding.{IsScenarioIn};
 ghost use Rattle.am_play.specs.declared.run.TheConstants.{BOARD_ID};
 ghost use Rattle.am_scenario.specs.declared.scenario.TheConstants.{MAX_LANES};
 
-use crate::courier::{Scripts, couriers_for};
+use crate::courier::{Answering, Scripts, couriers_for};
 use crate::fault::RunFault;
 use crate::phase::Run;
 use am_board::config::Config;
@@ -156,14 +158,64 @@ fn play_on<N: Name + Send + Sync, S: Scripts + Send, R: Threads + Wait + Sync>(
         scripts,
         phases,
     } = scenario;
-    let (desk, passes) = open::<N>(alloc, config, blank)?;
+    let mut run = start::<N>(alloc, config, blank)?;
     let mut couriers = couriers_for::<S>(alloc, workers, scripts.as_slice())?;
-    let mut run = Run::new(alloc, desk, passes)?;
+    run_phases(rt, &mut run, couriers.as_mut_slice(), phases)?;
+    report_on_run(alloc, run)
+}
+
+/// A run on a desk of this name, before its first phase.
+fn start<N: Name + Send + Sync>(
+    alloc: Global,
+    config: Config,
+    blank: Blank,
+) -> Result<Run<N>, InputFault>
+    requires { (blank ≡ N.plan) × (terms config blank.id ≡ N.terms) }
+    ensures fresh { IfOk result IsFresh }
+    ensures refused { IfErr result (λ fault. config_fault config ≡ None → IsRefusedBy FaultKind.Full fault) }
+{
+    let (desk, passes) = open::<N>(alloc, config, blank)?;
+    Run::new(alloc, desk, passes)
+}
+
+/// Runs the phases, one after the other, with these couriers for their notices.
+fn run_phases<N: Name + Send + Sync, C: Answering + Send, R: Threads + Wait + Sync>(
+    rt: &R,
+    run: &mut Run<N>,
+    couriers: &mut [C],
+    phases: Vec<Phase>,
+) -> Result<(), InputFault>
+    requires fresh { IsFresh run.old }
+    requires lanes { All (λ p. vec_len p.lanes < N.plan.passes) phases.items }
+    ensures ran { OnOk result (HasRun C.answers N.terms phases.items run.new) }
+    ensures refused { IfErr result (IsRefusedBy FaultKind.Full) }
+{
     for (index, phase) in phases.into_iter().enumerate() {
-        run.run_phase(rt, couriers.as_mut_slice(), index, phase)?;
+        run.run_phase(rt, couriers, index, phase)?;
     }
+    Ok(())
+}
+
+/// Closes the desk of a run, and makes the report on what it did.
+fn report_on_run<N: Name + Send + Sync>(alloc: Global, run: Run<N>) -> Result<String, InputFault>
+    ensures report { IfOk result (λ text. IsReportOnRun N.terms run (string_bytes text)) }
+    ensures refused { IfErr result (IsRefusedBy FaultKind.Full) }
+{
     let (closed, reports) = run.close()?;
-    Ok(report_on(alloc, &closed, reports.as_slice())?)
+    Ok(report_of_closed(alloc, closed, reports)?)
+}
+
+/// The report on what a closed desk did, which is let go.
+fn report_of_closed(
+    alloc: Global,
+    closed: Closed,
+    reports: Vec<Report>,
+) -> Result<String, AllocError>
+    ensures text { IfOk result (λ text.
+        string_bytes text ≡ report_text closed.config reports.items closed.history) }
+    ensures legal { IsLegal closed.config closed.id closed.history }
+{
+    report_on(alloc, &closed, reports.as_slice())
 }
 
 /// The report on what a closed desk did.

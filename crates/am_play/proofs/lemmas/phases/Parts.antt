@@ -19,12 +19,12 @@ use Rattle.am_desk.specs.declared.word.Terms.{Terms}
 use Rattle.am_pool.specs.declared.courier.Tried.{Tried}
 use Rattle.am_play.specs.Interleaving.{BeforePhases, AfterPhases, HasNoOtherCalls, CalledBetween, RunsPhase}
 use Rattle.am_play.specs.Lanes.{calls_at, calls_by, phase_calls}
-use Rattle.am_play.specs.Parts.{SplitsByPhase, AreRecordsOfPhase, PhaseRecords, all_in}
+use Rattle.am_play.specs.Parts.{ArePartsFrom, SplitsByPhase, AreRecordsOfPhase, PhaseRecords, all_in}
 use Rattle.am_play.specs.LaneStates.{HaveMade, MadeCalls, MadeLanes}
-use Rattle.am_play.specs.Turns.{MainSteps, records_in}
+use Rattle.am_play.specs.Turns.{BeginsExhausted, MainSteps, records_in}
 use Rattle.am_scenario.specs.declared.scenario.Lane.{Lane}
 use Rattle.am_scenario.specs.declared.scenario.Phase.{Phase}
-use Rattle.am_play.proofs.lemmas.phases.Turns.{no_turns, turn_more, turns_more, turns_none, zip_push}
+use Rattle.am_play.proofs.lemmas.phases.Turns.{no_turns, turn_more, turns_more, turns_none}
 
 own_here : (k : ℕ) (x : Record) (xs : List Record) → x.pass ≡ k → own k (x ∷ xs) ≡ x ∷ own k xs
 own_here k x xs is = ap (λ (b : Bool). cond b (x ∷ own k xs) (own k xs)) (eq-eqb x.pass k is)
@@ -212,13 +212,13 @@ others_before : (k : ℕ) (ls ms : List Seen) (xs ys : List Record) → length l
 others_before k ls ms xs ys same begins others more = none_before k xs ys begins (others k (omega (arith, same, more)))
 
 -- the part of a phase that is over, and how the list goes on with it
-record PartMade (phase : Phase) (turn : MainSteps) (before since : List Record) : Type 0 where
+record PartMade (desk : Terms) (phase : Phase) (turn : MainSteps) (before since : List Record) : Type 0 where
   beside : List Record
-  is : AreRecordsOfPhase phase (record { turn = turn; beside = beside })
+  is : AreRecordsOfPhase desk before phase (record { turn = turn; beside = beside })
   made : since ≡ before ++ all_in (record { turn = turn; beside = beside })
 
 part_made : (Answers : Tried → Type 0) (desk : Terms) (phases : List Phase) (phase : Phase) (p s : Seen) (ls ms : List Seen) (reports since : List Report)
-    → (o : PartOver Answers desk phases phase p s ls ms reports since) → PartMade phase o.took.took.turn p.log s.log
+    → (o : PartOver Answers desk phases phase p s ls ms reports since) → PartMade desk phase o.took.took.turn p.log s.log
 part_made Answers desk phases phase p s ls ms reports since o =
     let t = o.took in
     let turn = t.took.turn in
@@ -270,6 +270,7 @@ part_made Answers desk phases phase p s ls ms reports since o =
             main =
                 all_end (λ (r : Record). r.pass ≡ 0) (own 0 p.log) (records_in turn)
                 (subst (λ (rs : List Record). All (λ (r : Record). r.pass ≡ 0) rs) mine (own_passes 0 s.log));
+            ended = λ asked. subst (λ (rs : List Record). BeginsExhausted desk phase.at rs turn.begins) begins (t.ended asked);
             others = own_rest 0 begun rest joined between quiet;
             lanes = λ i. lanes_beside 0 i phase phases rest phase.lanes.items ls ms (λ k. ap (slice_get phase.lanes.items) (omega arith)) o.have o.lanes adds none (omega arith);
           };
@@ -285,6 +286,19 @@ flat_more {X} {Y} f xs x front all so_far more =
     more
     ∙ (ap (λ (ys : List Y). ys ++ f x) so_far
     ∙ sym (flat_map-append f xs (x ∷ []) ∙ ap (λ (ys : List Y). flat_map f xs ++ ys) (append-nil (f x))))
+
+-- one part more at the end
+parts_push : (desk : Terms) (before : List Record) (phases : List Phase) (parts : List PhaseRecords) (phase : Phase) (part : PhaseRecords) → ArePartsFrom desk before phases parts
+    → AreRecordsOfPhase desk (before ++ flat_map all_in parts) phase part → ArePartsFrom desk before (phases ++ phase ∷ []) (parts ++ part ∷ [])
+parts_push desk before [] [] phase part are is =
+    (subst (λ (rs : List Record). AreRecordsOfPhase desk rs phase part) (append-nil before) is, tt)
+parts_push desk before [] (x ∷ xs) phase part are is = absurd are
+parts_push desk before (p ∷ ps) [] phase part are is = absurd are
+parts_push desk before (p ∷ ps) (x ∷ xs) phase part are is = (
+  are.0,
+  parts_push desk (before ++ all_in x) ps xs phase part are.1
+      (subst (λ (rs : List Record). AreRecordsOfPhase desk rs phase part) (sym (append_assoc before (all_in x) (flat_map all_in xs))) is),
+)
 
 -- before the phase nobody had more than it had made
 no_more_before : (p s : Seen) (ls ms : List Seen) (begun joined : List Record) → IsPrefix p.log begun → IsPrefix p.log s.log → AllZip (CalledBetween begun joined) ls ms → HasNoOtherCalls ms s.log
@@ -320,7 +334,9 @@ part_more Answers desk phases phase p s ls ms reports since have lanes had t =
             turned =
                 map-append (λ (x : PhaseRecords). x.turn) before.parts (part ∷ [])
                 ∙ (ap (λ (us : List MainSteps). us ++ turn ∷ []) before.turned ∙ sym (turns_more Answers desk phases phase p s reports since had.main t.took));
-            each = zip_push AreRecordsOfPhase phases before.parts phase part before.each one.is;
+            each =
+                parts_push desk [] phases before.parts phase part before.each
+                (subst (λ (rs : List Record). AreRecordsOfPhase desk rs phase part) before.made one.is);
             made = flat_more all_in before.parts part p.log s.log before.made one.made;
           };
     }
@@ -338,7 +354,7 @@ part_next Answers desk phases n m phase p q ls ms reports since next there is ha
 -- a history in which all passes stand, and no other made a call, is made of these parts
 pub parts_stand : (Answers : Tried → Type 0) (desk : Terms) (phases : List Phase) (p : Seen) (ls : List Seen) (reports : List Report) (history : List Record) → HaveMade 0 phases ls
     → (had : AfterPhases Answers desk phases p ls reports) → IsPrefixViewOf p history → All (λ (l : Seen). IsPrefixViewOf l history) ls → ((k : ℕ) → length ls < k → made k history ≡ 0)
-    → SplitsByPhase phases had.main.1.turns history
+    → SplitsByPhase desk phases had.main.1.turns history
 parts_stand Answers desk phases p ls reports history have had stands each others =
     let none : (k : ℕ) → length ls < k → own k history ≡ [] = λ k more. nil_from_length (own k history) (others k more) in
     let no_more : HasNoOtherCalls ls p.log =
@@ -359,7 +375,7 @@ parts_stand Answers desk phases p ls reports history have had stands each others
     (of_each (λ (k : ℕ). own k history ≡ own k p.log) 0 phases ls have both (λ k more. none k (omega (arith, more)) ∙ sym (no_more.others k (omega (arith, more)))))
     (subst (λ (n : ℕ). own n history ≡ own n p.log) had.main.0 stands.1 ∙ sym (append-nil (own 0 p.log)))
     in
-    subst (λ (rs : List Record). SplitsByPhase phases had.main.1.turns rs) (sym (whole ∙ append-nil p.log)) (had.parts no_more)
+    subst (λ (rs : List Record). SplitsByPhase desk phases had.main.1.turns rs) (sym (whole ∙ append-nil p.log)) (had.parts no_more)
 
 -- passes that have seen nothing
 fresh_seen : (n : ℕ) (p : Seen) (ls : List Seen) → AreFresh n ls → All (λ (l : Seen). IsPrefix (own l.number l.log) (own l.number p.log)) ls

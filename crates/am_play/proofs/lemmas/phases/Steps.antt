@@ -19,7 +19,7 @@ use Rattle.am_desk.specs.declared.word.Terms.{Terms}
 use Rattle.am_board.proofs.lemmas.invariant.Calls.{room_of}
 use Rattle.am_desk.proofs.Prefixes.{prefix_length, prefix_self, prefix_snoc, prefix_trans}
 use Rattle.am_play.specs.Steps.{Begins, FinishesOne, Grows, IsUnrecorded, MadeRecords, opened_of}
-use Rattle.am_play.specs.Turns.{BeginsExhausted, EndsWithNothingDue, FoundDue, FailsTooManyOpen, AtSomePrefix, Opened, opened_by, opened_in}
+use Rattle.am_play.specs.Turns.{BeginsExhausted, EndsWithNothingDue, FoundDue, FailsTooManyOpen, Opened, opened_by, opened_in}
 
 pub no_records : (p : Seen) → MadeRecords [] p p
 no_records p = (refl, sym (append-nil (own p.number p.log)), prefix_self p.log)
@@ -55,9 +55,9 @@ pub one_finish : (t : Terms) (p q : Seen) (Allowed : List Record → Type 0) (no
 one_finish t p q Allowed now ticket told called = (entry p.number (call.Finish now ticket.number ticket.outcomes) told, one_record t p q Allowed _ called, refl)
 
 -- begins that were made before these, which all found a group due
-rightly_more : (t : Terms) (pass : ℕ) (history before : List Record) (at : ℕ) (xs ys : List Record) → All FoundDue xs
-    → BeginsExhausted t pass history (before ++ xs) at ys → BeginsExhausted t pass history before at (xs ++ ys)
-rightly_more t pass history before at xs ys found then =
+rightly_more : (t : Terms) (at : ℕ) (front xs ys : List Record) → All FoundDue xs → BeginsExhausted t at front ys
+    → BeginsExhausted t at front (xs ++ ys)
+rightly_more t at front xs ys found then =
     ⊎_elim
     (λ (nothing : EndsWithNothingDue ys).
     inl (
@@ -67,11 +67,7 @@ rightly_more t pass history before at xs ys found then =
       All-append FoundDue xs nothing.0 found nothing.3,
       nothing.4,
     ))
-    (λ (many : All FoundDue ys × AtSomePrefix pass history ((before ++ xs) ++ ys) (FailsTooManyOpen t at)).
-    inr (
-      All-append FoundDue xs ys found many.0,
-      subst (λ (rs : List Record). AtSomePrefix pass history rs (FailsTooManyOpen t at)) (append_assoc before xs ys) many.1,
-    ))
+    (λ (many : All FoundDue ys × FailsTooManyOpen t at front). inr (All-append FoundDue xs ys found many.0, many.1))
     then
 
 -- a begin that wasn't asked for
@@ -106,7 +102,7 @@ begins_full t at p q ts us same looks why =
       made = looked_records t p q looks;
       begun = All-nil (λ (r : Record). (true ≡ true) × (r.call ≡ call.Begin at));
       found = λ more. absurd (true≢false (sym more));
-      ended = λ asked end. inr (All-nil FoundDue, (q.log, prefix_self q.log, looks.own ∙ sym (append-nil (own p.number p.log)), why));
+      ended = λ asked end. inr (All-nil FoundDue, why);
       opened = ap (map opened_of) same ∙ sym (append-nil (map opened_of ts));
       unrecorded = subst (λ (xs : List TicketData). All IsUnrecorded ts → All IsUnrecorded xs) (sym same) (λ all. all);
     }
@@ -182,11 +178,7 @@ begins_more t more at p q r ts us vs first then =
       made = more_records first.begins then.begins p q r first.made then.made;
       begun = All-append (λ (x : Record). (true ≡ true) × (x.call ≡ call.Begin at)) first.begins then.begins first.begun then.begun;
       found = λ m. All-append FoundDue first.begins then.begins (first.found refl) (then.found m);
-      ended =
-          λ asked end.
-          rightly_more t p.number r.log (own p.number p.log) at first.begins then.begins (first.found refl)
-          (subst (λ (xs : List Record). BeginsExhausted t p.number r.log xs at then.begins) first.made.1
-          (subst (λ (n : ℕ). BeginsExhausted t n r.log (own n q.log) at then.begins) first.made.0 (then.ended asked end)));
+      ended = λ asked end. rightly_more t at r.log first.begins then.begins (first.found refl) (then.ended asked end);
       opened =
           then.opened
           ∙ (ap (λ (os : List Opened). os ++ opened_by then.begins) first.opened

@@ -1,5 +1,5 @@
 -- The main thread's turns, from its steps.
-use Rattle.std.proofs.Common.{◌≡◌, ◌==◌, ◌&&◌, ◌||◌, ⊎_elim, inl, inr, ℕ, Bool, true, false, ◌<◌, cond, All, subst, List, [], ◌∷◌, ◌++◌, length, get_or, map, Some, None, Option, Result, Ok, Err, IsOk, OnOk, refl, sym, ap, ◌∙◌, append_assoc, arith}
+use Rattle.std.proofs.Common.{◌≡◌, ◌==◌, ◌&&◌, ◌||◌, ℕ, Bool, true, false, ◌<◌, cond, All, subst, List, [], ◌∷◌, ◌++◌, length, get_or, map, Some, None, Option, Result, Ok, Err, IsOk, OnOk, refl, sym, ap, ◌∙◌, append_assoc, arith}
 use Rattle.std.specs.List.{AllZip, filter, flat_map}
 use mathlib.Core.List.{IsPrefix}
 use Rattle.std.proofs.lemmas.Grind.{flat_map-append}
@@ -17,14 +17,13 @@ use Rattle.am_desk.specs.Desks.{AreFresh, IsPrefixViewOf}
 use Rattle.am_desk.specs.History.{own}
 use Rattle.am_desk.specs.Known.{Seen, seen}
 use Rattle.am_desk.specs.declared.word.Terms.{Terms}
-use Rattle.am_desk.proofs.Prefixes.{prefix_trans}
 use Rattle.am_pool.specs.declared.courier.Tried.{Tried}
 use Rattle.am_play.specs.Interleaving.{RanBefore, RunsPhase}
 use Rattle.am_pool.specs.Sendings.{IsSentFrom, end_on}
 use Rattle.am_play.specs.Steps.{Begins, Finishes, AfterMainSteps, IsUnrecorded, MadeRecords, Sends, RunsMainSteps, finish_with, is_recorded_success, note_of, notes_of, notes_of_all, opened_of, recorded_all}
-use Rattle.am_play.specs.Turns.{AreNotesWithRoom, AreTurnsFrom, AreAllMainStepsOf, BeginsExhausted, EndsWithNothingDue, FoundDue, FailsTooManyOpen, AreMainStepsOf, AtSomePrefix, Opened, MainSteps, all_notes_due, finish_of, is_success, last_end, note_on, notes_due, opened_by, outcome_in, outcomes_told, records_in, report_on, reports_on, to_send}
+use Rattle.am_play.specs.Turns.{AreNotesWithRoom, AreTurnsFrom, AreAllMainStepsOf, AreMainStepsOf, Opened, MainSteps, all_notes_due, finish_of, is_success, last_end, note_on, notes_due, opened_by, outcome_in, outcomes_told, records_in, report_on, reports_on, to_send}
 use Rattle.am_scenario.specs.declared.scenario.Phase.{Phase}
-use Rattle.am_play.proofs.lemmas.phases.Noting.{noted_longer, once_longer}
+use Rattle.am_play.proofs.lemmas.phases.Noting.{noted_longer}
 use Rattle.am_play.proofs.lemmas.phases.Steps.{more_records}
 
 -- what is recorded in a ticket leaves its flush
@@ -120,22 +119,12 @@ pub record FinishesSoFar (at : ℕ) (reports : List Report) (ts left : List Tick
   pub made : MadeRecords finishes p q
   pub calls : map (λ (r : Record). r.call) finishes ++ map (finish_with at reports) left ≡ map (finish_with at reports) ts
 
--- begins that ended rightly did so, seen from later
-rightly_longer : (t : Terms) (pass : ℕ) (history later before : List Record) (at : ℕ) (begins : List Record) → IsPrefix history later
-    → BeginsExhausted t pass history before at begins → BeginsExhausted t pass later before at begins
-rightly_longer t pass history later before at begins longer ended =
-    ⊎_elim (λ (nothing : EndsWithNothingDue begins). inl nothing)
-    (λ (many : All FoundDue begins × AtSomePrefix pass history (before ++ begins) (FailsTooManyOpen t at)).
-    inr (many.0, once_longer pass history later (before ++ begins) (FailsTooManyOpen t at) longer many.1))
-    ended
-
 -- a turn was one, seen from later
 turn_longer : (Answers : Tried → Type 0) (t : Terms) (pass : ℕ) (history later before : List Record) (phase : Phase) (turn : MainSteps) → IsPrefix history later
     → AreMainStepsOf Answers t pass history before phase turn → AreMainStepsOf Answers t pass later before phase turn
 turn_longer Answers t pass history later before phase turn longer is =
     record {
       begun = is.begun;
-      ended = λ asked. rightly_longer t pass history later before phase.at turn.begins longer (is.ended asked);
       sent = is.sent;
       noted = noted_longer t pass history later (before ++ turn.begins) (all_notes_due phase.at turn.reports (opened_by turn.begins)) turn.notes longer is.noted;
       finished = is.finished;
@@ -185,7 +174,6 @@ turn_taken Answers t phase p q r s ts us had reports since begins sends finishes
       is =
           record {
             begun = begins.begun;
-            ended = λ asked. rightly_longer t p.number q.log s.log before phase.at begins.begins (prefix_trans q.log r.log s.log notes.made.2 later) (begins.ended asked refl);
             sent = subst (λ (os : List Opened). AllZip (IsSentFrom Answers phase.at) (to_send os) reports) opened sends.sent;
             noted =
                 noted_longer t p.number r.log s.log (before ++ begins.begins) (all_notes_due phase.at reports (opened_by begins.begins)) notes.records later
@@ -220,17 +208,12 @@ part_taken Answers t phase p q r s ls ms ts us had reports since begins sends fi
       begun = q;
       joined = first.joined;
       begins = begins.made;
+      ended = λ asked. begins.ended asked refl;
       beside = first.ran;
       ends =
           more_records notes.records finishes.finishes first.joined r s (notes_after q first.joined r notes.records first.ran.quiet first.begins notes.made)
           finishes.made;
     }
-
-pub zip_push : {A B : Type 0} (R : A → B → Type 0) (xs : List A) (ys : List B) (x : A) (y : B) → AllZip R xs ys → R x y → AllZip R (xs ++ x ∷ []) (ys ++ y ∷ [])
-zip_push R [] [] x y all one = (one, tt)
-zip_push R [] (b ∷ ys) x y all one = absurd all
-zip_push R (a ∷ xs) [] x y all one = absurd all
-zip_push R (a ∷ xs) (b ∷ ys) x y all one = (all.0, zip_push R xs ys x y all.1 one)
 
 -- one turn more
 pub turn_more : (Answers : Tried → Type 0) (t : Terms) (phases : List Phase) (phase : Phase) (p q : Seen) (reports since : List Report) → AfterMainSteps Answers t phases p reports → RunsMainSteps Answers t phase p q reports since

@@ -1,0 +1,7 @@
+use Rattle.std.proofs.Common.{length, take}
+use Rattle.am_play.specs.Runs.{HasRun}
+use Rattle.am_play.proofs.run.run_phases.Given as goal
+
+-- the run has run the phases so far
+abbrev pub invariant-loop-index : goal.invariant-loop-index
+invariant-loop-index g l = HasRun g.C.Answering.answers g.N.Name.terms (take (length l.yielded) l.fn.phases.items) l.run

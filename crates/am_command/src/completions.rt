@@ -7,20 +7,7 @@ use std::alloc::{AllocError, Global};
 pub fn completions(alloc: Global) -> Result<String, AllocError> {
     let command = command(alloc)?;
     let mut script = String::new(alloc);
-    script.push_str(HEAD)?;
-    script.push_str("    case \"$command\" in\n    '') words=\"")?;
-    for subcommand in command.get_subcommands() {
-        write!(script, "{} ", subcommand.get_name())?;
-    }
-    script.push_str("--help --version\" ;;\n")?;
-    for subcommand in command.get_subcommands() {
-        push_options(&mut script, subcommand)?;
-    }
-    script.push_str("    esac\n    case \"$before\" in\n")?;
-    push_values(&mut script, "output", &OUTPUTS)?;
-    push_values(&mut script, "color", &COLORS)?;
-    push_values(&mut script, "format", &FORMATS)?;
-    script.push_str(TAIL)?;
+    push_script(&mut script, &command)?;
     Ok(script)
 }
 
@@ -37,6 +24,23 @@ const TAIL: &str = "    esac
 }
 complete -o default -F _am_rehearse am-rehearse
 ";
+
+fn push_script(script: &mut String, command: &Command<'_>) -> Result<(), AllocError> {
+    script.push_str(HEAD)?;
+    script.push_str("    case \"$command\" in\n    '') words=\"")?;
+    for subcommand in command.get_subcommands() {
+        write!(script, "{} ", subcommand.get_name())?;
+    }
+    script.push_str("--help --version\" ;;\n")?;
+    for subcommand in command.get_subcommands() {
+        push_options(script, subcommand)?;
+    }
+    script.push_str("    esac\n    case \"$before\" in\n")?;
+    push_values(script, "output", &OUTPUTS)?;
+    push_values(script, "color", &COLORS)?;
+    push_values(script, "format", &FORMATS)?;
+    script.push_str(TAIL)
+}
 
 fn push_options(script: &mut String, command: &Command<'_>) -> Result<(), AllocError> {
     write!(script, "    {}) words=\"", command.get_name())?;

@@ -7,22 +7,23 @@ use std::alloc::{AllocError, Global};
 pub fn manual(alloc: Global) -> Result<String, AllocError> {
     let command = command(alloc)?;
     let mut page = String::new(alloc);
+    push_page(&mut page, &command)?;
+    Ok(page)
+}
+
+fn push_page(page: &mut String, command: &Command<'_>) -> Result<(), AllocError> {
     let name = command.get_name();
-    let about = command.get_about().unwrap_or("");
-    page.push_str(".TH AM-REHEARSE 1\n.SH NAME\n")?;
-    write!(page, "{name} \\- ")?;
-    push_escaped(&mut page, about)?;
-    page.push_str("\n.SH SYNOPSIS\n")?;
+    write!(page, ".TH AM-REHEARSE 1\n.SH NAME\n{name} \\- ")?;
+    push_escaped(page, command.get_about().unwrap_or(""))?;
     write!(
         page,
-        ".B {name}\n.I COMMAND\n[\\fIOPTIONS\\fR]\n.SH COMMANDS\n"
+        "\n.SH SYNOPSIS\n.B {name}\n.I COMMAND\n[\\fIOPTIONS\\fR]\n.SH COMMANDS\n"
     )?;
     for subcommand in command.get_subcommands() {
-        push_command(&mut page, subcommand)?;
+        push_command(page, subcommand)?;
     }
     page.push_str(".SH EXIT STATUS\n")?;
-    push_statuses(&mut page)?;
-    Ok(page)
+    push_statuses(page)
 }
 
 fn push_command(page: &mut String, command: &Command<'_>) -> Result<(), AllocError> {

@@ -10,7 +10,7 @@ use std::alloc::{AllocError, Global};
 pub const STANDARD_INPUT: &str = "-";
 
 /// When colors are used.
-#[derive(Clone, Copy, Debug, PartialEq, Eq)]
+#[derive(Clone, Copy)]
 pub enum Color {
     Auto,
     Always,
@@ -18,14 +18,14 @@ pub enum Color {
 }
 
 /// How faults are printed.
-#[derive(Clone, Copy, Debug, PartialEq, Eq)]
+#[derive(Clone, Copy)]
 pub enum FaultFormat {
     Text,
     Json,
 }
 
 /// How a command prints.
-#[derive(Clone, Copy, Debug, PartialEq, Eq)]
+#[derive(Clone, Copy)]
 pub struct Style {
     pub color: Color,
     pub format: FaultFormat,
@@ -62,7 +62,7 @@ pub struct PlayRequest<'a> {
 }
 
 /// A story that is simulated under two configurations.
-#[derive(Clone, Copy, Debug, PartialEq, Eq)]
+#[derive(Clone, Copy)]
 pub struct CompareRequest<'a> {
     pub old: &'a str,
     pub new: &'a str,
@@ -74,7 +74,7 @@ pub struct CompareRequest<'a> {
 }
 
 /// Answers of which a story is made.
-#[derive(Clone, Copy, Debug, PartialEq, Eq)]
+#[derive(Clone, Copy)]
 pub struct StoryRequest<'a> {
     pub prometheus: Option<&'a str>,
     pub gap: Option<&'a str>,
@@ -137,6 +137,10 @@ pub fn read_request<'a>(alloc: Global, words: &'a [String]) -> Result<Request<'a
             style: PLAIN,
         }));
     }
+    parsed_request(alloc, words)
+}
+
+fn parsed_request<'a>(alloc: Global, words: &'a [String]) -> Result<Request<'a>, Error> {
     let command = command(alloc)?
         .subcommand_required(true)
         .arg_required_else_help(true);

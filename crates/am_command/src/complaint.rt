@@ -31,11 +31,10 @@ impl Complaint<'_> {
         } else {
             ("", "")
         };
-        write!(text, "{bold}{}:", self.file)?;
-        if let Some(Place { line, column }) = self.place {
-            write!(text, "{line}:{column}:")?;
-        }
-        write!(text, "{plain} ")?;
+        text.push_str(bold)?;
+        self.push_place(text)?;
+        text.push_str(plain)?;
+        text.push(' ')?;
         push_shown(text, self.message)?;
         match self.pointer {
             None => Ok(()),
@@ -45,6 +44,14 @@ impl Complaint<'_> {
                 push_shown(text, pointer)?;
                 text.push(')')
             }
+        }
+    }
+
+    fn push_place(&self, text: &mut String) -> Result<(), AllocError> {
+        text.push_str(self.file)?;
+        match self.place {
+            None => text.push(':'),
+            Some(Place { line, column }) => write!(text, ":{line}:{column}:"),
         }
     }
 

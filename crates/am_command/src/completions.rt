@@ -11,6 +11,13 @@ pub fn completions(alloc: Global) -> Result<String, AllocError> {
     Ok(script)
 }
 
+/// The options that take one of some words, and these words.
+const VALUES: [(&str, &[&str]); 3] = [
+    ("output", &OUTPUTS),
+    ("color", &COLORS),
+    ("format", &FORMATS),
+];
+
 /// What stands before the words of the commands.
 const HEAD: &str = "\
 _am_rehearse() {
@@ -27,19 +34,26 @@ complete -o default -F _am_rehearse am-rehearse
 
 fn push_script(script: &mut String, command: &Command<'_>) -> Result<(), AllocError> {
     script.push_str(HEAD)?;
+    push_commands(script, command.get_subcommands())?;
+    script.push_str("    case \"$before\" in\n")?;
+    for (option, values) in &VALUES {
+        push_values(script, *option, values)?;
+    }
+    script.push_str(TAIL)
+}
+
+/// Adds the words behind each command, and those that stand where there is none yet.
+fn push_commands(script: &mut String, commands: &[Command<'_>]) -> Result<(), AllocError> {
     script.push_str("    case \"$command\" in\n    '') words=\"")?;
-    for subcommand in command.get_subcommands() {
-        write!(script, "{} ", subcommand.get_name())?;
+    for command in commands {
+        script.push_str(command.get_name())?;
+        script.push(' ')?;
     }
     script.push_str("--help --version\" ;;\n")?;
-    for subcommand in command.get_subcommands() {
-        push_options(script, subcommand)?;
+    for command in commands {
+        push_options(script, command)?;
     }
-    script.push_str("    esac\n    case \"$before\" in\n")?;
-    push_values(script, "output", &OUTPUTS)?;
-    push_values(script, "color", &COLORS)?;
-    push_values(script, "format", &FORMATS)?;
-    script.push_str(TAIL)
+    script.push_str("    esac\n")
 }
 
 fn push_options(script: &mut String, command: &Command<'_>) -> Result<(), AllocError> {

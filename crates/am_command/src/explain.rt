@@ -142,16 +142,21 @@ fn unknown(alloc: Global, spot: &Spot<'_>) -> Result<String, AllocError> {
     if wanted_in(name).is_some() {
         return format!(in alloc; "`{name}` doesn't belong here");
     }
-    let mut nearest = Nearest::to(name);
-    for (known, _) in &FIELDS {
-        nearest.consider(alloc, known)?;
-    }
-    match nearest.found() {
+    match nearest_field(alloc, name)? {
         None => format!(in alloc; "no field `{name}` is known here"),
         Some(meant) => format!(in alloc;
             "no field `{name}` is known here; did you mean `{meant}`?"
         ),
     }
+}
+
+/// Returns the name of the known field that may be meant.
+fn nearest_field(alloc: Global, name: &str) -> Result<Option<&str>, AllocError> {
+    let mut nearest = Nearest::to(name);
+    for (known, _) in &FIELDS {
+        nearest.consider(alloc, known)?;
+    }
+    Ok(nearest.found())
 }
 
 fn unsupported(alloc: Global, spot: &Spot<'_>) -> Result<String, AllocError> {
@@ -283,16 +288,15 @@ fn misplaced_duration(
         return format!(in alloc; "`{text}` is no duration; write {written}");
     }
     let days = bounds.days;
-    match name {
-        "until" => format!(in alloc; "`{text}` is too long: a story has at most {days} days"),
-        "to" => format!(in alloc;
-            "`{text}` comes before the beginning, is too long, or stands beside `at`"
-        ),
-        "within" => format!(in alloc;
-            "`{text}` is too long; and neither `at`, `from` nor `to` stands beside `within`"
-        ),
-        _ => format!(in alloc; "`{text}` is out of range for `{name}`"),
-    }
+    let fault = match name {
+        "until" => {
+            return format!(in alloc; "`{text}` is too long: a story has at most {days} days");
+        }
+        "to" => "comes before the beginning, is too long, or stands beside `at`",
+        "within" => "is too long; and neither `at`, `from` nor `to` stands beside `within`",
+        _ => return format!(in alloc; "`{text}` is out of range for `{name}`"),
+    };
+    format!(in alloc; "`{text}` {fault}")
 }
 
 fn bad_name(alloc: Global, text: &str) -> Result<String, AllocError> {
@@ -362,6 +366,21 @@ fn no_receiver(
     if text.is_empty() {
         return format!(in alloc; "the root route has to name a receiver");
     }
+    match nearest_receiver(alloc, top, pointer, text)? {
+        None => format!(in alloc; "receiver `{text}` isn't defined"),
+        Some(meant) => format!(in alloc;
+            "receiver `{text}` isn't defined; did you mean `{meant}`?"
+        ),
+    }
+}
+
+/// Returns the name of the receiver that may be meant.
+fn nearest_receiver<'v>(
+    alloc: Global,
+    top: &'v Value,
+    pointer: &str,
+    text: &'v str,
+) -> Result<Option<&'v str>, AllocError> {
     let mut nearest = Nearest::to(text);
     if let Some(receivers) = receivers_for(top, pointer) {
         for receiver in receivers {
@@ -370,12 +389,7 @@ fn no_receiver(
             }
         }
     }
-    match nearest.found() {
-        None => format!(in alloc; "receiver `{text}` isn't defined"),
-        Some(meant) => format!(in alloc;
-            "receiver `{text}` isn't defined; did you mean `{meant}`?"
-        ),
-    }
+    Ok(nearest.found())
 }
 
 /// Returns the receivers of the configuration that a place belongs to.

@@ -27,7 +27,9 @@ fn push_page(page: &mut String, command: &Command<'_>) -> Result<(), AllocError>
 }
 
 fn push_command(page: &mut String, command: &Command<'_>) -> Result<(), AllocError> {
-    write!(page, ".SS {}\n", command.get_name())?;
+    page.push_str(".SS ")?;
+    page.push_str(command.get_name())?;
+    page.push('\n')?;
     push_escaped(page, command.get_about().unwrap_or(""))?;
     page.push_str(".\n")?;
     for argument in command.get_arguments() {
@@ -37,11 +39,13 @@ fn push_command(page: &mut String, command: &Command<'_>) -> Result<(), AllocErr
 }
 
 fn push_argument(page: &mut String, argument: &Arg<'_>) -> Result<(), AllocError> {
-    page.push_str(".TP\n")?;
-    match argument.get_long() {
-        None => write!(page, ".I {}\n", argument.get_id())?,
-        Some(long) => write!(page, ".B \\-\\-{long}\n")?,
-    }
+    let (before, name) = match argument.get_long() {
+        None => (".TP\n.I ", argument.get_id()),
+        Some(long) => (".TP\n.B \\-\\-", long),
+    };
+    page.push_str(before)?;
+    page.push_str(name)?;
+    page.push('\n')?;
     push_escaped(page, argument.get_help().unwrap_or(""))?;
     page.push_str(".\n")
 }

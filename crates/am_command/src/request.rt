@@ -152,27 +152,27 @@ fn request_of<'a>(alloc: Global, matches: &ArgMatches<'a>) -> Result<Request<'a>
     let Some((name, matches)) = matches.subcommand() else {
         return Ok(Request::Manual);
     };
-    Ok(match name {
-        "play" => Request::Play(play_request(alloc, matches)?),
-        "compare" => Request::Compare(compare_request(matches)),
-        "story" => Request::Story(story_request(matches)),
-        "check" => Request::Check {
+    match name {
+        "play" => Ok(Request::Play(play_request(alloc, matches)?)),
+        "compare" => Ok(Request::Compare(compare_request(matches))),
+        "story" => Ok(Request::Story(story_request(matches))),
+        "check" => Ok(Request::Check {
             files: all_of(alloc, matches, "FILE")?,
             style: style_of(matches),
-        },
-        "routes" => Request::Routes {
+        }),
+        "routes" => Ok(Request::Routes {
             file: text_of(matches, "FILE"),
             labels: all_of(alloc, matches, "LABEL=VALUE")?,
             verify: matches.get_str("verify"),
             style: style_of(matches),
-        },
-        "json" => Request::Json {
+        }),
+        "json" => Ok(Request::Json {
             files: all_of(alloc, matches, "FILE")?,
             style: style_of(matches),
-        },
-        "completions" => Request::Completions,
-        _ => Request::Manual,
-    })
+        }),
+        "completions" => Ok(Request::Completions),
+        _ => Ok(Request::Manual),
+    }
 }
 
 fn play_request<'a>(

@@ -250,12 +250,21 @@ const SUBCOMMANDS: [(&str, &str, &[Word]); 8] = [
 
 /// Returns the command line. Without any word the program reads a story from standard input.
 pub fn command<'a>(alloc: Global) -> Result<Command<'a>, AllocError> {
-    let mut command = Command::new(alloc, "am-rehearse")
+    let command = Command::new(alloc, "am-rehearse")
         .bin_name("am-rehearse")?
         .version(VERSION)
         .about(ABOUT)
         .after_help(STATUSES);
-    for (name, about, words) in &SUBCOMMANDS {
+    with_subcommands(alloc, command, &SUBCOMMANDS)
+}
+
+fn with_subcommands<'a>(
+    alloc: Global,
+    command: Command<'a>,
+    subcommands: &[(&'static str, &'static str, &[Word])],
+) -> Result<Command<'a>, AllocError> {
+    let mut command = command;
+    for (name, about, words) in subcommands {
         let subcommand = with_words(alloc, Command::new(alloc, *name).about(*about), words)?;
         command = command.subcommand(subcommand)?;
     }
@@ -277,25 +286,26 @@ fn with_words<'a>(
 
 /// Returns an argument without its help.
 fn argument<'a>(alloc: Global, name: &'a str, takes: Takes) -> Arg<'a> {
-    let argument = Arg::new(alloc, name);
     match takes {
-        Takes::One => argument.required(true),
-        Takes::Some => argument
+        Takes::One => Arg::new(alloc, name).required(true),
+        Takes::Some => Arg::new(alloc, name)
             .required(true)
             .action(ArgAction::Append)
             .num_args(1..),
-        Takes::Any => argument.action(ArgAction::Append).num_args(0..),
-        Takes::Nothing => argument.long(name).action(ArgAction::SetTrue),
-        Takes::Value(value) => argument.long(name).value_name(value),
-        Takes::Values(value) => argument
-            .long(name)
-            .value_name(value)
-            .action(ArgAction::Append),
-        Takes::Among(value, values) => argument.long(name).value_name(value).value_parser(values),
-        Takes::Else(value, values, default) => argument
-            .long(name)
-            .value_name(value)
+        Takes::Any => Arg::new(alloc, name)
+            .action(ArgAction::Append)
+            .num_args(0..),
+        Takes::Nothing => Arg::new(alloc, name).long(name).action(ArgAction::SetTrue),
+        Takes::Value(value) => option(alloc, name, value),
+        Takes::Values(value) => option(alloc, name, value).action(ArgAction::Append),
+        Takes::Among(value, values) => option(alloc, name, value).value_parser(values),
+        Takes::Else(value, values, default) => option(alloc, name, value)
             .value_parser(values)
             .default_value(default),
     }
+}
+
+/// Returns an option that takes a value, which help calls so.
+fn option<'a>(alloc: Global, name: &'a str, value: &'a str) -> Arg<'a> {
+    Arg::new(alloc, name).long(name).value_name(value)
 }

@@ -6,8 +6,12 @@ use std::alloc::{AllocError, Global};
 /// Returns a script for bash that completes the command line.
 pub fn completions(alloc: Global) -> Result<String, AllocError> {
     let command = command(alloc)?;
+    script_for(alloc, &command)
+}
+
+fn script_for(alloc: Global, command: &Command<'_>) -> Result<String, AllocError> {
     let mut script = String::new(alloc);
-    push_script(&mut script, &command)?;
+    push_script(&mut script, command)?;
     Ok(script)
 }
 

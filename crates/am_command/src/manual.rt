@@ -6,24 +6,33 @@ use std::alloc::{AllocError, Global};
 /// Returns the manual page of the command line, in troff.
 pub fn manual(alloc: Global) -> Result<String, AllocError> {
     let command = command(alloc)?;
+    page_of(alloc, &command)
+}
+
+fn page_of(alloc: Global, command: &Command<'_>) -> Result<String, AllocError> {
     let mut page = String::new(alloc);
-    push_page(&mut page, &command)?;
+    push_page(&mut page, command)?;
     Ok(page)
 }
 
 fn push_page(page: &mut String, command: &Command<'_>) -> Result<(), AllocError> {
-    let name = command.get_name();
-    write!(page, ".TH AM-REHEARSE 1\n.SH NAME\n{name} \\- ")?;
-    push_escaped(page, command.get_about().unwrap_or(""))?;
-    write!(
-        page,
-        "\n.SH SYNOPSIS\n.B {name}\n.I COMMAND\n[\\fIOPTIONS\\fR]\n.SH COMMANDS\n"
-    )?;
+    push_head(page, command.get_name(), command.get_about().unwrap_or(""))?;
     for subcommand in command.get_subcommands() {
         push_command(page, subcommand)?;
     }
     page.push_str(".SH EXIT STATUS\n")?;
     push_statuses(page)
+}
+
+/// Adds what stands before the commands.
+fn push_head(page: &mut String, name: &str, about: &str) -> Result<(), AllocError> {
+    page.push_str(".TH AM-REHEARSE 1\n.SH NAME\n")?;
+    page.push_str(name)?;
+    page.push_str(" \\- ")?;
+    push_escaped(page, about)?;
+    page.push_str("\n.SH SYNOPSIS\n.B ")?;
+    page.push_str(name)?;
+    page.push_str("\n.I COMMAND\n[\\fIOPTIONS\\fR]\n.SH COMMANDS\n")
 }
 
 fn push_command(page: &mut String, command: &Command<'_>) -> Result<(), AllocError> {

@@ -1,7 +1,8 @@
 //! Reads what Alertmanager answers at `/api/v2/alerts` and `/api/v2/silences`.
 use crate::incident::{Incident, SeenAlert, SeenSilence, SeenSpan};
-use crate::labels::push_label;
-use crate::moment::read_time;
+use crate::labels::read_labels;
+use crate::moment::{optional_time, required_time};
+use crate::yaml::escape_of;
 use am_cli::fault::InputFault;
 use am_cli::reader::{Object, Reader};
 use std::alloc::AllocError;
@@ -51,32 +52,19 @@ fn read_alert(reader: &Reader<'_, '_>) -> Result<(SeenAlert, u64), InputFault> {
     let (span, updated) = read_times(&alert)?;
     let mut spans = Vec::new(alert.alloc());
     spans.push(span)?;
-    let labels = read_labels(&alert)?;
+    let labels = read_labels(&alert.required("labels")?.object()?, &[])?;
     Ok((SeenAlert { labels, spans }, updated))
 }
 
 /// Reads the span of an alert, and when it was updated last.
 fn read_times(alert: &Object<'_, '_>) -> Result<(SeenSpan, u64), InputFault> {
-    let from = read_time(&alert.required("startsAt")?)?;
-    let to = match alert.optional("endsAt") {
+    let from = required_time(alert, "startsAt")?;
+    let to = match optional_time(alert, "endsAt")? {
         None => None,
-        Some(ends) => Some(read_time(&ends)?.max(from)),
+        Some(to) => Some(to.max(from)),
     };
-    let updated = match alert.optional("updatedAt") {
-        None => from,
-        Some(updated) => read_time(&updated)?.max(from),
-    };
-    Ok((SeenSpan { from, to }, updated))
-}
-
-fn read_labels(alert: &Object<'_, '_>) -> Result<Vec<(String, String)>, InputFault> {
-    let required = alert.required("labels")?;
-    let object = required.object()?;
-    let mut labels = Vec::new(alert.alloc());
-    for (name, value) in object.members().iter() {
-        push_label(&object, name.as_str(), value, &mut labels)?;
-    }
-    Ok(labels)
+    let updated = optional_time(alert, "updatedAt")?.unwrap_or(from);
+    Ok((SeenSpan { from, to }, updated.max(from)))
 }
 
 /// Reads the silences that Alertmanager has.
@@ -98,8 +86,8 @@ fn read_silence(reader: &Reader<'_, '_>) -> Result<SeenSilence, InputFault> {
 
 /// Reads when a silence starts and when it ends.
 fn read_ends(silence: &Object<'_, '_>) -> Result<(u64, u64), InputFault> {
-    let from = read_time(&silence.required("startsAt")?)?;
-    let to = read_time(&silence.required("endsAt")?)?;
+    let from = required_time(silence, "startsAt")?;
+    let to = required_time(silence, "endsAt")?;
     Ok((from, to))
 }
 
@@ -117,18 +105,22 @@ fn read_matcher(reader: &Reader<'_, '_>) -> Result<String, InputFault> {
     let matcher = reader.object()?;
     let name = matcher.required("name")?;
     let value = matcher.required("value")?;
-    let is_pattern = matcher.flag_or("isRegex", false)?;
-    let is_equal = matcher.flag_or("isEqual", true)?;
-    let operator = match (is_equal, is_pattern) {
-        (true, false) => "=",
-        (false, false) => "!=",
-        (true, true) => "=~",
-        (false, true) => "!~",
-    };
+    let operator = read_operator(&matcher)?;
     let (name, value) = (name.text()?, value.text()?);
     let mut text = String::from_str(reader.alloc(), name)?;
     push_quoted(operator, value, &mut text)?;
     Ok(text)
+}
+
+fn read_operator(matcher: &Object<'_, '_>) -> Result<&'static str, InputFault> {
+    let is_pattern = matcher.flag_or("isRegex", false)?;
+    let is_equal = matcher.flag_or("isEqual", true)?;
+    Ok(match (is_equal, is_pattern) {
+        (true, false) => "=",
+        (false, false) => "!=",
+        (true, true) => "=~",
+        (false, true) => "!~",
+    })
 }
 
 /// Adds an operator, and the value in quotes.
@@ -136,11 +128,9 @@ fn push_quoted(operator: &str, value: &str, out: &mut String) -> Result<(), Allo
     out.push_str(operator)?;
     out.push('"')?;
     for character in value.chars() {
-        match character {
-            '"' => out.push_str("\\\"")?,
-            '\\' => out.push_str("\\\\")?,
-            '\n' => out.push_str("\\n")?,
-            _ => out.push(character)?,
+        match escape_of(character) {
+            Some(escape) => out.push_str(escape)?,
+            None => out.push(character)?,
         }
     }
     out.push('"')

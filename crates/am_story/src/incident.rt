@@ -125,15 +125,20 @@ fn push_silences(silences: &[SeenSilence], start: u64, out: &mut String) -> Resu
 
 fn push_silence(silence: &SeenSilence, start: u64, out: &mut String) -> Result<(), AllocError> {
     out.push_str("- matchers: [")?;
-    let mut separator = "";
-    for matcher in &silence.matchers {
-        out.push_str(separator)?;
-        push_quoted(matcher.as_str(), out)?;
-        separator = ", ";
-    }
+    push_matchers(silence.matchers.as_slice(), out)?;
     out.push_str("]\n  from: ")?;
     push_duration(silence.from.saturating_sub(start), out)?;
     out.push_str("\n  to: ")?;
     push_duration(silence.to.saturating_sub(start), out)?;
     out.push('\n')
+}
+
+fn push_matchers(matchers: &[String], out: &mut String) -> Result<(), AllocError> {
+    let mut separator = "";
+    for matcher in matchers {
+        out.push_str(separator)?;
+        push_quoted(matcher.as_str(), out)?;
+        separator = ", ";
+    }
+    Ok(())
 }

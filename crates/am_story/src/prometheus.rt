@@ -3,7 +3,7 @@
 //! A run of samples is a span in which the alert fired. It ends a step after its last sample, where the step is the least
 //! time between two samples of a series. An alert with a sample at the last time of all still fires at the end.
 use crate::incident::{Incident, SeenAlert, SeenSpan};
-use crate::labels::push_label;
+use crate::labels::read_labels;
 use crate::moment::read_seconds;
 use am_cli::fault::{FaultKind, InputFault};
 use am_cli::reader::{Object, Reader};
@@ -15,6 +15,9 @@ const STEP: u64 = 60_000;
 
 /// The label that tells an alert that fires from one that is pending.
 const STATE: &str = "alertstate";
+
+/// The labels that Prometheus adds to those of an alert in `ALERTS`.
+const ADDED: [&str; 2] = ["__name__", STATE];
 
 /// An alert, with the times at which it fired.
 #[derive(Drop)]
@@ -52,11 +55,14 @@ fn read_answer(reader: &Reader<'_, '_>) -> Result<Vec<Series>, InputFault> {
         return read_list(reader);
     }
     let top = reader.object()?;
-    if let Some(data) = top.optional("data") {
-        let data = data.object()?;
-        return read_list(&data.required("result")?);
+    match top.optional("data") {
+        None => read_result(&top),
+        Some(data) => read_result(&data.object()?),
     }
-    read_list(&top.required("result")?)
+}
+
+fn read_result(object: &Object<'_, '_>) -> Result<Vec<Series>, InputFault> {
+    read_list(&object.required("result")?)
 }
 
 fn read_list(reader: &Reader<'_, '_>) -> Result<Vec<Series>, InputFault> {
@@ -73,13 +79,24 @@ fn read_list(reader: &Reader<'_, '_>) -> Result<Vec<Series>, InputFault> {
 /// Reads a series, unless it is of a pending alert.
 fn read_series(reader: &Reader<'_, '_>) -> Result<Option<Series>, InputFault> {
     let object = reader.object()?;
-    let metric = object.required("metric")?;
-    if !is_firing(&metric.object()?)? {
+    let Some(labels) = read_metric(&object.required("metric")?)? else {
+        return Ok(None);
+    };
+    let samples = read_samples(&object.required("values")?)?;
+    Ok(Some(Series { labels, samples }))
+}
+
+/// Reads the labels of an alert, unless it is pending. An alert has one at least.
+fn read_metric(reader: &Reader<'_, '_>) -> Result<Option<Vec<(String, String)>>, InputFault> {
+    let metric = reader.object()?;
+    if !is_firing(&metric)? {
         return Ok(None);
     }
-    let labels = read_labels(&metric)?;
-    let samples = read_samples(&object)?;
-    Ok(Some(Series { labels, samples }))
+    let labels = read_labels(&metric, &ADDED)?;
+    if labels.is_empty() {
+        return Err(reader.refuse(FaultKind::BadValue));
+    }
+    Ok(Some(labels))
 }
 
 fn is_firing(metric: &Object<'_, '_>) -> Result<bool, InputFault> {
@@ -89,25 +106,8 @@ fn is_firing(metric: &Object<'_, '_>) -> Result<bool, InputFault> {
     }
 }
 
-/// Reads the labels of an alert, without those that Prometheus adds to it in `ALERTS`. An alert has one at least.
-fn read_labels(reader: &Reader<'_, '_>) -> Result<Vec<(String, String)>, InputFault> {
-    let metric = reader.object()?;
-    let mut labels = Vec::new(reader.alloc());
-    for (name, value) in metric.members().iter() {
-        let name = name.as_str();
-        if name != "__name__" && name != STATE {
-            push_label(&metric, name, value, &mut labels)?;
-        }
-    }
-    if labels.is_empty() {
-        return Err(reader.refuse(FaultKind::BadValue));
-    }
-    Ok(labels)
-}
-
-/// Reads the times of the samples of a series, which ascend.
-fn read_samples(series: &Object<'_, '_>) -> Result<Vec<u64>, InputFault> {
-    let reader = series.required("values")?;
+/// Reads the times of samples, which ascend.
+fn read_samples(reader: &Reader<'_, '_>) -> Result<Vec<u64>, InputFault> {
     let values = reader.array()?;
     let mut samples = Vec::new(reader.alloc());
     let mut last: Option<u64> = None;

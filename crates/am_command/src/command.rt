@@ -14,222 +14,298 @@ pub const FORMATS: [&str; 2] = ["text", "json"];
 /// The version that `--version` prints.
 const VERSION: &str = "1.0.0";
 
-const PLAY_HELP: &str =
-    "Simulates a story, and prints which notification is sent when, to whom and why";
-
-const CHECK_HELP: &str = "Checks configurations, and prints what they hold or every fault in them";
-
-const ROUTES_HELP: &str = "Prints the routing tree, or the routes that a label set reaches";
-
-const COMPARE_HELP: &str =
-    "Simulates a story under two configurations, and prints which notifications differ";
-
-const STORY_HELP: &str = "Makes a story of what Prometheus or Alertmanager answers";
-
-const JSON_HELP: &str = "Prints files as the JSON that the program reads in them, one a line";
-
-const MAN_HELP: &str = "Prints the manual page, in troff";
-
-const COMPLETIONS_HELP: &str = "Prints the completions for bash";
+const ABOUT: &str =
+    "Rehearses an alertmanager.yml: simulates alerts, silences and outages on a clock";
 
 const STATUSES: &str = "\
 Statuses: 0 done; 1 a file isn't readable; 2 a file or the command line is rejected; 3 out of memory; \
 4 the output isn't writable; 5 an expectation isn't met; 6 --verify differs, or --exit-code and a notification differs.";
 
+/// What an argument takes.
+#[derive(Clone, Copy)]
+enum Takes {
+    /// A value at its place, which must be there.
+    One,
+    /// Values at its place, one at least.
+    Some,
+    /// Values at its place, if there are any.
+    Any,
+    /// Nothing: it is an option that is given or not.
+    Nothing,
+    /// A value behind the option, which help calls by this name.
+    Value(&'static str),
+    /// Such a value. The option may be given again.
+    Values(&'static str),
+    /// Such a value, which is one of these.
+    Among(&'static str, &'static [&'static str]),
+    /// Such a value, which is one of these. The last text is the value of an option that isn't given.
+    Else(&'static str, &'static [&'static str], &'static str),
+}
+
+/// An argument of a subcommand: its name, what it takes, and its help.
+type Word = (&'static str, Takes, &'static str);
+
+const UNTIL: Word = (
+    "until",
+    Takes::Value("DURATION"),
+    "When the story ends, such as 5h, in place of its own until",
+);
+
+const COLOR: Word = (
+    "color",
+    Takes::Else("WHEN", &COLORS, "auto"),
+    "When to use colors; NO_COLOR turns auto off",
+);
+
+const FORMAT: Word = (
+    "format",
+    Takes::Else("FORMAT", &FORMATS, "text"),
+    "How faults are printed on standard error: a line each, as text or as JSON",
+);
+
+/// What `play` takes. From `receiver` to `changes` are the options that leave out lines of a timeline.
+const PLAY: [Word; 13] = [
+    (
+        "STORY",
+        Takes::One,
+        "A file in YAML or JSON with what happens; - is standard input",
+    ),
+    (
+        "config",
+        Takes::Value("FILE"),
+        "An alertmanager.yml, or a config of our own, in place of the story's",
+    ),
+    (
+        "output",
+        Takes::Among("OUTPUT", &OUTPUTS),
+        "What to print, in place of the story's own output",
+    ),
+    UNTIL,
+    (
+        "no-failures",
+        Takes::Nothing,
+        "With --output notices, leaves out those that failed",
+    ),
+    (
+        "all",
+        Takes::Nothing,
+        "Prints the timeline with a line for each flush, also where like flushes follow each other",
+    ),
+    (
+        "receiver",
+        Takes::Value("NAME"),
+        "Prints only the lines of this receiver's groups",
+    ),
+    (
+        "group",
+        Takes::Value("ROUTE"),
+        "Prints only the lines of this route's groups, which are named after it",
+    ),
+    (
+        "alert",
+        Takes::Values("MATCHER"),
+        "Prints only the lines of groups with an alert that matches, such as severity=page; may be given again, and one alert matches all",
+    ),
+    (
+        "changes",
+        Takes::Nothing,
+        "Leaves out a flush whose lines are all those of the flush before of its group",
+    ),
+    (
+        "junit",
+        Takes::Value("FILE"),
+        "Writes what became of the expectations to this file, as XML of JUnit",
+    ),
+    COLOR,
+    FORMAT,
+];
+
+const COMPARE: [Word; 7] = [
+    (
+        "OLD",
+        Takes::One,
+        "An alertmanager.yml, or a config of our own; - is standard input",
+    ),
+    (
+        "NEW",
+        Takes::One,
+        "The configuration that is compared with it",
+    ),
+    (
+        "STORY",
+        Takes::One,
+        "A file in YAML or JSON with what happens",
+    ),
+    UNTIL,
+    (
+        "exit-code",
+        Takes::Nothing,
+        "Ends with status 6 if a notification differs",
+    ),
+    COLOR,
+    FORMAT,
+];
+
+const STORY: [Word; 6] = [
+    (
+        "prometheus",
+        Takes::Value("FILE"),
+        "The answer to a range query of ALERTS{alertstate=\"firing\"}; - is standard input",
+    ),
+    (
+        "gap",
+        Takes::Value("DURATION"),
+        "Samples farther apart belong to different spans of an alert; two steps of the query if not given",
+    ),
+    (
+        "alertmanager",
+        Takes::Value("FILE"),
+        "The answer of /api/v2/alerts, in place of --prometheus",
+    ),
+    (
+        "silences",
+        Takes::Value("FILE"),
+        "The answer of Alertmanager's /api/v2/silences",
+    ),
+    COLOR,
+    FORMAT,
+];
+
+const CHECK: [Word; 3] = [
+    (
+        "FILE",
+        Takes::Some,
+        "An alertmanager.yml, a config of our own or a story; - is standard input",
+    ),
+    COLOR,
+    FORMAT,
+];
+
+const ROUTES: [Word; 5] = [
+    (
+        "FILE",
+        Takes::One,
+        "An alertmanager.yml, a config of our own or a story; - is standard input",
+    ),
+    (
+        "LABEL=VALUE",
+        Takes::Any,
+        "A label of the label set that is looked up",
+    ),
+    (
+        "verify",
+        Takes::Value("RECEIVER,.."),
+        "Ends with status 6 unless the label set reaches these receivers, in their order",
+    ),
+    COLOR,
+    FORMAT,
+];
+
+const JSON: [Word; 3] = [
+    (
+        "FILE",
+        Takes::Some,
+        "A file in YAML or JSON; - is standard input",
+    ),
+    COLOR,
+    FORMAT,
+];
+
+/// The subcommands, each with what it does and its arguments. Tables, and not calls for each argument, because a function
+/// with many such values at a time is very dear to prove.
+const SUBCOMMANDS: [(&str, &str, &[Word]); 8] = [
+    (
+        "play",
+        "Simulates a story, and prints which notification is sent when, to whom and why",
+        &PLAY,
+    ),
+    (
+        "compare",
+        "Simulates a story under two configurations, and prints which notifications differ",
+        &COMPARE,
+    ),
+    (
+        "story",
+        "Makes a story of what Prometheus or Alertmanager answers",
+        &STORY,
+    ),
+    (
+        "check",
+        "Checks configurations, and prints what they hold or every fault in them",
+        &CHECK,
+    ),
+    (
+        "routes",
+        "Prints the routing tree, or the routes that a label set reaches",
+        &ROUTES,
+    ),
+    (
+        "json",
+        "Prints files as the JSON that the program reads in them, one a line",
+        &JSON,
+    ),
+    ("man", "Prints the manual page, in troff", &[]),
+    ("completions", "Prints the completions for bash", &[]),
+];
+
 /// Returns the command line. Without any word the program reads a story from standard input.
 pub fn command<'a>(alloc: Global) -> Result<Command<'a>, AllocError> {
-    Command::new(alloc, "am-rehearse")
+    let command = Command::new(alloc, "am-rehearse")
         .bin_name("am-rehearse")?
         .version(VERSION)
-        .about("Rehearses an alertmanager.yml: simulates alerts, silences and outages on a clock")
-        .after_help(STATUSES)
-        .subcommand(play(alloc)?)?
-        .subcommand(compare(alloc)?)?
-        .subcommand(story(alloc)?)?
-        .subcommand(check(alloc)?)?
-        .subcommand(routes(alloc)?)?
-        .subcommand(json(alloc)?)?
-        .subcommand(Command::new(alloc, "man").about(MAN_HELP))?
-        .subcommand(Command::new(alloc, "completions").about(COMPLETIONS_HELP))
+        .about(ABOUT)
+        .after_help(STATUSES);
+    with_subcommands(alloc, command, &SUBCOMMANDS)
 }
 
-fn play<'a>(alloc: Global) -> Result<Command<'a>, AllocError> {
-    let story = Arg::new(alloc, "STORY")
-        .help("A file in YAML or JSON with what happens; - is standard input")
-        .required(true);
-    let config = Arg::new(alloc, "config")
-        .long("config")
-        .value_name("FILE")
-        .help("An alertmanager.yml, or a config of our own, in place of the story's");
-    let output = Arg::new(alloc, "output")
-        .long("output")
-        .value_name("OUTPUT")
-        .value_parser(OUTPUTS.as_slice())
-        .help("What to print, in place of the story's own output");
-    let no_failures = Arg::new(alloc, "no-failures")
-        .long("no-failures")
-        .action(ArgAction::SetTrue)
-        .help("With --output notices, leaves out those that failed");
-    let all = Arg::new(alloc, "all")
-        .long("all")
-        .action(ArgAction::SetTrue)
-        .help(
-            "Prints the timeline with a line for each flush, also where like flushes follow each other",
-        );
-    let play = Command::new(alloc, "play")
-        .about(PLAY_HELP)
-        .arg(story)?
-        .arg(config)?
-        .arg(output)?
-        .arg(until(alloc))?
-        .arg(no_failures)?
-        .arg(all)?;
-    let play = selecting(alloc, play)?;
-    let junit = Arg::new(alloc, "junit")
-        .long("junit")
-        .value_name("FILE")
-        .help("Writes what became of the expectations to this file, as XML of JUnit");
-    let play = play.arg(junit)?.arg(color(alloc))?;
-    play.arg(format(alloc))
+fn with_subcommands<'a>(
+    alloc: Global,
+    command: Command<'a>,
+    subcommands: &[(&'static str, &'static str, &[Word])],
+) -> Result<Command<'a>, AllocError> {
+    let mut command = command;
+    for (name, about, words) in subcommands {
+        let subcommand = with_words(alloc, Command::new(alloc, *name).about(*about), words)?;
+        command = command.subcommand(subcommand)?;
+    }
+    Ok(command)
 }
 
-/// Adds the options that leave out lines of a timeline.
-fn selecting<'a>(alloc: Global, play: Command<'a>) -> Result<Command<'a>, AllocError> {
-    let receiver = Arg::new(alloc, "receiver")
-        .long("receiver")
-        .value_name("NAME")
-        .help("Prints only the lines of this receiver's groups");
-    let group = Arg::new(alloc, "group")
-        .long("group")
-        .value_name("ROUTE")
-        .help("Prints only the lines of this route's groups, which are named after it");
-    let alert = Arg::new(alloc, "alert")
-        .long("alert")
-        .value_name("MATCHER")
-        .action(ArgAction::Append)
-        .help(
-            "Prints only the lines of groups with an alert that matches, such as severity=page; may be given again, and one alert matches all",
-        );
-    let changes = Arg::new(alloc, "changes")
-        .long("changes")
-        .action(ArgAction::SetTrue)
-        .help("Leaves out a flush whose lines are all those of the flush before of its group");
-    play.arg(receiver)?.arg(group)?.arg(alert)?.arg(changes)
+/// Adds arguments to a subcommand, in the order that help has.
+fn with_words<'a>(
+    alloc: Global,
+    subcommand: Command<'a>,
+    words: &[Word],
+) -> Result<Command<'a>, AllocError> {
+    let mut subcommand = subcommand;
+    for (name, takes, help) in words {
+        subcommand = subcommand.arg(argument(alloc, *name, *takes).help(*help))?;
+    }
+    Ok(subcommand)
 }
 
-fn compare<'a>(alloc: Global) -> Result<Command<'a>, AllocError> {
-    let old = Arg::new(alloc, "OLD")
-        .help("An alertmanager.yml, or a config of our own; - is standard input")
-        .required(true);
-    let new = Arg::new(alloc, "NEW")
-        .help("The configuration that is compared with it")
-        .required(true);
-    let story = Arg::new(alloc, "STORY")
-        .help("A file in YAML or JSON with what happens")
-        .required(true);
-    let exit_code = Arg::new(alloc, "exit-code")
-        .long("exit-code")
-        .action(ArgAction::SetTrue)
-        .help("Ends with status 6 if a notification differs");
-    let compare = Command::new(alloc, "compare")
-        .about(COMPARE_HELP)
-        .arg(old)?
-        .arg(new)?
-        .arg(story)?
-        .arg(until(alloc))?
-        .arg(exit_code)?;
-    compare.arg(color(alloc))?.arg(format(alloc))
+/// Returns an argument without its help.
+fn argument<'a>(alloc: Global, name: &'a str, takes: Takes) -> Arg<'a> {
+    match takes {
+        Takes::One => Arg::new(alloc, name).required(true),
+        Takes::Some => Arg::new(alloc, name)
+            .required(true)
+            .action(ArgAction::Append)
+            .num_args(1..),
+        Takes::Any => Arg::new(alloc, name)
+            .action(ArgAction::Append)
+            .num_args(0..),
+        Takes::Nothing => Arg::new(alloc, name).long(name).action(ArgAction::SetTrue),
+        Takes::Value(value) => option(alloc, name, value),
+        Takes::Values(value) => option(alloc, name, value).action(ArgAction::Append),
+        Takes::Among(value, values) => option(alloc, name, value).value_parser(values),
+        Takes::Else(value, values, default) => option(alloc, name, value)
+            .value_parser(values)
+            .default_value(default),
+    }
 }
 
-fn story<'a>(alloc: Global) -> Result<Command<'a>, AllocError> {
-    let prometheus = Arg::new(alloc, "prometheus")
-        .long("prometheus")
-        .value_name("FILE")
-        .help("The answer to a range query of ALERTS{alertstate=\"firing\"}; - is standard input");
-    let gap = Arg::new(alloc, "gap")
-        .long("gap")
-        .value_name("DURATION")
-        .help(
-            "Samples farther apart belong to different spans of an alert; two steps of the query if not given",
-        );
-    let alertmanager = Arg::new(alloc, "alertmanager")
-        .long("alertmanager")
-        .value_name("FILE")
-        .help("The answer of /api/v2/alerts, in place of --prometheus");
-    let silences = Arg::new(alloc, "silences")
-        .long("silences")
-        .value_name("FILE")
-        .help("The answer of Alertmanager's /api/v2/silences");
-    let story = Command::new(alloc, "story")
-        .about(STORY_HELP)
-        .arg(prometheus)?
-        .arg(gap)?
-        .arg(alertmanager)?
-        .arg(silences)?;
-    story.arg(color(alloc))?.arg(format(alloc))
-}
-
-fn check<'a>(alloc: Global) -> Result<Command<'a>, AllocError> {
-    let files = Arg::new(alloc, "FILE")
-        .help("An alertmanager.yml, a config of our own or a story; - is standard input")
-        .required(true)
-        .action(ArgAction::Append)
-        .num_args(1..);
-    let check = Command::new(alloc, "check").about(CHECK_HELP).arg(files)?;
-    check.arg(color(alloc))?.arg(format(alloc))
-}
-
-fn routes<'a>(alloc: Global) -> Result<Command<'a>, AllocError> {
-    let file = Arg::new(alloc, "FILE")
-        .help("An alertmanager.yml, a config of our own or a story; - is standard input")
-        .required(true);
-    let labels = Arg::new(alloc, "LABEL=VALUE")
-        .help("A label of the label set that is looked up")
-        .action(ArgAction::Append)
-        .num_args(0..);
-    let verify = Arg::new(alloc, "verify")
-        .long("verify")
-        .value_name("RECEIVER,..")
-        .help("Ends with status 6 unless the label set reaches these receivers, in their order");
-    let routes = Command::new(alloc, "routes")
-        .about(ROUTES_HELP)
-        .arg(file)?
-        .arg(labels)?
-        .arg(verify)?;
-    routes.arg(color(alloc))?.arg(format(alloc))
-}
-
-fn json<'a>(alloc: Global) -> Result<Command<'a>, AllocError> {
-    let files = Arg::new(alloc, "FILE")
-        .help("A file in YAML or JSON; - is standard input")
-        .required(true)
-        .action(ArgAction::Append)
-        .num_args(1..);
-    let json = Command::new(alloc, "json").about(JSON_HELP).arg(files)?;
-    json.arg(color(alloc))?.arg(format(alloc))
-}
-
-fn until<'a>(alloc: Global) -> Arg<'a> {
-    Arg::new(alloc, "until")
-        .long("until")
-        .value_name("DURATION")
-        .help("When the story ends, such as 5h, in place of its own until")
-}
-
-fn color<'a>(alloc: Global) -> Arg<'a> {
-    Arg::new(alloc, "color")
-        .long("color")
-        .value_name("WHEN")
-        .value_parser(COLORS.as_slice())
-        .default_value("auto")
-        .help("When to use colors; NO_COLOR turns auto off")
-}
-
-fn format<'a>(alloc: Global) -> Arg<'a> {
-    Arg::new(alloc, "format")
-        .long("format")
-        .value_name("FORMAT")
-        .value_parser(FORMATS.as_slice())
-        .default_value("text")
-        .help("How faults are printed on standard error: a line each, as text or as JSON")
+/// Returns an option that takes a value, which help calls so.
+fn option<'a>(alloc: Global, name: &'a str, value: &'a str) -> Arg<'a> {
+    Arg::new(alloc, name).long(name).value_name(value)
 }

@@ -21,50 +21,60 @@ impl Complaint<'_> {
     /// Returns the complaint as a line of text, without its end: `FILE:LINE:COLUMN: MESSAGE (at POINTER)`.
     pub fn text(&self, alloc: Global, is_colored: bool) -> Result<String, AllocError> {
         let mut text = String::new(alloc);
+        self.push_text(is_colored, &mut text)?;
+        Ok(text)
+    }
+
+    fn push_text(&self, is_colored: bool, text: &mut String) -> Result<(), AllocError> {
         let (bold, plain) = if is_colored {
             ("\u{1b}[1m", "\u{1b}[0m")
         } else {
             ("", "")
         };
-        write!(text, "{bold}{}:", self.file)?;
-        if let Some(Place { line, column }) = self.place {
-            write!(text, "{line}:{column}:")?;
-        }
-        write!(text, "{plain} ")?;
-        push_shown(&mut text, self.message)?;
-        if let Some(pointer) = self.pointer {
-            if pointer.is_empty() {
-                text.push_str(" (at the top)")?;
-            } else {
+        text.push_str(bold)?;
+        self.push_place(text)?;
+        text.push_str(plain)?;
+        text.push(' ')?;
+        push_shown(text, self.message)?;
+        match self.pointer {
+            None => Ok(()),
+            Some("") => text.push_str(" (at the top)"),
+            Some(pointer) => {
                 text.push_str(" (at ")?;
-                push_shown(&mut text, pointer)?;
-                text.push(')')?;
+                push_shown(text, pointer)?;
+                text.push(')')
             }
         }
-        Ok(text)
+    }
+
+    fn push_place(&self, text: &mut String) -> Result<(), AllocError> {
+        text.push_str(self.file)?;
+        match self.place {
+            None => text.push(':'),
+            Some(Place { line, column }) => write!(text, ":{line}:{column}:"),
+        }
     }
 
     /// Returns the complaint as a JSON object, without a line's end.
     pub fn json(&self, alloc: Global) -> Result<String, AllocError> {
-        match self.object(alloc) {
-            Ok(object) => Value::Object(object).to_string(alloc),
+        let mut object = Map::new(alloc);
+        match self.put_fields(alloc, &mut object) {
+            Ok(()) => Value::Object(object).to_string(alloc),
             Err(_) => Err(AllocError),
         }
     }
 
-    fn object(&self, alloc: Global) -> Result<Map<String, Value>, Refused> {
-        let mut object = Map::new(alloc);
-        put_text(alloc, &mut object, "file", self.file)?;
+    fn put_fields(&self, alloc: Global, object: &mut Map<String, Value>) -> Result<(), Refused> {
+        put_text(alloc, object, "file", self.file)?;
         if let Some(Place { line, column }) = self.place {
-            put_number(alloc, &mut object, "line", line)?;
-            put_number(alloc, &mut object, "column", column)?;
+            put_number(alloc, object, "line", line)?;
+            put_number(alloc, object, "column", column)?;
         }
         if let Some(pointer) = self.pointer {
-            put_text(alloc, &mut object, "pointer", pointer)?;
+            put_text(alloc, object, "pointer", pointer)?;
         }
-        put_text(alloc, &mut object, "kind", self.kind)?;
-        put_text(alloc, &mut object, "message", self.message)?;
-        Ok(object)
+        put_text(alloc, object, "kind", self.kind)?;
+        put_text(alloc, object, "message", self.message)
     }
 }
 
@@ -82,7 +92,7 @@ fn push_shown(out: &mut String, text: &str) -> Result<(), AllocError> {
 }
 
 /// Memory was refused.
-#[derive(Clone, Copy, Debug)]
+#[derive(Clone, Copy)]
 struct Refused;
 
 impl From<AllocError> for Refused {

@@ -6,23 +6,21 @@ use std::alloc::{AllocError, Global};
 /// Returns a script for bash that completes the command line.
 pub fn completions(alloc: Global) -> Result<String, AllocError> {
     let command = command(alloc)?;
+    script_for(alloc, &command)
+}
+
+fn script_for(alloc: Global, command: &Command<'_>) -> Result<String, AllocError> {
     let mut script = String::new(alloc);
-    script.push_str(HEAD)?;
-    script.push_str("    case \"$command\" in\n    '') words=\"")?;
-    for subcommand in command.get_subcommands() {
-        write!(script, "{} ", subcommand.get_name())?;
-    }
-    script.push_str("--help --version\" ;;\n")?;
-    for subcommand in command.get_subcommands() {
-        push_options(&mut script, subcommand)?;
-    }
-    script.push_str("    esac\n    case \"$before\" in\n")?;
-    push_values(&mut script, "output", &OUTPUTS)?;
-    push_values(&mut script, "color", &COLORS)?;
-    push_values(&mut script, "format", &FORMATS)?;
-    script.push_str(TAIL)?;
+    push_script(&mut script, command)?;
     Ok(script)
 }
+
+/// The options that take one of some words, and these words.
+const VALUES: [(&str, &[&str]); 3] = [
+    ("output", &OUTPUTS),
+    ("color", &COLORS),
+    ("format", &FORMATS),
+];
 
 /// What stands before the words of the commands.
 const HEAD: &str = "\
@@ -37,6 +35,30 @@ const TAIL: &str = "    esac
 }
 complete -o default -F _am_rehearse am-rehearse
 ";
+
+fn push_script(script: &mut String, command: &Command<'_>) -> Result<(), AllocError> {
+    script.push_str(HEAD)?;
+    push_commands(script, command.get_subcommands())?;
+    script.push_str("    case \"$before\" in\n")?;
+    for (option, values) in &VALUES {
+        push_values(script, *option, values)?;
+    }
+    script.push_str(TAIL)
+}
+
+/// Adds the words behind each command, and those that stand where there is none yet.
+fn push_commands(script: &mut String, commands: &[Command<'_>]) -> Result<(), AllocError> {
+    script.push_str("    case \"$command\" in\n    '') words=\"")?;
+    for command in commands {
+        script.push_str(command.get_name())?;
+        script.push(' ')?;
+    }
+    script.push_str("--help --version\" ;;\n")?;
+    for command in commands {
+        push_options(script, command)?;
+    }
+    script.push_str("    esac\n")
+}
 
 fn push_options(script: &mut String, command: &Command<'_>) -> Result<(), AllocError> {
     write!(script, "    {}) words=\"", command.get_name())?;

@@ -1,15 +1,16 @@
 //! Durations as people write them.
 use std::alloc::{AllocError, Global};
 
-/// The units of durations, the largest first, each with the words that people write for it.
-const UNITS: [(&str, [&str; 4]); 7] = [
-    ("y", ["y", "yr", "year", "years"]),
-    ("w", ["w", "wk", "week", "weeks"]),
-    ("d", ["d", "ds", "day", "days"]),
-    ("h", ["h", "hr", "hour", "hours"]),
-    ("m", ["m", "min", "minute", "minutes"]),
-    ("s", ["s", "sec", "second", "seconds"]),
-    ("ms", ["ms", "msec", "millisecond", "milliseconds"]),
+/// The units of durations, the largest first, each with the words that people write for it. Seconds are meant where a number
+/// has no unit.
+const UNITS: [(&str, &[&str]); 7] = [
+    ("y", &["y", "yr", "year", "years"]),
+    ("w", &["w", "wk", "week", "weeks"]),
+    ("d", &["d", "ds", "day", "days"]),
+    ("h", &["h", "hr", "hour", "hours"]),
+    ("m", &["m", "min", "minute", "minutes"]),
+    ("s", &["", "s", "sec", "second", "seconds"]),
+    ("ms", &["ms", "msec", "millisecond", "milliseconds"]),
 ];
 
 /// A duration as it is understood so far.
@@ -23,23 +24,34 @@ struct Understood {
 }
 
 impl Understood {
-    /// Adds the number and its unit that were read, and tells whether that was possible. Seconds are meant where a number
-    /// has no unit.
+    /// Adds a text, and tells whether it can be understood.
+    fn read(&mut self, text: &str) -> Result<bool, AllocError> {
+        for character in text.chars() {
+            match character {
+                '0'..='9' => {
+                    if !self.word.is_empty() && !self.add_part()? {
+                        return Ok(false);
+                    }
+                    self.number.push(character)?;
+                }
+                'a'..='z' | 'A'..='Z' => self.word.push(character.to_ascii_lowercase())?,
+                ' ' | ',' => {}
+                _ => return Ok(false),
+            }
+        }
+        self.add_part()
+    }
+
+    /// Adds the number and its unit that were read, and tells whether that was possible.
     fn add_part(&mut self) -> Result<bool, AllocError> {
-        let unit = match self.word.as_str() {
-            "" => Some(5),
-            word => unit_of(word),
-        };
-        let Some(unit) = unit else {
+        let Some((unit, sign)) = unit_of(self.word.as_str()) else {
             return Ok(false);
         };
         if self.number.is_empty() || unit < self.next_unit {
             return Ok(false);
         }
-        if let Some((sign, _)) = UNITS.get(unit) {
-            self.written.push_str(self.number.as_str())?;
-            self.written.push_str(sign)?;
-        }
+        self.written.push_str(self.number.as_str())?;
+        self.written.push_str(sign)?;
         self.next_unit = unit.saturating_add(1);
         self.number.clear();
         self.word.clear();
@@ -47,11 +59,16 @@ impl Understood {
     }
 }
 
-/// Returns the place in `UNITS` of the unit that a word means.
-fn unit_of(word: &str) -> Option<usize> {
-    UNITS
-        .iter()
-        .position(|(_, words)| words.iter().any(|known| *known == word))
+/// Returns the place in `UNITS` of the unit that a word means, and how that unit has to be written.
+fn unit_of(word: &str) -> Option<(usize, &'static str)> {
+    let mut place = 0usize;
+    for (sign, words) in &UNITS {
+        if words.contains(&word) {
+            return Some((place, *sign));
+        }
+        place = place.saturating_add(1);
+    }
+    None
 }
 
 /// Returns the duration that a text means, as it has to be written, such as `5m` for `5 min`; none, where the text can't
@@ -63,20 +80,7 @@ pub(crate) fn rewritten(alloc: Global, text: &str) -> Result<Option<String>, All
         word: String::new(alloc),
         next_unit: 0,
     };
-    for character in text.chars() {
-        match character {
-            '0'..='9' => {
-                if !understood.word.is_empty() && !understood.add_part()? {
-                    return Ok(None);
-                }
-                understood.number.push(character)?;
-            }
-            'a'..='z' | 'A'..='Z' => understood.word.push(character.to_ascii_lowercase())?,
-            ' ' | ',' => {}
-            _ => return Ok(None),
-        }
-    }
-    if understood.add_part()? {
+    if understood.read(text)? {
         Ok(Some(understood.written))
     } else {
         Ok(None)

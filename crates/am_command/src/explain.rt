@@ -7,7 +7,7 @@ use serde_json::Value;
 use std::alloc::{AllocError, Global};
 
 /// How a value is wrong.
-#[derive(Clone, Copy, Debug, PartialEq, Eq)]
+#[derive(Clone, Copy, PartialEq, Eq)]
 pub enum Wrong {
     /// A field that must be there isn't.
     Missing,
@@ -38,7 +38,7 @@ impl Wrong {
 }
 
 /// The limits that are named where one is passed.
-#[derive(Clone, Copy, Debug, PartialEq, Eq)]
+#[derive(Clone, Copy)]
 pub struct Bounds {
     /// Routes below the root of a configuration's own list.
     pub children: usize,
@@ -142,16 +142,21 @@ fn unknown(alloc: Global, spot: &Spot<'_>) -> Result<String, AllocError> {
     if wanted_in(name).is_some() {
         return format!(in alloc; "`{name}` doesn't belong here");
     }
-    let mut nearest = Nearest::to(name);
-    for (known, _) in &FIELDS {
-        nearest.consider(alloc, known)?;
-    }
-    match nearest.found() {
+    match nearest_field(alloc, name)? {
         None => format!(in alloc; "no field `{name}` is known here"),
         Some(meant) => format!(in alloc;
             "no field `{name}` is known here; did you mean `{meant}`?"
         ),
     }
+}
+
+/// Returns the name of the known field that may be meant.
+fn nearest_field(alloc: Global, name: &str) -> Result<Option<&str>, AllocError> {
+    let mut nearest = Nearest::to(name);
+    for (known, _) in &FIELDS {
+        nearest.consider(alloc, known)?;
+    }
+    Ok(nearest.found())
 }
 
 fn unsupported(alloc: Global, spot: &Spot<'_>) -> Result<String, AllocError> {
@@ -202,29 +207,41 @@ fn bad_value(
     if spot.is_label {
         return bad_label(alloc, spot, bounds);
     }
-    match (spot.text(), spot.wanted) {
-        (None, Some(Wanted::Matchers)) if pointer.starts_with("/silences") => {
-            let most = bounds.matchers;
-            format!(in alloc; "a silence needs 1 to {most} matchers")
-        }
-        (None, Some(Wanted::Matchers)) if pointer.starts_with("/expect") => {
-            bad_expected_matchers(alloc, spot.name.as_str(), bounds)
-        }
-        (Some(text), Some(Wanted::Duration)) => bad_duration(
-            alloc,
-            spot.name.as_str(),
-            text,
-            bounds,
-        ),
-        (Some(text), Some(Wanted::Matchers)) => format!(in alloc;
+    let name = spot.name.as_str();
+    let Some(text) = spot.text() else {
+        return bad_list(alloc, pointer, spot, bounds);
+    };
+    match spot.wanted {
+        Some(Wanted::Duration) => bad_duration(alloc, name, text, bounds),
+        Some(Wanted::Matchers) => format!(in alloc;
             "`{text}` is no matcher; write it as severity=\"critical\" or dc=~\"a|b\""
         ),
-        (Some(text), Some(Wanted::Integration)) => format!(in alloc;
+        Some(Wanted::Integration) => format!(in alloc;
             "the receiver has no integration `{text}`; write its kind, such as webhook, or webhook/0, or its number"
         ),
-        (Some(text), Some(Wanted::Texts)) => bad_name(alloc, text),
-        (Some(text), Some(Wanted::Text)) => bad_text(alloc, top, pointer, spot.name.as_str(), text),
+        Some(Wanted::Texts) => bad_name(alloc, text),
+        Some(Wanted::Text) => bad_text(alloc, top, pointer, name, text),
         _ => too_many(alloc, spot, bounds),
+    }
+}
+
+/// Says what is wrong with a value that is no text.
+fn bad_list(
+    alloc: Global,
+    pointer: &str,
+    spot: &Spot<'_>,
+    bounds: &Bounds,
+) -> Result<String, AllocError> {
+    if !matches!(spot.wanted, Some(Wanted::Matchers)) {
+        return too_many(alloc, spot, bounds);
+    }
+    let most = bounds.matchers;
+    if pointer.starts_with("/silences") {
+        format!(in alloc; "a silence needs 1 to {most} matchers")
+    } else if pointer.starts_with("/expect") {
+        bad_expected_matchers(alloc, spot.name.as_str(), bounds)
+    } else {
+        too_many(alloc, spot, bounds)
     }
 }
 
@@ -253,23 +270,33 @@ fn bad_duration(
     text: &str,
     bounds: &Bounds,
 ) -> Result<String, AllocError> {
-    let days = bounds.days;
     match rewritten(alloc, text)? {
         None => format!(in alloc; "`{text}` is no duration; write 90s, 5m or 2h30m"),
-        Some(written) if written.as_str() != text && text != "0" => {
-            format!(in alloc; "`{text}` is no duration; write {written}")
-        }
-        Some(_) => match name {
-            "until" => format!(in alloc; "`{text}` is too long: a story has at most {days} days"),
-            "to" => format!(in alloc;
-                "`{text}` comes before the beginning, is too long, or stands beside `at`"
-            ),
-            "within" => format!(in alloc;
-                "`{text}` is too long; and neither `at`, `from` nor `to` stands beside `within`"
-            ),
-            _ => format!(in alloc; "`{text}` is out of range for `{name}`"),
-        },
+        Some(written) => misplaced_duration(alloc, name, text, written.as_str(), bounds),
     }
+}
+
+/// Says how a duration has to be written; where it is written so, why it can't stand there.
+fn misplaced_duration(
+    alloc: Global,
+    name: &str,
+    text: &str,
+    written: &str,
+    bounds: &Bounds,
+) -> Result<String, AllocError> {
+    if written != text && text != "0" {
+        return format!(in alloc; "`{text}` is no duration; write {written}");
+    }
+    let days = bounds.days;
+    let fault = match name {
+        "until" => {
+            return format!(in alloc; "`{text}` is too long: a story has at most {days} days");
+        }
+        "to" => "comes before the beginning, is too long, or stands beside `at`",
+        "within" => "is too long; and neither `at`, `from` nor `to` stands beside `within`",
+        _ => return format!(in alloc; "`{text}` is out of range for `{name}`"),
+    };
+    format!(in alloc; "`{text}` {fault}")
 }
 
 fn bad_name(alloc: Global, text: &str) -> Result<String, AllocError> {
@@ -285,20 +312,24 @@ fn bad_text(
 ) -> Result<String, AllocError> {
     match name {
         "receiver" => no_receiver(alloc, top, pointer, text),
-        "start" => format!(in alloc; "`{text}` is no time of RFC 3339; write 2026-11-23T08:00:00Z"),
-        "output" => format!(in alloc;
-            "`{text}` is no output; write timeline, notices, json or html"
-        ),
-        "answer" => format!(in alloc; "`{text}` is no answer; write done, again or never"),
         "reason" => no_reason(alloc, text),
-        "when" => format!(in alloc;
-            "`{text}` isn't right here; write firing or resolved, and `within` and `of` beside it"
-        ),
         "name" if text.is_empty() => format!(in alloc; "the name is empty"),
-        "name" => format!(in alloc;
-            "`{text}` can't be the name: another has it, or it has other letters than names may have"
-        ),
-        _ => format!(in alloc; "`{text}` isn't allowed here"),
+        _ => {
+            let fault = fault_of_text(name);
+            format!(in alloc; "`{text}` {fault}")
+        }
+    }
+}
+
+/// Returns what is wrong with the text of a field, as it is said behind the text.
+fn fault_of_text(name: &str) -> &'static str {
+    match name {
+        "start" => "is no time of RFC 3339; write 2026-11-23T08:00:00Z",
+        "output" => "is no output; write timeline, notices, json or html",
+        "answer" => "is no answer; write done, again or never",
+        "when" => "isn't right here; write firing or resolved, and `within` and `of` beside it",
+        "name" => "can't be the name: another has it, or it has other letters than names may have",
+        _ => "isn't allowed here",
     }
 }
 
@@ -335,6 +366,21 @@ fn no_receiver(
     if text.is_empty() {
         return format!(in alloc; "the root route has to name a receiver");
     }
+    match nearest_receiver(alloc, top, pointer, text)? {
+        None => format!(in alloc; "receiver `{text}` isn't defined"),
+        Some(meant) => format!(in alloc;
+            "receiver `{text}` isn't defined; did you mean `{meant}`?"
+        ),
+    }
+}
+
+/// Returns the name of the receiver that may be meant.
+fn nearest_receiver<'v>(
+    alloc: Global,
+    top: &'v Value,
+    pointer: &str,
+    text: &'v str,
+) -> Result<Option<&'v str>, AllocError> {
     let mut nearest = Nearest::to(text);
     if let Some(receivers) = receivers_for(top, pointer) {
         for receiver in receivers {
@@ -343,12 +389,7 @@ fn no_receiver(
             }
         }
     }
-    match nearest.found() {
-        None => format!(in alloc; "receiver `{text}` isn't defined"),
-        Some(meant) => format!(in alloc;
-            "receiver `{text}` isn't defined; did you mean `{meant}`?"
-        ),
-    }
+    Ok(nearest.found())
 }
 
 /// Returns the receivers of the configuration that a place belongs to.
@@ -365,41 +406,45 @@ fn receivers_for<'v>(top: &'v Value, pointer: &str) -> Option<&'v Vec<Value>> {
 
 /// Says which limit a list or a number passes, if it can be told.
 fn too_many(alloc: Global, spot: &Spot<'_>, bounds: &Bounds) -> Result<String, AllocError> {
-    match spot.name.as_str() {
-        "children" => format!(in alloc; "there are too many routes: at most {}", bounds.children),
+    let (what, most, and) = match spot.name.as_str() {
+        "children" => ("there are too many routes", bounds.children, ""),
+        "receivers" if spot.item.is_some() => {
+            (
+                "the receiver has too many integrations",
+                bounds.integrations,
+                "",
+            )
+        }
+        "receivers" => ("there are too many receivers", bounds.receivers, ""),
+        "integrations" => ("there are too many integrations", bounds.integrations, ""),
+        "inhibit" | "inhibit_rules" => ("there are too many inhibition rules", bounds.rules, ""),
+        "group_by" | "equal" => (
+            "too many names, or `...` beside another",
+            bounds.names,
+            ", and `...` alone",
+        ),
+        "matchers" | "match" | "match_re" | "source" | "target" => (
+            "these matchers aren't allowed here",
+            bounds.matchers,
+            ", and none at the root",
+        ),
+        name => return too_large(alloc, name, bounds),
+    };
+    format!(in alloc; "{what}: at most {most}{and}")
+}
+
+/// Says which two limits a tree or a label set passes one of, if it is one.
+fn too_large(alloc: Global, name: &str, bounds: &Bounds) -> Result<String, AllocError> {
+    match name {
         "routes" => format!(in alloc;
             "there are too many routes: at most {} stand below the root, at {} levels",
             bounds.routes, bounds.levels
-        ),
-        "receivers" if spot.item.is_some() => format!(in alloc;
-            "the receiver has too many integrations: at most {}",
-            bounds.integrations
-        ),
-        "receivers" => format!(in alloc;
-            "there are too many receivers: at most {}",
-            bounds.receivers
-        ),
-        "integrations" => format!(in alloc;
-            "there are too many integrations: at most {}",
-            bounds.integrations
-        ),
-        "inhibit" | "inhibit_rules" => format!(in alloc;
-            "there are too many inhibition rules: at most {}",
-            bounds.rules
-        ),
-        "group_by" | "equal" => format!(in alloc;
-            "too many names, or `...` beside another: at most {}, and `...` alone",
-            bounds.names
         ),
         "labels" | "firing" | "resolved" => format!(in alloc;
             "this is no label set: at most {} labels, each with a name and a value of at most {} bytes",
             bounds.names, bounds.label_bytes
         ),
-        "matchers" | "match" | "match_re" | "source" | "target" => format!(in alloc;
-            "these matchers aren't allowed here: at most {}, and none at the root",
-            bounds.matchers
-        ),
-        _ => not_allowed(alloc, spot.name.as_str()),
+        _ => not_allowed(alloc, name),
     }
 }
 

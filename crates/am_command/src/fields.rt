@@ -1,7 +1,7 @@
 //! The fields of stories and configurations, by name.
 
 /// What kind of value a field takes.
-#[derive(Clone, Copy, Debug, PartialEq, Eq)]
+#[derive(Clone, Copy, PartialEq, Eq)]
 pub(crate) enum Wanted {
     Text,
     Duration,

@@ -21,18 +21,22 @@ const FAINT: &str = "\u{1b}[2m";
 pub fn painted(alloc: Global, text: &str) -> Result<String, AllocError> {
     let mut out = String::new(alloc);
     for line in text.split_inclusive('\n') {
-        let content = line.strip_suffix("\n").unwrap_or(line);
-        match color_of(content) {
-            None => out.push_str(line)?,
-            Some(color) => {
-                write!(out, "{color}{content}\u{1b}[0m")?;
-                if content.len() < line.len() {
-                    out.push('\n')?;
-                }
-            }
-        }
+        push_painted(line, &mut out)?;
     }
     Ok(out)
+}
+
+/// Adds a line in its color. The last line of a text may have no end.
+fn push_painted(line: &str, out: &mut String) -> Result<(), AllocError> {
+    let content = line.strip_suffix("\n").unwrap_or(line);
+    let Some(color) = color_of(content) else {
+        return out.push_str(line);
+    };
+    write!(out, "{color}{content}\u{1b}[0m")?;
+    if content.len() < line.len() {
+        out.push('\n')?;
+    }
+    Ok(())
 }
 
 /// Returns the color of a line, by its word, or by what became of an expectation.

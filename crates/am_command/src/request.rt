@@ -10,7 +10,7 @@ use std::alloc::{AllocError, Global};
 pub const STANDARD_INPUT: &str = "-";
 
 /// When colors are used.
-#[derive(Clone, Copy, Debug, PartialEq, Eq)]
+#[derive(Clone, Copy)]
 pub enum Color {
     Auto,
     Always,
@@ -18,14 +18,14 @@ pub enum Color {
 }
 
 /// How faults are printed.
-#[derive(Clone, Copy, Debug, PartialEq, Eq)]
+#[derive(Clone, Copy)]
 pub enum FaultFormat {
     Text,
     Json,
 }
 
 /// How a command prints.
-#[derive(Clone, Copy, Debug, PartialEq, Eq)]
+#[derive(Clone, Copy)]
 pub struct Style {
     pub color: Color,
     pub format: FaultFormat,
@@ -62,7 +62,7 @@ pub struct PlayRequest<'a> {
 }
 
 /// A story that is simulated under two configurations.
-#[derive(Clone, Copy, Debug, PartialEq, Eq)]
+#[derive(Clone, Copy)]
 pub struct CompareRequest<'a> {
     pub old: &'a str,
     pub new: &'a str,
@@ -74,7 +74,7 @@ pub struct CompareRequest<'a> {
 }
 
 /// Answers of which a story is made.
-#[derive(Clone, Copy, Debug, PartialEq, Eq)]
+#[derive(Clone, Copy)]
 pub struct StoryRequest<'a> {
     pub prometheus: Option<&'a str>,
     pub gap: Option<&'a str>,
@@ -137,6 +137,10 @@ pub fn read_request<'a>(alloc: Global, words: &'a [String]) -> Result<Request<'a
             style: PLAIN,
         }));
     }
+    parsed_request(alloc, words)
+}
+
+fn parsed_request<'a>(alloc: Global, words: &'a [String]) -> Result<Request<'a>, Error> {
     let command = command(alloc)?
         .subcommand_required(true)
         .arg_required_else_help(true);
@@ -148,27 +152,27 @@ fn request_of<'a>(alloc: Global, matches: &ArgMatches<'a>) -> Result<Request<'a>
     let Some((name, matches)) = matches.subcommand() else {
         return Ok(Request::Manual);
     };
-    Ok(match name {
-        "play" => Request::Play(play_request(alloc, matches)?),
-        "compare" => Request::Compare(compare_request(matches)),
-        "story" => Request::Story(story_request(matches)),
-        "check" => Request::Check {
+    match name {
+        "play" => Ok(Request::Play(play_request(alloc, matches)?)),
+        "compare" => Ok(Request::Compare(compare_request(matches))),
+        "story" => Ok(Request::Story(story_request(matches))),
+        "check" => Ok(Request::Check {
             files: all_of(alloc, matches, "FILE")?,
             style: style_of(matches),
-        },
-        "routes" => Request::Routes {
+        }),
+        "routes" => Ok(Request::Routes {
             file: text_of(matches, "FILE"),
             labels: all_of(alloc, matches, "LABEL=VALUE")?,
             verify: matches.get_str("verify"),
             style: style_of(matches),
-        },
-        "json" => Request::Json {
+        }),
+        "json" => Ok(Request::Json {
             files: all_of(alloc, matches, "FILE")?,
             style: style_of(matches),
-        },
-        "completions" => Request::Completions,
-        _ => Request::Manual,
-    })
+        }),
+        "completions" => Ok(Request::Completions),
+        _ => Ok(Request::Manual),
+    }
 }
 
 fn play_request<'a>(

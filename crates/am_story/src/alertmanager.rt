@@ -1,112 +1,137 @@
 //! Reads what Alertmanager answers at `/api/v2/alerts` and `/api/v2/silences`.
 use crate::incident::{Incident, SeenAlert, SeenSilence, SeenSpan};
-use crate::moment::read_time;
+use crate::labels::read_labels;
+use crate::moment::{optional_time, required_time};
+use crate::yaml::escape_of;
 use am_cli::fault::InputFault;
 use am_cli::reader::{Object, Reader};
-use std::alloc::Global;
+use std::alloc::AllocError;
 
 /// How long a story goes on behind the last update of an alert: 5 minutes, in milliseconds.
 const GOES_ON: u64 = 300_000;
 
 /// Reads the alerts that Alertmanager has. One that has ended by the last update of all has an end.
 pub fn read_alerts(reader: &Reader<'_, '_>) -> Result<Incident, InputFault> {
-    let alloc = reader.alloc();
-    let mut alerts = Vec::new(alloc);
-    let mut latest = 0u64;
-    for (index, value) in reader.array()?.iter().enumerate() {
-        let item = reader.item(index, value);
-        let (alert, updated) = read_alert(&item.object()?)?;
-        latest = latest.max(updated);
-        alerts.push(alert)?;
-    }
+    let mut alerts = Vec::new(reader.alloc());
+    let latest = push_alerts(reader, &mut alerts)?;
     for alert in alerts.iter_mut() {
-        for span in alert.spans.iter_mut() {
-            if let Some(to) = span.to {
-                if to > latest {
-                    span.to = None;
-                }
-            }
-        }
+        drop_ends_behind(latest, &mut alert.spans);
     }
     Ok(Incident {
         alerts,
-        silences: Vec::new(alloc),
+        silences: Vec::new(reader.alloc()),
         end: latest.saturating_add(GOES_ON),
     })
 }
 
+/// Adds the alerts, and returns when the last of them was updated.
+fn push_alerts(reader: &Reader<'_, '_>, alerts: &mut Vec<SeenAlert>) -> Result<u64, InputFault> {
+    let mut latest = 0u64;
+    for (index, value) in reader.array()?.iter().enumerate() {
+        let (alert, updated) = read_alert(&reader.item(index, value))?;
+        latest = latest.max(updated);
+        alerts.push(alert)?;
+    }
+    Ok(latest)
+}
+
+/// Takes the ends away that come behind a time.
+fn drop_ends_behind(time: u64, spans: &mut Vec<SeenSpan>) {
+    for span in spans.iter_mut() {
+        if let Some(to) = span.to {
+            if to > time {
+                span.to = None;
+            }
+        }
+    }
+}
+
 /// Reads an alert, and when it was updated last.
-fn read_alert(alert: &Object<'_, '_>) -> Result<(SeenAlert, u64), InputFault> {
-    let from = read_time(&alert.required("startsAt")?)?;
-    let to = match alert.optional("endsAt") {
-        None => None,
-        Some(ends) => Some(read_time(&ends)?.max(from)),
-    };
-    let updated = match alert.optional("updatedAt") {
-        None => from,
-        Some(updated) => read_time(&updated)?.max(from),
-    };
+fn read_alert(reader: &Reader<'_, '_>) -> Result<(SeenAlert, u64), InputFault> {
+    let alert = reader.object()?;
+    let (span, updated) = read_times(&alert)?;
     let mut spans = Vec::new(alert.alloc());
-    spans.push(SeenSpan { from, to })?;
-    let labels = read_labels(&alert.required("labels")?.object()?)?;
+    spans.push(span)?;
+    let labels = read_labels(&alert.required("labels")?.object()?, &[])?;
     Ok((SeenAlert { labels, spans }, updated))
 }
 
-fn read_labels(object: &Object<'_, '_>) -> Result<Vec<(String, String)>, InputFault> {
-    let mut labels = Vec::new(object.alloc());
-    for (name, value) in object.members().iter() {
-        let text = object.member(name.as_str(), value).text()?;
-        let copied = String::from_str(object.alloc(), name.as_str())?;
-        labels.push((copied, String::from_str(object.alloc(), text)?))?;
-    }
-    Ok(labels)
+/// Reads the span of an alert, and when it was updated last.
+fn read_times(alert: &Object<'_, '_>) -> Result<(SeenSpan, u64), InputFault> {
+    let from = required_time(alert, "startsAt")?;
+    let to = match optional_time(alert, "endsAt")? {
+        None => None,
+        Some(to) => Some(to.max(from)),
+    };
+    let updated = optional_time(alert, "updatedAt")?.unwrap_or(from);
+    Ok((SeenSpan { from, to }, updated.max(from)))
 }
 
 /// Reads the silences that Alertmanager has.
 pub fn read_silences(reader: &Reader<'_, '_>) -> Result<Vec<SeenSilence>, InputFault> {
+    let values = reader.array()?;
     let mut silences = Vec::new(reader.alloc());
-    for (index, value) in reader.array()?.iter().enumerate() {
-        let item = reader.item(index, value);
-        silences.push(read_silence(&item.object()?)?)?;
+    for (index, value) in values.iter().enumerate() {
+        silences.push(read_silence(&reader.item(index, value))?)?;
     }
     Ok(silences)
 }
 
-fn read_silence(silence: &Object<'_, '_>) -> Result<SeenSilence, InputFault> {
-    let list = silence.required("matchers")?;
-    let mut matchers = Vec::new(silence.alloc());
-    for (index, value) in list.array()?.iter().enumerate() {
-        let item = list.item(index, value);
-        matchers.push(read_matcher(silence.alloc(), &item.object()?)?)?;
+fn read_silence(reader: &Reader<'_, '_>) -> Result<SeenSilence, InputFault> {
+    let silence = reader.object()?;
+    let matchers = read_matchers(&silence.required("matchers")?)?;
+    let (from, to) = read_ends(&silence)?;
+    Ok(SeenSilence { matchers, from, to })
+}
+
+/// Reads when a silence starts and when it ends.
+fn read_ends(silence: &Object<'_, '_>) -> Result<(u64, u64), InputFault> {
+    let from = required_time(silence, "startsAt")?;
+    let to = required_time(silence, "endsAt")?;
+    Ok((from, to))
+}
+
+fn read_matchers(list: &Reader<'_, '_>) -> Result<Vec<String>, InputFault> {
+    let values = list.array()?;
+    let mut matchers = Vec::new(list.alloc());
+    for (index, value) in values.iter().enumerate() {
+        matchers.push(read_matcher(&list.item(index, value))?)?;
     }
-    Ok(SeenSilence {
-        matchers,
-        from: read_time(&silence.required("startsAt")?)?,
-        to: read_time(&silence.required("endsAt")?)?,
-    })
+    Ok(matchers)
 }
 
 /// Reads a matcher as the text of it, such as `job!~"test-.*"`.
-fn read_matcher(alloc: Global, matcher: &Object<'_, '_>) -> Result<String, InputFault> {
+fn read_matcher(reader: &Reader<'_, '_>) -> Result<String, InputFault> {
+    let matcher = reader.object()?;
     let name = matcher.required("name")?;
     let value = matcher.required("value")?;
+    let operator = read_operator(&matcher)?;
+    let (name, value) = (name.text()?, value.text()?);
+    let mut text = String::from_str(reader.alloc(), name)?;
+    push_quoted(operator, value, &mut text)?;
+    Ok(text)
+}
+
+fn read_operator(matcher: &Object<'_, '_>) -> Result<&'static str, InputFault> {
     let is_pattern = matcher.flag_or("isRegex", false)?;
     let is_equal = matcher.flag_or("isEqual", true)?;
-    let mut text = String::from_str(alloc, name.text()?)?;
-    text.push_str(match (is_equal, is_pattern) {
-        (true, false) => "=\"",
-        (false, false) => "!=\"",
-        (true, true) => "=~\"",
-        (false, true) => "!~\"",
-    })?;
-    for character in value.text()?.chars() {
-        match character {
-            '"' => text.push_str("\\\"")?,
-            '\\' => text.push_str("\\\\")?,
-            '\n' => text.push_str("\\n")?,
-            _ => text.push(character)?,
+    Ok(match (is_equal, is_pattern) {
+        (true, false) => "=",
+        (false, false) => "!=",
+        (true, true) => "=~",
+        (false, true) => "!~",
+    })
+}
+
+/// Adds an operator, and the value in quotes.
+fn push_quoted(operator: &str, value: &str, out: &mut String) -> Result<(), AllocError> {
+    out.push_str(operator)?;
+    out.push('"')?;
+    for character in value.chars() {
+        match escape_of(character) {
+            Some(escape) => out.push_str(escape)?,
+            None => out.push(character)?,
         }
     }
-    text.push('"')?;
-    Ok(text)
+    out.push('"')
 }

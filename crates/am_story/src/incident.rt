@@ -28,7 +28,7 @@ pub struct SeenAlert {
 }
 
 /// A span in which an alert fired; without an end it fires at the end still.
-#[derive(Clone, Copy, Debug, PartialEq, Eq)]
+#[derive(Clone, Copy)]
 pub struct SeenSpan {
     pub from: u64,
     pub to: Option<u64>,
@@ -57,64 +57,88 @@ impl Incident {
     /// Returns the story, in YAML, without a configuration. It starts when the first alert fired; where none fired, it is
     /// empty, and a comment says so.
     pub fn story(&self, alloc: Global) -> Result<String, AllocError> {
-        let start = self.start();
         let mut out = String::new(alloc);
+        self.push_story(&mut out)?;
+        Ok(out)
+    }
+
+    fn push_story(&self, out: &mut String) -> Result<(), AllocError> {
         if self.alerts.is_empty() {
-            out.push_str(EMPTY)?;
-            return Ok(out);
+            return out.push_str(EMPTY);
         }
+        let start = self.start();
         out.push_str("# Made of what happened. Play it with --config alertmanager.yml.\nstart: ")?;
-        push_time(start, &mut out)?;
+        push_time(start, out)?;
         out.push_str("\nuntil: ")?;
-        push_duration(self.end.saturating_sub(start), &mut out)?;
+        push_duration(self.end.saturating_sub(start), out)?;
         out.push_str("\nalerts:\n")?;
         for alert in &self.alerts {
-            push_alert(alert, start, &mut out)?;
+            push_alert(alert, start, out)?;
         }
-        if !self.silences.is_empty() {
-            out.push_str("silences:\n")?;
-            for silence in &self.silences {
-                push_silence(silence, start, &mut out)?;
-            }
-        }
-        Ok(out)
+        push_silences(self.silences.as_slice(), start, out)
     }
 }
 
 fn push_alert(alert: &SeenAlert, start: u64, out: &mut String) -> Result<(), AllocError> {
     out.push_str("- labels: {")?;
+    push_labels(alert.labels.as_slice(), out)?;
+    out.push_str("}\n  spans:\n")?;
+    for span in &alert.spans {
+        push_span(*span, start, out)?;
+    }
+    Ok(())
+}
+
+fn push_labels(labels: &[(String, String)], out: &mut String) -> Result<(), AllocError> {
     let mut separator = "";
-    for (name, value) in &alert.labels {
+    for (name, value) in labels {
         out.push_str(separator)?;
         push_key(name.as_str(), out)?;
         out.push_str(": ")?;
         push_quoted(value.as_str(), out)?;
         separator = ", ";
     }
-    out.push_str("}\n  spans:\n")?;
-    for span in &alert.spans {
-        out.push_str("  - {from: ")?;
-        push_duration(span.from.saturating_sub(start), out)?;
-        if let Some(to) = span.to {
-            out.push_str(", to: ")?;
-            push_duration(to.saturating_sub(start), out)?;
-        }
-        out.push_str("}\n")?;
+    Ok(())
+}
+
+fn push_span(span: SeenSpan, start: u64, out: &mut String) -> Result<(), AllocError> {
+    out.push_str("  - {from: ")?;
+    push_duration(span.from.saturating_sub(start), out)?;
+    if let Some(to) = span.to {
+        out.push_str(", to: ")?;
+        push_duration(to.saturating_sub(start), out)?;
+    }
+    out.push_str("}\n")
+}
+
+/// Adds the silences, if there are any.
+fn push_silences(silences: &[SeenSilence], start: u64, out: &mut String) -> Result<(), AllocError> {
+    if silences.is_empty() {
+        return Ok(());
+    }
+    out.push_str("silences:\n")?;
+    for silence in silences {
+        push_silence(silence, start, out)?;
     }
     Ok(())
 }
 
 fn push_silence(silence: &SeenSilence, start: u64, out: &mut String) -> Result<(), AllocError> {
     out.push_str("- matchers: [")?;
-    let mut separator = "";
-    for matcher in &silence.matchers {
-        out.push_str(separator)?;
-        push_quoted(matcher.as_str(), out)?;
-        separator = ", ";
-    }
+    push_matchers(silence.matchers.as_slice(), out)?;
     out.push_str("]\n  from: ")?;
     push_duration(silence.from.saturating_sub(start), out)?;
     out.push_str("\n  to: ")?;
     push_duration(silence.to.saturating_sub(start), out)?;
     out.push('\n')
+}
+
+fn push_matchers(matchers: &[String], out: &mut String) -> Result<(), AllocError> {
+    let mut separator = "";
+    for matcher in matchers {
+        out.push_str(separator)?;
+        push_quoted(matcher.as_str(), out)?;
+        separator = ", ";
+    }
+    Ok(())
 }

@@ -4,6 +4,7 @@
 
 pub mod alertmanager;
 pub mod incident;
+mod labels;
 mod moment;
 pub mod prometheus;
 mod yaml;

@@ -1,6 +1,6 @@
 //! Times in answers, as milliseconds since 1970.
 use am_cli::fault::{FaultKind, InputFault};
-use am_cli::reader::Reader;
+use am_cli::reader::{Object, Reader};
 use jiff::Timestamp;
 use serde_json::Value;
 use std::alloc::{AllocError, Global};
@@ -27,21 +27,44 @@ fn milliseconds_of(seconds: &str) -> Option<u64> {
         None => (seconds, ""),
         Some(parts) => parts,
     };
-    let mut milliseconds = whole.parse::<u64>().ok()?.checked_mul(1_000)?;
-    let mut weight = 100u64;
-    for digit in fraction.chars() {
-        let digit = u64::from(digit.to_digit(10)?);
-        milliseconds = milliseconds.checked_add(digit.checked_mul(weight)?)?;
-        weight = weight.checked_div(10)?;
-    }
+    let whole = whole.parse::<u64>().ok()?.checked_mul(1_000)?;
+    let milliseconds = whole.checked_add(fraction_of(fraction)?)?;
     if milliseconds > LAST {
         return None;
     }
     Some(milliseconds)
 }
 
+/// Returns the milliseconds of the digits behind the point.
+fn fraction_of(digits: &str) -> Option<u64> {
+    let mut milliseconds = 0u64;
+    let mut weight = 100u64;
+    for digit in digits.chars() {
+        let digit = u64::from(digit.to_digit(10)?);
+        milliseconds = milliseconds.saturating_add(digit.saturating_mul(weight));
+        weight = weight.checked_div(10)?;
+    }
+    Some(milliseconds)
+}
+
+/// Reads the time of this name, which must be there.
+pub(crate) fn required_time(object: &Object<'_, '_>, name: &str) -> Result<u64, InputFault> {
+    read_time(&object.required(name)?)
+}
+
+/// Reads the time of this name, if it is there.
+pub(crate) fn optional_time(
+    object: &Object<'_, '_>,
+    name: &str,
+) -> Result<Option<u64>, InputFault> {
+    match object.optional(name) {
+        None => Ok(None),
+        Some(reader) => Ok(Some(read_time(&reader)?)),
+    }
+}
+
 /// Reads a time of Alertmanager, such as `2026-11-23T08:00:00.000Z` (RFC 3339), in the years from 1970 on.
-pub(crate) fn read_time(reader: &Reader<'_, '_>) -> Result<u64, InputFault> {
+fn read_time(reader: &Reader<'_, '_>) -> Result<u64, InputFault> {
     match time_of(reader.text()?) {
         None => Err(reader.refuse(FaultKind::BadValue)),
         Some(milliseconds) => Ok(milliseconds),

@@ -23,15 +23,30 @@ pub(crate) fn push_key(name: &str, out: &mut String) -> Result<(), AllocError> {
 pub(crate) fn push_quoted(text: &str, out: &mut String) -> Result<(), AllocError> {
     out.push('"')?;
     for character in text.chars() {
-        match character {
-            '"' => out.push_str("\\\"")?,
-            '\\' => out.push_str("\\\\")?,
-            '\n' => out.push_str("\\n")?,
-            '\0'..='\u{1f}' | '\u{7f}'..='\u{9f}' | '\u{2028}' | '\u{2029}' | '\u{feff}' => {
-                write!(out, "\\u{:04x}", character as u32)?
-            }
-            _ => out.push(character)?,
+        match escape_of(character) {
+            Some(escape) => out.push_str(escape)?,
+            None => push_shown(character, out)?,
         }
     }
     out.push('"')
+}
+
+/// Adds a character, by its number where YAML does not allow it as itself.
+fn push_shown(character: char, out: &mut String) -> Result<(), AllocError> {
+    match character {
+        '\0'..='\u{1f}' | '\u{7f}'..='\u{9f}' | '\u{2028}' | '\u{2029}' | '\u{feff}' => {
+            write!(out, "\\u{:04x}", character as u32)
+        }
+        _ => out.push(character),
+    }
+}
+
+/// Returns what stands in double quotes for a character that can't stand there itself, in YAML as in a matcher.
+pub(crate) fn escape_of(character: char) -> Option<&'static str> {
+    match character {
+        '"' => Some("\\\""),
+        '\\' => Some("\\\\"),
+        '\n' => Some("\\n"),
+        _ => None,
+    }
 }

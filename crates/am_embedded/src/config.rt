@@ -7,9 +7,9 @@ use std::alloc::{AllocError, Global};
 
 /// One route, which groups by alertname and waits 30s, 5m and 4h, and one receiver with `page/0`.
 pub fn base(alloc: Global) -> Result<Config, AllocError> {
-    let receivers = receivers(alloc)?;
+    let (routes, receivers) = both(routes(alloc), receivers(alloc))?;
     Ok(Config {
-        routes: routes(alloc)?,
+        routes,
         receivers,
         rules: Sequence::empty(alloc),
         retention: 432_000_000,
@@ -25,12 +25,12 @@ fn routes(alloc: Global) -> Result<Routes, AllocError> {
 }
 
 fn root(alloc: Global) -> Result<Route, AllocError> {
-    let name = Text::new(alloc, "root")?;
-    let receiver = Text::new(alloc, "team")?;
+    let texts = both(Text::new(alloc, "root"), Text::new(alloc, "team"));
+    let ((name, receiver), grouping) = both(texts, grouping(alloc))?;
     Ok(Route {
         name,
         receiver,
-        group_by: GroupBy::Names(grouping(alloc)?),
+        group_by: GroupBy::Names(grouping),
         group_wait: 30_000,
         group_interval: 300_000,
         repeat_interval: 14_400_000,
@@ -43,8 +43,7 @@ fn grouping(alloc: Global) -> Result<Sequence<Text>, AllocError> {
 }
 
 fn receivers(alloc: Global) -> Result<Sequence<Receiver>, AllocError> {
-    let integrations = integrations(alloc)?;
-    let name = Text::new(alloc, "team")?;
+    let (name, integrations) = both(Text::new(alloc, "team"), integrations(alloc))?;
     listed(alloc, Receiver { name, integrations })
 }
 
@@ -58,6 +57,15 @@ fn integrations(alloc: Global) -> Result<Sequence<Integration>, AllocError> {
             send_resolved,
         },
     )
+}
+
+/// Returns both values. If either is missing, the other is dropped here, so that callers have nothing to drop.
+fn both<A: Drop, B: Drop>(
+    one: Result<A, AllocError>,
+    other: Result<B, AllocError>,
+) -> Result<(A, B), AllocError> {
+    let one = one?;
+    Ok((one, other?))
 }
 
 /// Returns a list of one value.

@@ -33,7 +33,7 @@ pub struct Dispatcher {
 }
 
 /// What a round of flushes did.
-#[derive(Clone, Copy, Debug, PartialEq, Eq)]
+#[derive(Clone, Copy)]
 pub struct Round {
     /// How many groups had notices.
     pub flushed: usize,
@@ -46,7 +46,7 @@ pub struct Round {
 }
 
 /// Why a round isn't complete. Each flush that it began is finished all the same.
-#[derive(Clone, Copy, Debug, PartialEq, Eq)]
+#[derive(Clone, Copy)]
 pub enum RoundFault {
     /// A group couldn't be flushed; it stays due.
     Begin(Fault),

@@ -74,8 +74,11 @@ fn main(rt: HostRuntime) -> ExitCode {
 }
 
 fn run<R: Threads + Wait + Sync + Print + AllocGlobal>(rt: &R) -> Result<(), Trouble> {
-    let mut dispatcher = Dispatcher::open(rt.alloc(), base(rt.alloc())?)?;
-    run_on(rt, &mut dispatcher)
+    let config = base(rt.alloc())?;
+    let mut dispatcher = Dispatcher::open(rt.alloc(), config)?;
+    let ran = run_on(rt, &mut dispatcher);
+    drop(dispatcher);
+    ran
 }
 
 fn run_on<R: Threads + Wait + Sync + Print + AllocGlobal>(
@@ -84,7 +87,7 @@ fn run_on<R: Threads + Wait + Sync + Print + AllocGlobal>(
 ) -> Result<(), Trouble> {
     insert(dispatcher, rt.alloc(), "A", 0)?;
     insert(dispatcher, rt.alloc(), "B", 20_000)?;
-    make_rounds(rt, dispatcher, 20_000)?;
+    make_rounds(rt, dispatcher, &mut [Pager::new(), Pager::new()], 20_000)?;
     let entries = dispatcher.summary().entries;
     print(println!(rt; "entries {entries}"))
 }
@@ -101,14 +104,14 @@ fn insert(dispatcher: &mut Dispatcher, alloc: Global, name: &str, now: u64) -> R
 fn make_rounds<R: Threads + Wait + Sync + Print + AllocGlobal>(
     rt: &R,
     dispatcher: &mut Dispatcher,
+    couriers: &mut [Pager],
     start: u64,
 ) -> Result<(), Trouble> {
-    let mut couriers = [Pager::new(), Pager::new()];
     let mut now = start;
     for _ in 0..ROUNDS {
         if let Some(due) = dispatcher.next_due() {
             now = due.max(now);
-            make_round(rt, dispatcher, &mut couriers, now)?;
+            make_round(rt, dispatcher, couriers, now)?;
         }
     }
     Ok(())

@@ -31,7 +31,11 @@ struct Desk {
 
 pub fn make_calls(probe: &Probe, alloc: Global) -> Result<(), AllocError> {
     match Desk::open(probe, alloc, config(alloc)?) {
-        Ok(mut desk) => desk.make_calls(probe, alloc),
+        Ok(mut desk) => {
+            let made = desk.make_calls(probe, alloc);
+            drop(desk);
+            made
+        }
         Err(_) => Err(AllocError),
     }
 }
@@ -112,23 +116,40 @@ impl Desk {
         }
     }
 
-    /// Begins a flush, and hands its ticket in elsewhere.
+    /// Begins a flush, and hands its ticket in elsewhere: at another board, and at one with the id of this one.
     fn flush_elsewhere(
         &mut self,
         probe: &Probe,
         alloc: Global,
         now: u64,
     ) -> Result<(), AllocError> {
-        let Ok(mut namesake) = Desk::open(probe, alloc, config(alloc)?) else {
-            return Err(AllocError);
-        };
-        let Ok(mut abroad) = Board::new(alloc, config(alloc)?, ABROAD) else {
-            return Err(AllocError);
-        };
-        if let Some(own) = self.begin(probe, alloc, now) {
-            finish_elsewhere(probe, &mut abroad, &mut namesake, own, now);
+        match Desk::open(probe, alloc, config(alloc)?) {
+            Ok(mut namesake) => {
+                let flushed = self.flush_abroad(probe, alloc, &mut namesake, now);
+                drop(namesake);
+                flushed
+            }
+            Err(_) => Err(AllocError),
         }
-        Ok(())
+    }
+
+    fn flush_abroad(
+        &mut self,
+        probe: &Probe,
+        alloc: Global,
+        namesake: &mut Desk,
+        now: u64,
+    ) -> Result<(), AllocError> {
+        match Board::new(alloc, config(alloc)?, ABROAD) {
+            Ok(mut abroad) => {
+                if let Some(own) = self.begin(probe, alloc, now) {
+                    finish_elsewhere(probe, &mut abroad, namesake, own, now);
+                }
+                drop(abroad);
+                Ok(())
+            }
+            Err(_) => Err(AllocError),
+        }
     }
 }
 

@@ -3,11 +3,11 @@ ghost use Rattle.std.specs.Prelude.{◌≡◌};
 ghost use Rattle.am_desk.specs.Terms.{terms};
 
 use crate::probe::Probe;
-use crate::values::{alert, config, matchers};
+use crate::values::{alert, both, config, matchers};
 use am_alerts::alert::Alert;
 use am_board::begin::Begun;
 use am_board::config::{Config, Limits};
-use am_desk::{Blank, Brand, CloseFault, Desk, Name, OwnTicket, Pass};
+use am_desk::{Blank, Brand, CloseFault, Closed, Desk, Name, OwnTicket, Pass};
 use am_mute::silence::Silence;
 use std::alloc::{AllocError, Global};
 use std::sync::Wait;
@@ -19,9 +19,14 @@ const HOME: u64 = 3;
 const INSERT: &str = "with memory: Desk::insert";
 
 pub fn make_calls<R: Wait>(probe: &Probe, rt: &R, alloc: Global) -> Result<(), AllocError> {
-    let config = limited(alloc)?;
+    let (config, blank) = both(limited(alloc), blank(alloc))?;
+    make_calls_on::<Brand, R>(probe, rt, alloc, config, blank)
+}
+
+/// The blank of a desk with two passes.
+fn blank(alloc: Global) -> Result<Blank, AllocError> {
     match Blank::new(alloc, HOME, 2) {
-        Ok(blank) => make_calls_on::<Brand, R>(probe, rt, alloc, config, blank),
+        Ok(blank) => Ok(blank),
         Err(_) => Err(AllocError),
     }
 }
@@ -250,16 +255,25 @@ fn close<N: Name>(probe: &Probe, desk: Desk<N>, passes: Vec<Pass<N>>) {
     match desk.close(passes) {
         Ok(closed) => {
             probe.tell(&"closed");
-            probe.ask("Closed::summary");
-            let summary = closed.summary();
-            probe.tell(&summary);
+            sum_up(probe, &closed);
+            drop(closed);
         }
         Err(
             CloseFault {
                 cause,
-                desk: _desk,
-                passes: _passes,
+                desk,
+                passes,
             },
-        ) => probe.tell(&cause),
+        ) => {
+            probe.tell(&cause);
+            drop(passes);
+            drop(desk);
+        }
     }
+}
+
+fn sum_up(probe: &Probe, closed: &Closed) {
+    probe.ask("Closed::summary");
+    let summary = closed.summary();
+    probe.tell(&summary);
 }

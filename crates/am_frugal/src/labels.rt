@@ -1,6 +1,6 @@
 //! Calls on texts, lists, label sets and durations.
 use crate::probe::Probe;
-use crate::values::{labels, names};
+use crate::values::{both, labels, names};
 use am_alerts::duration::read_duration;
 use am_alerts::labels::{Labels, is_label_name};
 use am_alerts::sequence::Sequence;
@@ -9,12 +9,17 @@ use std::alloc::{AllocError, Global};
 
 pub fn make_calls(probe: &Probe, alloc: Global) -> Result<(), AllocError> {
     read_texts(probe);
-    make_text(probe, String::from_str(alloc, "alertname")?);
-    make_lists(probe, alloc, names(alloc, "alertname")?);
-    copy_labels(probe, alloc, &labels(alloc, "1")?)?;
-    read_labels(probe, &labels(alloc, "1")?);
-    compare(probe, &labels(alloc, "1")?, &labels(alloc, "2")?);
-    Ok(())
+    let string = String::from_str(alloc, "alertname")?;
+    make_text(probe, string);
+    let names = names(alloc, "alertname")?;
+    make_lists(probe, alloc, names);
+    let (first, second) = both(labels(alloc, "1"), labels(alloc, "2"))?;
+    let copied = copy_labels(probe, alloc, &first);
+    read_labels(probe, &first);
+    compare(probe, &first, &second);
+    drop(second);
+    drop(first);
+    copied
 }
 
 fn read_texts(probe: &Probe) {

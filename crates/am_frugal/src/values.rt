@@ -27,12 +27,9 @@ pub fn alert(alloc: Global, instance: &str, ends: Option<u64>) -> Result<Alert, 
 
 /// Matches the label sets in which this label has this value, in a list.
 pub fn matchers(alloc: Global, name: &str, value: &str) -> Result<Vec<Matcher>, AllocError> {
-    let parts = MatcherParts {
-        name: Text::new(alloc, name)?,
-        op: Operator::Equal,
-        value: Text::new(alloc, value)?,
-    };
-    match Matcher::new(alloc, parts) {
+    let (name, value) = both(Text::new(alloc, name), Text::new(alloc, value))?;
+    let op = Operator::Equal;
+    match Matcher::new(alloc, MatcherParts { name, op, value }) {
         Ok(matcher) => listed(alloc, matcher),
         Err(_) => Err(AllocError),
     }
@@ -51,11 +48,20 @@ pub fn listed<T: Drop>(alloc: Global, value: T) -> Result<Vec<T>, AllocError> {
     Ok(list)
 }
 
+/// Both values. If either is missing, the other is dropped here, so that callers have nothing to drop.
+pub fn both<A: Drop, B: Drop>(
+    one: Result<A, AllocError>,
+    other: Result<B, AllocError>,
+) -> Result<(A, B), AllocError> {
+    let one = one?;
+    Ok((one, other?))
+}
+
 /// A rule by which the instance 1 of A inhibits the instance 2.
 pub fn rule(alloc: Global) -> Result<InhibitRule, AllocError> {
-    let source = matchers(alloc, "inst", "1")?;
-    let target = matchers(alloc, "inst", "2")?;
-    match InhibitRule::new(source, target, names(alloc, "alertname")?) {
+    let matchers = both(matchers(alloc, "inst", "1"), matchers(alloc, "inst", "2"));
+    let ((source, target), names) = both(matchers, names(alloc, "alertname"))?;
+    match InhibitRule::new(source, target, names) {
         Ok(rule) => Ok(rule),
         Err(_) => Err(AllocError),
     }
@@ -63,12 +69,12 @@ pub fn rule(alloc: Global) -> Result<InhibitRule, AllocError> {
 
 /// A route to the receiver, which groups by alertname and waits 30s, 5m and 4h.
 pub fn route(alloc: Global, name: &str) -> Result<Route, AllocError> {
-    let name = Text::new(alloc, name)?;
-    let receiver = Text::new(alloc, "team")?;
+    let texts = both(Text::new(alloc, name), Text::new(alloc, "team"));
+    let ((name, receiver), names) = both(texts, names(alloc, "alertname"))?;
     Ok(Route {
         name,
         receiver,
-        group_by: GroupBy::Names(Sequence::from(names(alloc, "alertname")?)),
+        group_by: GroupBy::Names(Sequence::from(names)),
         group_wait: 30_000,
         group_interval: 300_000,
         repeat_interval: 14_400_000,
@@ -77,9 +83,9 @@ pub fn route(alloc: Global, name: &str) -> Result<Route, AllocError> {
 
 /// A child that no label set of this program matches, in a list.
 pub fn children(alloc: Global) -> Result<Vec<Child>, AllocError> {
-    let matchers = matchers(alloc, "alertname", "B")?;
+    let (route, matchers) = both(route(alloc, "other"), matchers(alloc, "alertname", "B"))?;
     let child = Child {
-        route: route(alloc, "other")?,
+        route,
         matchers: Sequence::from(matchers),
         goes_on: false,
     };
@@ -88,8 +94,8 @@ pub fn children(alloc: Global) -> Result<Vec<Child>, AllocError> {
 
 /// The root with that child.
 fn routes(alloc: Global) -> Result<Routes, AllocError> {
-    let children = children(alloc)?;
-    match Routes::new(route(alloc, "root")?, children) {
+    let (root, children) = both(route(alloc, "root"), children(alloc))?;
+    match Routes::new(root, children) {
         Ok(routes) => Ok(routes),
         Err(_) => Err(AllocError),
     }
@@ -97,11 +103,9 @@ fn routes(alloc: Global) -> Result<Routes, AllocError> {
 
 /// One receiver, with two integrations.
 fn receivers(alloc: Global) -> Result<Sequence<Receiver>, AllocError> {
-    let receiver = Receiver {
-        name: Text::new(alloc, "team")?,
-        integrations: integrations(alloc)?,
-    };
-    Ok(Sequence::from(listed(alloc, receiver)?))
+    let (name, integrations) = both(Text::new(alloc, "team"), integrations(alloc))?;
+    let receivers = listed(alloc, Receiver { name, integrations })?;
+    Ok(Sequence::from(receivers))
 }
 
 fn integrations(alloc: Global) -> Result<Sequence<Integration>, AllocError> {
@@ -117,9 +121,9 @@ fn integrations(alloc: Global) -> Result<Sequence<Integration>, AllocError> {
 
 /// A configuration of these routes and this receiver, without rules.
 pub fn config(alloc: Global) -> Result<Config, AllocError> {
-    let receivers = receivers(alloc)?;
+    let (routes, receivers) = both(routes(alloc), receivers(alloc))?;
     Ok(Config {
-        routes: routes(alloc)?,
+        routes,
         receivers,
         rules: Sequence::empty(alloc),
         retention: 432_000_000,

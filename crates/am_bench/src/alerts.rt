@@ -1,5 +1,5 @@
 //! The alerts that are inserted, and the silences of some of them.
-use crate::words::Trouble;
+use crate::words::{Trouble, both};
 use am_alerts::alert::Alert;
 use am_alerts::labels::{LabelFault, Labels};
 use am_alerts::matcher::{Matcher, MatcherParts, Operator};
@@ -14,7 +14,7 @@ pub const CRITICAL: &str = "critical";
 pub const WARNING: &str = "warning";
 
 /// What tells one alert from another.
-#[derive(Clone, Copy)]
+#[derive(Drop)]
 pub struct Sample {
     /// The number of its group, which is in the alertname.
     pub group: usize,
@@ -32,16 +32,19 @@ impl Sample {
     }
 
     fn labels(&self, alloc: Global) -> Result<Labels, Trouble> {
-        let alertname = format!(in alloc; "A{:04}", self.group)?;
-        let instance = instance(alloc, self.instance)?;
-        let job = format!(in alloc; "exporter-{:05}", self.number)?;
-        labels(
+        let names = both(alertname(alloc, self.group), instance(alloc, self.instance));
+        let ((alertname, instance), job) = both(names, job(alloc, self.number))?;
+        let labels = labels(
             alloc,
             alertname.as_str(),
             instance.as_str(),
             job.as_str(),
             self.severity,
-        )
+        );
+        drop(job);
+        drop(instance);
+        drop(alertname);
+        labels
     }
 }
 
@@ -68,9 +71,19 @@ fn labels<'a>(
     }
 }
 
+/// The label value of a group.
+fn alertname(alloc: Global, number: usize) -> Result<String, Trouble> {
+    Ok(format!(in alloc; "A{number:04}")?)
+}
+
 /// The label value of an instance.
-fn instance(alloc: Global, number: usize) -> Result<String, AllocError> {
-    format!(in alloc; "host-{number:05}:9100")
+fn instance(alloc: Global, number: usize) -> Result<String, Trouble> {
+    Ok(format!(in alloc; "host-{number:05}:9100")?)
+}
+
+/// The label value of a job.
+fn job(alloc: Global, number: usize) -> Result<String, Trouble> {
+    Ok(format!(in alloc; "exporter-{number:05}")?)
 }
 
 /// So many alerts, each of which is in the group of its number modulo the number of groups.
@@ -100,12 +113,14 @@ pub fn matchers(alloc: Global, name: &str, value: &str) -> Result<Vec<Matcher>, 
 }
 
 fn matcher(alloc: Global, name: &str, value: &str) -> Result<Matcher, Trouble> {
-    let parts = MatcherParts {
-        name: Text::new(alloc, name)?,
-        op: Operator::Equal,
-        value: Text::new(alloc, value)?,
-    };
-    Matcher::new(alloc, parts).map_err(|_| Trouble::NoMemory)
+    let (name, value) = both(text(alloc, name), text(alloc, value))?;
+    let op = Operator::Equal;
+    Matcher::new(alloc, MatcherParts { name, op, value }).map_err(|_| Trouble::NoMemory)
+}
+
+/// The text of a name or a value.
+pub fn text(alloc: Global, text: &str) -> Result<Text, Trouble> {
+    Ok(Text::new(alloc, text)?)
 }
 
 /// A list of one value.
@@ -118,6 +133,7 @@ pub fn listed<T: Drop>(alloc: Global, value: T) -> Result<Vec<T>, AllocError> {
 /// The silence of this id, which mutes an instance up to a moment.
 pub fn silence(alloc: Global, id: u64, number: usize, end: u64) -> Result<Silence, Trouble> {
     let value = instance(alloc, number)?;
-    let matchers = matchers(alloc, "instance", value.as_str())?;
-    Silence::new(id, matchers, 0, end).map_err(|_| Trouble::BadLine)
+    let matchers = matchers(alloc, "instance", value.as_str());
+    drop(value);
+    Silence::new(id, matchers?, 0, end).map_err(|_| Trouble::BadLine)
 }

@@ -1,12 +1,12 @@
 //! The configuration of a board.
-use crate::alerts::{CRITICAL, WARNING, listed, matchers};
-use crate::words::Trouble;
+use crate::alerts::{CRITICAL, WARNING, listed, matchers, text};
+use crate::words::{Trouble, both};
 use am_alerts::route::{Child, GroupBy, Route, Routes};
 use am_alerts::sequence::Sequence;
 use am_alerts::text::Text;
 use am_board::config::{Config, Integration, Limits, Receiver};
 use am_mute::inhibit::InhibitRule;
-use std::alloc::{AllocError, Global};
+use std::alloc::Global;
 
 /// How long a group of the root waits before its first flush, in milliseconds.
 pub const WAIT: u64 = 30_000;
@@ -22,23 +22,22 @@ const LONG: u64 = 1_000_000_000;
 
 /// One route, which groups by alertname and cluster, and one receiver with one integration.
 pub fn plain(alloc: Global) -> Result<Config, Trouble> {
-    let receivers = receivers(alloc)?;
-    let routes = routes(alloc, Vec::new(alloc))?;
+    let (routes, receivers) = both(routes(alloc, Vec::new(alloc)), receivers(alloc))?;
     Ok(config(routes, receivers, Vec::new(alloc)))
 }
 
 /// The same, with a rule by which critical alerts inhibit warnings of their cluster and instance, and
 /// with a route by which critical alerts aren't flushed.
 pub fn inhibiting(alloc: Global) -> Result<Config, Trouble> {
-    let receivers = receivers(alloc)?;
-    let rules = rules(alloc)?;
-    let routes = routes(alloc, critical(alloc)?)?;
+    let critical = critical(alloc)?;
+    let routes = routes(alloc, critical);
+    let ((routes, receivers), rules) = both(both(routes, receivers(alloc)), rules(alloc))?;
     Ok(config(routes, receivers, rules))
 }
 
 /// The root with these children.
 fn routes(alloc: Global, children: Vec<Child>) -> Result<Routes, Trouble> {
-    let root = route(alloc, "root", WAIT)?;
+    let (root, children) = both(route(alloc, "root", WAIT), Ok(children))?;
     Routes::new(root, children).map_err(|_| Trouble::BadLine)
 }
 
@@ -52,26 +51,29 @@ fn config(routes: Routes, receivers: Sequence<Receiver>, rules: Vec<InhibitRule>
     }
 }
 
-fn receivers(alloc: Global) -> Result<Sequence<Receiver>, AllocError> {
-    let receiver = Receiver {
-        name: Text::new(alloc, "team")?,
-        integrations: integrations(alloc)?,
-    };
-    Ok(Sequence::from(listed(alloc, receiver)?))
+fn receivers(alloc: Global) -> Result<Sequence<Receiver>, Trouble> {
+    let (name, integrations) = both(text(alloc, "team"), integrations(alloc))?;
+    let receivers = listed(alloc, Receiver { name, integrations })?;
+    Ok(Sequence::from(receivers))
 }
 
-fn integrations(alloc: Global) -> Result<Sequence<Integration>, AllocError> {
-    let integration = Integration {
-        kind: Text::new(alloc, "hook")?,
-        send_resolved: true,
-    };
-    Ok(Sequence::from(listed(alloc, integration)?))
+fn integrations(alloc: Global) -> Result<Sequence<Integration>, Trouble> {
+    let kind = text(alloc, "hook")?;
+    let send_resolved = true;
+    let integrations = listed(
+        alloc,
+        Integration {
+            kind,
+            send_resolved,
+        },
+    )?;
+    Ok(Sequence::from(integrations))
 }
 
-fn route(alloc: Global, name: &str, group_wait: u64) -> Result<Route, AllocError> {
-    let name = Text::new(alloc, name)?;
-    let receiver = Text::new(alloc, "team")?;
-    let grouping = names(alloc, &["alertname", "cluster"])?;
+fn route(alloc: Global, name: &str, group_wait: u64) -> Result<Route, Trouble> {
+    let texts = both(text(alloc, name), text(alloc, "team"));
+    let grouping = names(alloc, &["alertname", "cluster"]);
+    let ((name, receiver), grouping) = both(texts, grouping)?;
     Ok(Route {
         name,
         receiver,
@@ -84,9 +86,10 @@ fn route(alloc: Global, name: &str, group_wait: u64) -> Result<Route, AllocError
 
 /// The route of critical alerts, in a list.
 fn critical(alloc: Global) -> Result<Vec<Child>, Trouble> {
-    let matchers = matchers(alloc, "severity", CRITICAL)?;
+    let matchers = matchers(alloc, "severity", CRITICAL);
+    let (route, matchers) = both(route(alloc, "critical", LONG), matchers)?;
     let child = Child {
-        route: route(alloc, "critical", LONG)?,
+        route,
         matchers: Sequence::from(matchers),
         goes_on: false,
     };
@@ -100,13 +103,13 @@ fn rules(alloc: Global) -> Result<Vec<InhibitRule>, Trouble> {
 }
 
 fn rule(alloc: Global) -> Result<InhibitRule, Trouble> {
-    let source = matchers(alloc, "severity", CRITICAL)?;
-    let target = matchers(alloc, "severity", WARNING)?;
-    let equal = names(alloc, &["cluster", "instance"])?;
+    let source = matchers(alloc, "severity", CRITICAL);
+    let matchers = both(source, matchers(alloc, "severity", WARNING));
+    let ((source, target), equal) = both(matchers, names(alloc, &["cluster", "instance"]))?;
     InhibitRule::new(source, target, equal).map_err(|_| Trouble::BadLine)
 }
 
-fn names(alloc: Global, texts: &[&str]) -> Result<Vec<Text>, AllocError> {
+fn names(alloc: Global, texts: &[&str]) -> Result<Vec<Text>, Trouble> {
     let mut names = Vec::new(alloc);
     for text in texts {
         names.push(Text::new(alloc, text)?)?;

@@ -4,7 +4,7 @@ use std::alloc::{AllocError, AllocFailed};
 use std::io;
 
 /// Why a bench ends before its time.
-#[derive(Clone, Copy, Debug, PartialEq, Eq)]
+#[derive(Clone, Copy, Debug)]
 pub enum Trouble {
     /// A request for memory was refused.
     NoMemory,
@@ -51,8 +51,17 @@ impl From<io::Error> for Trouble {
     }
 }
 
+/// Both values, or the first trouble. A value that comes alone is dropped here, so that callers have nothing to drop.
+pub fn both<A: Drop, B: Drop>(
+    one: Result<A, Trouble>,
+    other: Result<B, Trouble>,
+) -> Result<(A, B), Trouble> {
+    let one = one?;
+    Ok((one, other?))
+}
+
 /// The words of a line that are left.
-#[derive(Clone, Copy)]
+#[derive(Drop)]
 pub struct Words<'a> {
     rest: &'a str,
 }

@@ -108,11 +108,6 @@ impl Desk {
     pub fn maintain(&mut self, alloc: Global, now: u64) -> Result<Maintained, Fault> {
         self.board.maintain(alloc, PASS, now)
     }
-
-    /// Drops the board. Pieces end with this call, so that its drop is proved once.
-    pub fn close(self) {
-        let Desk { board: _board } = self;
-    }
 }
 
 /// Records each notice of a ticket as delivered.

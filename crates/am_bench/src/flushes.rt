@@ -22,7 +22,7 @@ pub fn run_flushes(
 ) -> Result<(), Trouble> {
     let mut desk = Desk::open(alloc, plain(alloc)?)?;
     let ran = run_steps(rt, alloc, &mut desk, alerts, groups);
-    desk.close();
+    drop(desk);
     ran
 }
 

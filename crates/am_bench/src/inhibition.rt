@@ -21,7 +21,7 @@ pub fn run_inhibition(
 ) -> Result<(), Trouble> {
     let mut desk = Desk::open(alloc, inhibiting(alloc)?)?;
     let ran = run_steps(rt, alloc, &mut desk, sources, targets);
-    desk.close();
+    drop(desk);
     ran
 }
 

@@ -23,7 +23,7 @@ pub fn run_silences(
 ) -> Result<(), Trouble> {
     let mut desk = Desk::open(alloc, plain(alloc)?)?;
     let ran = run_steps(rt, alloc, &mut desk, silences, alerts, groups);
-    desk.close();
+    drop(desk);
     ran
 }
 

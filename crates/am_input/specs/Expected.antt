@@ -13,7 +13,6 @@ use Rattle.am_cli.specs.Configured.{DecodesToLabels, DecodesToMatcher}
 use Rattle.am_cli.specs.Decoding.{Has, HasOr, IsFlag, IsList}
 use Rattle.am_cli.specs.Read.{duration_in, number_in}
 use Rattle.am_cli.specs.declared.reader.Dialect.{Dialect}
-use Rattle.am_model.specs.declared.reason.Reason.{Reason}
 use Rattle.am_rehearsal.specs.declared.rehearsal.Action.{Action}
 use Rattle.am_rehearsal.specs.declared.rehearsal.Action.TheVariants.{Insert, Silence}
 use Rattle.am_rehearsal.specs.declared.rehearsal.TimedAction.{TimedAction}
@@ -22,6 +21,7 @@ use Rattle.am_timeline.specs.declared.expectation.Amount.{Amount}
 use Rattle.am_timeline.specs.declared.expectation.Amount.TheVariants.{AtLeastOne, Exactly, AtMost}
 use Rattle.am_timeline.specs.declared.expectation.Expectation.{Expectation}
 use Rattle.am_timeline.specs.declared.expectation.content.Content.{Content}
+use Rattle.am_timeline.specs.declared.expectation.content.SentReason.{SentReason}
 
 -- what a member is read as, or what is said where it isn't there
 abbrev pub member_or : {A : Type 0} → (Data → Option A) → Option A → Option Data → Option A
@@ -133,7 +133,7 @@ AreResolvedIn dialect members sets =
     (λ _. sets ≡ Some [])
 
 -- the reason that a text names
-abbrev pub reason_in : Data → Option Reason
+abbrev pub reason_in : Data → Option SentReason
 reason_in value = option_and_then reason_named (as_str value)
 
 -- what a notice has to say

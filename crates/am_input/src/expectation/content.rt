@@ -12,11 +12,10 @@ use am_alerts::labels::Labels;
 use am_alerts::limits::MAX_MATCHERS;
 use am_alerts::matcher::Matcher;
 use am_alerts::sequence::Sequence;
-use am_board::reason::Reason;
 use am_cli::fault::{FaultKind, InputFault};
 use am_cli::labels::read_labels;
 use am_cli::reader::{Object, Reader};
-use am_timeline::expectation::content::{Content, reason_named};
+use am_timeline::expectation::content::{Content, SentReason, reason_named};
 
 /// What a notice has to say. `has` or `has_resolved`, as `when` says, is `of` where it isn't said; `exactly` says
 /// both sets, of which that of the resolved alerts is empty.
@@ -111,7 +110,7 @@ fn list_sets(member: &Reader<'_, '_>) -> Result<Vec<Labels>, InputFault>
 }
 
 /// The reason for which a notice is sent.
-fn read_reason(item: &Object<'_, '_>) -> Result<Option<Reason>, InputFault>
+fn read_reason(item: &Object<'_, '_>) -> Result<Option<SentReason>, InputFault>
     ensures { IfOk result (λ reason.
         member_if reason_in (get_member (codes "reason") (members_view item.now.members)) ≡ Some reason) }
 {

@@ -1,11 +1,11 @@
 //! What an expectation wants a notice to say. `expectation` calls it.
-ghost use Rattle.std.specs.Prelude.{◌≡◌, IfOk, Some, codes};
+ghost use Rattle.std.specs.Prelude.{◌≡◌, IfOk, OnOk, Some, codes};
 ghost use Rattle.serde_json.specs.Find.{get_member};
 ghost use Rattle.serde_json.specs.View.{members_view, view};
 ghost use Rattle.am_cli.specs.Decoding.{IsList};
 ghost use Rattle.am_cli.specs.Configured.{DecodesToLabels, DecodesToMatcher};
 ghost use Rattle.am_input.specs.Expected.{AreFiringIn, AreMatchersIn, AreResolvedIn, AreSetsIn, HasContentIn, member_if, reason_in};
-ghost use Rattle.am_input.specs.Expected.{said_or_of};
+ghost use Rattle.am_input.specs.Expected.{SaysExactly, said_or_of};
 
 use crate::expectation::span::{read_when, refuse_beside};
 use am_alerts::labels::Labels;
@@ -25,7 +25,7 @@ pub(crate) fn read_content(item: &Object<'_, '_>) -> Result<Content, InputFault>
     let resolves = read_when(item)?;
     let has = read_has(item, "has", !resolves)?;
     let has_resolved = read_has(item, "has_resolved", resolves)?;
-    refuse_beside(item, "exactly", &["firing", "resolved"])?;
+    check_exactly(item)?;
     let firing = read_firing(item)?;
     let resolved = read_resolved(item)?;
     let reason = read_reason(item)?;
@@ -36,6 +36,17 @@ pub(crate) fn read_content(item: &Object<'_, '_>) -> Result<Content, InputFault>
         resolved,
         reason,
     })
+}
+
+/// Refuses `exactly` beside `firing` or `resolved`.
+fn check_exactly(item: &Object<'_, '_>) -> Result<(), InputFault>
+    ensures { OnOk result (SaysExactly (members_view item.now.members)) }
+{
+    let Some(exactly) = item.optional("exactly") else {
+        return Ok(());
+    };
+    refuse_beside(item, &exactly, "firing")?;
+    refuse_beside(item, &exactly, "resolved")
 }
 
 /// The matchers of a member, or else those of `of` if they stand for it.

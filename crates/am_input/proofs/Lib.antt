@@ -4,3 +4,5 @@ pub mod Lists
 pub mod Plans
 -- members that are read, and lists of what is made of what was read
 pub mod Decodings
+-- fields of other names than are known
+pub mod Fields

@@ -4,7 +4,7 @@ use Rattle.std.specs.Option.{option_and_then}
 use Rattle.std.specs.Str.{bytes_eq}
 use Rattle.serde_json.specs.Data.{Data, Members}
 use Rattle.serde_json.specs.Find.{as_object, as_str, get_member}
-use Rattle.am_cli.specs.Read.{duration_in, interval_in}
+use Rattle.am_cli.specs.Read.{interval_in}
 use Rattle.am_cli.specs.Decoding.{IsList, HasOr}
 use Rattle.am_cli.specs.declared.reader.Dialect.{Dialect}
 use Rattle.am_cli.specs.declared.reader.Dialect.TheVariants.{Strict}
@@ -13,7 +13,7 @@ use Rattle.am_timeline.specs.UtcDates.{IsReadFrom, StartData, dated}
 use Rattle.am_timeline.specs.TimeFormatData.{TimeFormatData, counted}
 use Rattle.am_input.specs.Configured.{IsConfigFor, file_in}
 use Rattle.am_input.specs.Decoding.{DecodesToOutage}
-use Rattle.am_input.specs.Expected.{AreExpectedIn}
+use Rattle.am_input.specs.Expected.{AreExpectedIn, last_end, until_in}
 use Rattle.am_input.specs.Planned.{ArePlannedIn}
 use Rattle.am_rehearsal.specs.declared.rehearsal.Rehearsal.{Rehearsal}
 use Rattle.am_input.specs.declared.input.TheConstants.{MAINTAIN}
@@ -48,10 +48,6 @@ abbrev pub times_from : Option StartData → TimeFormatData
 times_from None = counted
 times_from (Some start) = dated start
 
--- when a rehearsal ends
-abbrev pub until_in : Members → Option ℕ
-until_in members = option_and_then duration_in (get_member (codes "until") members)
-
 -- when it ends: as the command line says, or else a member
 abbrev pub end_for : Option ℕ → Members → Option ℕ
 end_for (Some until) _ = Some until
@@ -73,7 +69,8 @@ pub record Requests (dialect : Dialect) (changes : Changes) (members : Members) 
   pub maintains : maintain_in (get_member (codes "maintain") members) ≡ Some rehearsal.maintain
   pub plans : ArePlannedIn dialect members rehearsal.plans.items
   pub outages : HasOr (IsList DecodesToOutage) [] (codes "outages") members rehearsal.outages.items
-  pub expects : AreExpectedIn dialect rehearsal.until rehearsal.plans.items (get_member (codes "expect") members) expectations
+  pub expects : AreExpectedIn dialect rehearsal.config rehearsal.until (last_end rehearsal.until members) rehearsal.plans.items
+      (get_member (codes "expect") members) expectations
 
 -- a JSON value is an object whose members ask for this
 abbrev pub IsRequestIn : Changes → Data → Output → Option StartData → List Expectation → Rehearsal → Type 0

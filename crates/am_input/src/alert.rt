@@ -59,7 +59,7 @@ fn read_spans(alert: &Object<'_, '_>) -> Result<(Vec<Span>, bool), InputFault>
 }
 
 /// Refuses a member, if it is there.
-fn refuse(alert: &Object<'_, '_>, name: &str) -> Result<(), InputFault>
+pub(crate) fn refuse(alert: &Object<'_, '_>, name: &str) -> Result<(), InputFault>
     ensures { OnOk result (HasNone name.now (members_view alert.now.members)) }
 {
     match alert.optional(name) {

@@ -2,31 +2,32 @@
 //!
 //! An expectation without `to` reaches to the end of the rehearsal, and not to the ends of the
 //! notices in flight then.
-ghost use Rattle.std.specs.Prelude.{◌≡◌, IfOk, Some, codes};
+ghost use Rattle.std.specs.Prelude.{◌≡◌, IfOk, OnOk, Some, codes, true};
 ghost use Rattle.serde_json.specs.Find.{as_str, get_member};
 ghost use Rattle.serde_json.specs.View.{members_view, view};
-ghost use Rattle.am_input.specs.Expected.{AreExpectedIn, IsExpectedIn, IsExpectedOf, member_if};
+ghost use Rattle.am_input.specs.Expected.{AreExpectedIn, IsExpectedIn, IsExpectedOf, IsKnownIn, has_alerts, last_end, member_if, until_in};
 
+pub(crate) mod alerts;
 mod amount;
-mod content;
-mod span;
+pub(crate) mod content;
+mod receivers;
+pub(crate) mod span;
 mod target;
 
-use crate::faults::target_fault;
-use crate::target::check;
+use alerts::check_alerts;
 use am_alerts::text::Text;
 use am_board::config::Config;
+use am_cli::duration::duration;
 use am_cli::fault::InputFault;
-use am_cli::place::JsonPointer;
 use am_cli::reader::{Object, Reader};
 use am_config::faults::Faults;
 use am_rehearsal::rehearsal::TimedAction;
 use am_timeline::expectation::Expectation;
 use amount::read_amount;
 use content::read_content;
+use receivers::check_target;
 use span::read_span;
-use std::alloc::Global;
-use target::{check_kind, read_target};
+use target::read_target;
 
 /// The fields of an expectation.
 const MEMBERS: [&str; 19] = [
@@ -51,77 +52,69 @@ const MEMBERS: [&str; 19] = [
     "at_most",
 ];
 
-/// What is expected of a rehearsal that ends at `until`, with these planned actions. All of it is read before the
-/// receivers and their integrations are looked for.
+/// What is expected of a rehearsal that ends at `until`, under a configuration and with these planned actions.
+///
+/// An expectation that no rehearsal of the story could meet, or that each would, is refused: of a receiver or an
+/// integration that isn't there, of alerts that never fire so, or of a span that begins after the end. The end is that of
+/// the story, or `until` if that is later.
 pub fn read_expectations(
     top: &Object<'_, '_>,
     config: &Config,
     until: u64,
     plans: &[TimedAction],
 ) -> Result<Vec<Expectation>, InputFault>
-    ensures { IfOk result (λ expectations. AreExpectedIn top.now.dialect until plans.now
+    ensures { IfOk result (λ expectations. AreExpectedIn top.now.dialect config.now until
+        (last_end until (members_view top.now.members)) plans.now
         (get_member (codes "expect") (members_view top.now.members)) expectations.items) }
 {
-    let expectations = read_all(top, until, plans)?;
-    check_targets(top.alloc(), config, expectations.as_slice())?;
-    Ok(expectations)
-}
-
-fn read_all(
-    top: &Object<'_, '_>,
-    until: u64,
-    plans: &[TimedAction],
-) -> Result<Vec<Expectation>, InputFault>
-    ensures { IfOk result (λ expectations. AreExpectedIn top.now.dialect until plans.now
-        (get_member (codes "expect") (members_view top.now.members)) expectations.items) }
-{
+    let last = last_end(top, until);
     match top.optional("expect") {
         None => Ok(Vec::new(top.alloc())),
-        Some(member) => read_list(&member, until, plans),
+        Some(member) => read_list(&member, config, until, last, plans),
+    }
+}
+
+/// The end of a story: its own, or `until` if that is later.
+fn last_end(top: &Object<'_, '_>, until: u64) -> u64
+    ensures { result ≡ last_end until (members_view top.now.members) }
+{
+    match own_end(top) {
+        None => until,
+        Some(own) => until.max(own),
+    }
+}
+
+/// The end that a story says, if it says one.
+fn own_end(top: &Object<'_, '_>) -> Option<u64>
+    ensures { result ≡ until_in (members_view top.now.members) }
+{
+    match top.optional("until") {
+        None => None,
+        Some(member) => duration(&member).ok(),
     }
 }
 
 fn read_list(
     member: &Reader<'_, '_>,
+    config: &Config,
     until: u64,
+    last: u64,
     plans: &[TimedAction],
 ) -> Result<Vec<Expectation>, InputFault>
     ensures { IfOk result (λ expectations.
-        AreExpectedIn member.now.dialect until plans.now (Some (view member.now.value)) expectations.items) }
+        AreExpectedIn member.now.dialect config.now until last plans.now (Some (view member.now.value)) expectations.items) }
 {
     let mut expectations = Vec::new(member.alloc());
     let values = member.array()?;
     for (index, value) in values.iter().enumerate() {
-        expectations.push(read_expectation(&member.item(index, value), until, plans)?)?;
+        let item = member.item(index, value);
+        expectations.push(read_known(&item, config, until, last, plans)?)?;
     }
     Ok(expectations)
 }
 
-/// Refuses a receiver that the configuration hasn't, and an integration that the receiver hasn't.
-fn check_targets(
-    alloc: Global,
-    config: &Config,
-    expectations: &[Expectation],
-) -> Result<(), InputFault> {
-    let top = JsonPointer::Root;
-    let listed = top.member("expect");
-    for (index, expectation) in expectations.iter().enumerate() {
-        if let Some(receiver) = &expectation.receiver {
-            check(
-                alloc,
-                config,
-                receiver.as_str(),
-                expectation.integration,
-                listed.item(index),
-            )?;
-        }
-        check_kind(alloc, config, expectation, listed.item(index))?;
-    }
-    Ok(())
-}
-
-/// Keeps the fault of each expectation of a rehearsal that ends at `until`: of what it says, or of its target. One
-/// that counts from an alert is passed over where the planned actions aren't known.
+/// Keeps the fault of each expectation of a rehearsal that ends at `until`: of what it says, of its target, or of its
+/// alerts. One that counts from an alert is passed over where the planned actions aren't known.
 pub fn expectation_faults(
     faults: &mut Faults,
     top: &Object<'_, '_>,
@@ -135,22 +128,63 @@ pub fn expectation_faults(
     let Some(values) = faults.kept(member.array())? else {
         return Ok(());
     };
+    let last = last_end(top, until);
     for (index, value) in values.iter().enumerate() {
-        let reader = member.item(index, value);
         if plans.is_none() && value.get("within").is_some() {
             continue;
         }
-        let read = read_expectation(&reader, until, plans.unwrap_or(&[]));
-        if let Some(expectation) = faults.kept(read)? {
-            let receiver = expectation.receiver.as_ref().map(Text::as_str);
-            target_fault(faults, &reader, config, receiver, expectation.integration)?;
-            if let Some(config) = config {
-                let place = *reader.place();
-                faults.kept(check_kind(reader.alloc(), config, &expectation, place))?;
-            }
-        }
+        let reader = member.item(index, value);
+        let fault = fault_of(&reader, config, until, last, plans);
+        faults.kept(fault)?;
     }
     Ok(())
+}
+
+/// The first fault of an expectation; none of its target where the configuration isn't known, and of its alerts where the
+/// planned actions aren't.
+fn fault_of(
+    reader: &Reader<'_, '_>,
+    config: Option<&Config>,
+    until: u64,
+    last: u64,
+    plans: Option<&[TimedAction]>,
+) -> Result<(), InputFault> {
+    let expectation = read_expectation(reader, until, last, plans.unwrap_or(&[]))?;
+    if let Some(config) = config {
+        check_target(reader.alloc(), config, &expectation, reader.place())?;
+    }
+    match plans {
+        None => Ok(()),
+        Some(plans) => check_content(reader, last, plans, &expectation),
+    }
+}
+
+/// An expectation whose target and whose alerts are there.
+fn read_known(
+    reader: &Reader<'_, '_>,
+    config: &Config,
+    until: u64,
+    last: u64,
+    plans: &[TimedAction],
+) -> Result<Expectation, InputFault>
+    ensures { IfOk result (IsKnownIn reader.now.dialect config.now until last plans.now (view reader.now.value)) }
+{
+    let expectation = read_expectation(reader, until, last, plans)?;
+    check_target(reader.alloc(), config, &expectation, reader.place())?;
+    check_content(reader, last, plans, &expectation)?;
+    Ok(expectation)
+}
+
+fn check_content(
+    reader: &Reader<'_, '_>,
+    last: u64,
+    plans: &[TimedAction],
+    expectation: &Expectation,
+) -> Result<(), InputFault>
+    ensures { OnOk result (has_alerts last plans.now expectation.now.content ≡ true) }
+{
+    let item = reader.object()?;
+    check_alerts(&item, last, plans, &expectation.content, reader.place())
 }
 
 /// What is expected of a span, up to `until` where no end is said, for a receiver and an integration,
@@ -158,24 +192,26 @@ pub fn expectation_faults(
 fn read_expectation(
     reader: &Reader<'_, '_>,
     until: u64,
+    last: u64,
     plans: &[TimedAction],
 ) -> Result<Expectation, InputFault>
-    ensures { IfOk result (IsExpectedIn reader.now.dialect until plans.now (view reader.now.value)) }
+    ensures { IfOk result (IsExpectedIn reader.now.dialect until last plans.now (view reader.now.value)) }
 {
     let item = reader.object()?;
     item.only(&MEMBERS)?;
-    read_members(&item, until, plans)
+    Ok(read_members(&item, until, last, plans)?)
 }
 
 fn read_members(
     item: &Object<'_, '_>,
     until: u64,
+    last: u64,
     plans: &[TimedAction],
 ) -> Result<Expectation, InputFault>
-    ensures { IfOk result (IsExpectedOf item.now.dialect until plans.now (members_view item.now.members)) }
+    ensures { IfOk result (IsExpectedOf item.now.dialect until last plans.now (members_view item.now.members)) }
 {
     let name = read_name(item, "name")?;
-    let (from, to) = read_span(item, until, plans)?;
+    let (from, to) = read_span(item, until, last, plans)?;
     let receiver = read_name(item, "receiver")?;
     let (kind, integration) = read_target(item)?;
     let content = read_content(item)?;

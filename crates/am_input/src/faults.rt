@@ -159,24 +159,12 @@ fn outage_faults(
     for (index, value) in values.iter().enumerate() {
         let reader = member.item(index, value);
         if let Some(OutageItem { outage }) = faults.kept(OutageItem::read(&reader))? {
-            let receiver = outage.receiver.as_str();
-            target_fault(faults, &reader, config, Some(receiver), outage.integration)?;
+            if let Some(config) = config {
+                let receiver = outage.receiver.as_str();
+                let place = *reader.place();
+                faults.kept(check(reader.alloc(), config, receiver, outage.integration, place))?;
+            }
         }
-    }
-    Ok(())
-}
-
-/// Keeps the fault of a receiver that isn't in the configuration, or of a position that the receiver hasn't.
-pub(crate) fn target_fault(
-    faults: &mut Faults,
-    reader: &Reader<'_, '_>,
-    config: Option<&Config>,
-    receiver: Option<&str>,
-    integration: Option<u32>,
-) -> Result<(), InputFault> {
-    if let (Some(config), Some(receiver)) = (config, receiver) {
-        let place = *reader.place();
-        faults.kept(check(reader.alloc(), config, receiver, integration, place))?;
     }
     Ok(())
 }

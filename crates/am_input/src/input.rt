@@ -16,7 +16,7 @@ ghost use Rattle.am_rehearsal.specs.declared.limits.TheConstants.{MAX_UNTIL};
 ghost use Rattle.am_cli.specs.Decoding.{HasOr, IsList};
 ghost use Rattle.am_input.specs.Configured.{IsConfigFor, file_in};
 ghost use Rattle.am_input.specs.Decoding.{DecodesToOutage};
-ghost use Rattle.am_input.specs.Expected.{AreExpectedIn};
+ghost use Rattle.am_input.specs.Expected.{AreExpectedIn, last_end};
 ghost use Rattle.am_input.specs.Planned.{ArePlannedIn};
 ghost use Rattle.am_input.specs.Request.{DecodesToStart, Requests, IsRequestIn, end_for, maintain_in, output_for};
 
@@ -181,7 +181,8 @@ fn read_asked(
         output_for output (get_member (codes "output") (members_view top.now.members)) ≡ Some asked.output) }
     ensures start { IfOk result (λ asked. DecodesToStart (get_member (codes "start") (members_view top.now.members)) asked.start) }
     ensures expectations { IfOk result (λ asked.
-        AreExpectedIn top.now.dialect rehearsal.now.until rehearsal.now.plans.items
+        AreExpectedIn top.now.dialect rehearsal.now.config rehearsal.now.until
+        (last_end rehearsal.now.until (members_view top.now.members)) rehearsal.now.plans.items
         (get_member (codes "expect") (members_view top.now.members)) asked.expectations.items) }
 {
     let start = moment::start(top)?;

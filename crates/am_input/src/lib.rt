@@ -6,6 +6,7 @@
 #![tactic(auto)]
 
 mod alert;
+pub mod causes;
 pub mod configured;
 mod expectation;
 pub mod faults;

@@ -1,6 +1,8 @@
 //! What a command reads from and prints to.
 use crate::bounds::{bounds, wrong_of};
 use crate::files::{FileFault, PaintedOutput, read};
+use crate::matcher_words::explain_matcher;
+use crate::story_words::explain_story;
 use crate::time_words::explain_times;
 use am_cli::device::StandardInput;
 use am_cli::fault::{FaultKind, InputFault};
@@ -225,13 +227,8 @@ impl Console {
         fault_kind: FaultKind,
         place: Option<Place>,
     ) -> Result<(), AllocError> {
-        let alloc = rt.alloc();
-        let wrong = wrong_of(fault_kind);
-        let message = match explain_times(alloc, &document.value, pointer, fault_kind)? {
-            Some(words) => words,
-            None => explain(alloc, &document.value, pointer, wrong, &bounds())?,
-        };
-        let kind = wrong.name();
+        let message = words_for(rt.alloc(), &document.value, pointer, fault_kind)?;
+        let kind = wrong_of(fault_kind).name();
         self.complain(
             rt,
             document.path,
@@ -266,6 +263,25 @@ impl Console {
         let _ = eprintln!(rt; "{line}");
         Ok(())
     }
+}
+
+/// Returns what is wrong with the value at a JSON pointer, in words.
+fn words_for(
+    alloc: Global,
+    top: &Value,
+    pointer: &str,
+    fault_kind: FaultKind,
+) -> Result<String, AllocError> {
+    if let Some(words) = explain_times(alloc, top, pointer, fault_kind)? {
+        return Ok(words);
+    }
+    if let Some(words) = explain_story(alloc, top, pointer, fault_kind)? {
+        return Ok(words);
+    }
+    if let Some(words) = explain_matcher(alloc, top, pointer, fault_kind)? {
+        return Ok(words);
+    }
+    explain(alloc, top, pointer, wrong_of(fault_kind), &bounds())
 }
 
 /// A fault, and where its value stands in the text, if that is known.

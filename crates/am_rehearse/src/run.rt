@@ -1,6 +1,7 @@
 //! The run of a rehearsal: reads the whole input, runs it, writes the output. `main` calls it.
-ghost use Rattle.std.specs.Prelude.{◌≡◌, ◌≢◌, ◌≤◌, ◌<◌, ◌+◌, ◌++◌, ◌⊎◌, ◌↔◌, List, ℕ, Some, false, true, length, string_bytes, vec_len};
-ghost use Rattle.std.specs.Prelude.{IfErr, IfOk, OnOk, option_and_then, if◌then◌else◌};
+ghost use Rattle.std.specs.Prelude.{◌≡◌, ◌≢◌, ◌≤◌, ◌<◌, ◌==◌, ◌&&◌, ◌+◌, ◌++◌, ◌⊎◌, ◌↔◌, List, ℕ, Some, false, true};
+ghost use Rattle.std.specs.Prelude.{length, string_bytes, vec_len};
+ghost use Rattle.std.specs.Prelude.{IfErr, IfOk, None, OnOk, not, option_and_then, option_map, if◌then◌else◌};
 ghost use Rattle.std.specs.List.{list_all, range_with_len};
 ghost use Rattle.am_cli.specs.declared.transfer.TheConstants.{MAX_INPUT};
 ghost use Rattle.am_rehearsal.specs.EventOrder.{begin_indices};
@@ -12,7 +13,9 @@ ghost use Rattle.am_rehearse.specs.Faults.{Refuses, status_of};
 ghost use Rattle.am_model.specs.Replay.{IsLegal};
 ghost use Rattle.am_rehearse.specs.Printed.{WritesOutput, IsPrinted, IsOutputOf, IsOutputOfRun, IsOutputFor, expectations_section, summary};
 ghost use Rattle.am_timeline.specs.Changed.{changed};
-ghost use Rattle.am_timeline.specs.Expectation.{is_met};
+ghost use Rattle.am_picture.specs.Junit.{junit_text};
+ghost use Rattle.am_timeline.specs.Expectation.{is_met, unmet_from};
+ghost use Rattle.am_timeline.specs.Filtered.{names_nothing};
 ghost use Rattle.am_timeline.specs.Runs.{short_timeline_text};
 ghost use Rattle.am_timeline.specs.Table.{table_text};
 ghost use Rattle.am_timeline.specs.Timeline.{timeline_text};
@@ -63,13 +66,15 @@ pub struct Report {
     pub judgement: Judgement,
 }
 
-/// What became of expectations, besides the output.
+/// What a rehearsal came to, besides the output.
 #[derive(Drop)]
 pub struct Judgement {
-    /// The numbers of those that aren't met, from 0 on.
+    /// The numbers of the expectations that aren't met, from 0 on.
     pub unmet: Vec<usize>,
-    /// The report on all of them, as XML of JUnit, if it is wanted.
+    /// The report on all expectations, as XML of JUnit, if it is wanted.
     pub junit: Option<String>,
+    /// Whether a filter names something, and no event is of that.
+    pub found_nothing: bool,
 }
 
 impl Judgement {
@@ -78,6 +83,7 @@ impl Judgement {
         Judgement {
             unmet: Vec::new(alloc),
             junit: None,
+            found_nothing: false,
         }
     }
 }
@@ -210,9 +216,20 @@ fn play_and_render<W: Watch>(
         output,
         dropped: _,
     } = input;
+    check_lines(alloc, output, wanted)?;
     let played = play_or_refuse(alloc, rehearsal, origins.as_slice(), watch)?;
     let expectations = expectations.as_slice();
     render_from(alloc, &played, &start, expectations, output, wanted)
+}
+
+/// Refuses a page of which lines are to be left out.
+fn check_lines(alloc: Global, output: Output, wanted: &Wanted) -> Result<(), InputFault> {
+    let leaves_out = wanted.changes || !wanted.filter.is_empty();
+    if output == Output::Html && leaves_out {
+        let top = JsonPointer::Root;
+        return Err(top.member("output").refuse(alloc, FaultKind::BadValue));
+    }
+    Ok(())
 }
 
 /// Plays a rehearsal whose planned actions are at these places of the input.
@@ -281,7 +298,7 @@ fn render_by<C: TimeFormat>(
     let shown = filtered.with_events(kept.as_slice());
     let text = printed(alloc, &shown, &playback, clock, expectations, output)?;
     let is_met = are_met(alloc, &playback, expectations)?;
-    let judgement = judge(alloc, &playback, clock, expectations, wanted)?;
+    let judgement = judge(alloc, &playback, &filtered, clock, expectations, wanted)?;
     Ok(Rendered {
         text,
         is_met,
@@ -324,23 +341,46 @@ fn wanted_events<C: TimeFormat>(
     Ok(events)
 }
 
-/// What became of the expectations, besides the output.
+/// What a rehearsal came to, besides the output: `filtered` is its playback with the events that the filter leaves.
 fn judge<C: TimeFormat>(
+    alloc: Global,
+    playback: &Playback<'_>,
+    filtered: &Playback<'_>,
+    clock: &C,
+    expectations: &[Expectation],
+    wanted: &Wanted,
+) -> Result<Judgement, AllocError>
+    ensures unmet { IfOk result (λ judgement. judgement.unmet.items ≡ unmet_from playback.now 0 expectations.now) }
+    ensures junit { IfOk result (λ judgement. option_map string_bytes judgement.junit
+        ≡ (if wanted.now.junit then Some (junit_text playback.now (C.times clock.now) expectations.now) else None)) }
+    ensures found { IfOk result (λ judgement. judgement.found_nothing
+        ≡ (not (names_nothing wanted.now.filter) && (length filtered.now.events == 0))) }
+{
+    let found_nothing = !wanted.filter.is_empty() && filtered.events().is_empty();
+    let junit = junit_of(alloc, playback, clock, expectations, wanted)?;
+    let unmet = unmet_expectations(alloc, playback, expectations)?;
+    Ok(Judgement {
+        unmet,
+        junit,
+        found_nothing,
+    })
+}
+
+/// The report on all expectations, as XML of JUnit, if it is wanted.
+fn junit_of<C: TimeFormat>(
     alloc: Global,
     playback: &Playback<'_>,
     clock: &C,
     expectations: &[Expectation],
     wanted: &Wanted,
-) -> Result<Judgement, AllocError> {
-    let unmet = unmet_expectations(alloc, playback, expectations)?;
+) -> Result<Option<String>, AllocError>
+    ensures { IfOk result (λ junit. option_map string_bytes junit
+        ≡ (if wanted.now.junit then Some (junit_text playback.now (C.times clock.now) expectations.now) else None)) }
+{
     if !wanted.junit {
-        return Ok(Judgement { unmet, junit: None });
+        return Ok(None);
     }
-    let junit = junit_text(alloc, playback, clock, expectations)?;
-    Ok(Judgement {
-        unmet,
-        junit: Some(junit),
-    })
+    Ok(Some(junit_text(alloc, playback, clock, expectations)?))
 }
 
 /// A rehearsal that was played as a page.

@@ -1,5 +1,5 @@
 -- Expectation: what is expected of a rehearsal, and whether it is met.
-use Rattle.std.specs.Prelude.{ℕ, ◌+◌, Bool, true, false, ◌&&◌, ◌==◌, nat_le, count_by, find, List, [], ◌∷◌, ◌++◌, Option, slice_get}
+use Rattle.std.specs.Prelude.{ℕ, ◌+◌, Bool, true, false, ◌&&◌, ◌==◌, nat_le, count_by, find, List, [], ◌∷◌, ◌++◌, Option, codes, slice_get}
 use Rattle.std.specs.Prelude.{if◌then◌else◌}
 use Rattle.std.specs.List.{list_all, list_any}
 use Rattle.std.specs.Option.{option_map_or}
@@ -10,8 +10,6 @@ use Rattle.am_alerts.specs.Matcher.{match_all}
 use Rattle.am_alerts.specs.declared.labels.Label.{Label}
 use Rattle.am_alerts.specs.declared.matcher.MatcherParts.{MatcherParts}
 use Rattle.am_model.specs.declared.config.Config.{Config}
-use Rattle.am_model.specs.declared.reason.Reason.{Reason}
-use Rattle.am_model.specs.declared.reason.Reason.TheVariants.{FirstNotice, NewAlert, AllResolved, NewlyResolved, Repeat}
 use Rattle.am_model.specs.Config.{kind_at}
 use Rattle.am_model.specs.Configured.{integrations_named, route_of}
 use Rattle.am_rehearsal.specs.declared.event.Event.{Event}
@@ -19,9 +17,12 @@ use Rattle.am_timeline.specs.declared.expectation.Amount.{Amount}
 use Rattle.am_timeline.specs.declared.expectation.Amount.TheVariants.{AtLeastOne, Exactly, AtMost}
 use Rattle.am_timeline.specs.declared.expectation.Expectation.{Expectation}
 use Rattle.am_timeline.specs.declared.expectation.content.Content.{Content}
+use Rattle.am_timeline.specs.declared.expectation.content.SentReason.{SentReason}
+use Rattle.am_timeline.specs.declared.expectation.content.SentReason.TheVariants.{FirstNotice, LogEntryExpired, NewAlert, AllResolved}
+use Rattle.am_timeline.specs.declared.expectation.content.SentReason.TheVariants.{NewlyResolved, Repeat}
 use Rattle.am_timeline.specs.Playback.{PlaybackData, SentData, is_delivered, sent_of}
 use Rattle.am_timeline.specs.Table.{is_for}
-use Rattle.am_timeline.specs.Timeline.{reason_words}
+use Rattle.am_timeline.specs.Timeline.{expiry_before, sent_words}
 
 -- the kind of the integration that a notice was for
 abbrev pub kind_for : Config → SentData → List ℕ
@@ -37,7 +38,8 @@ is_for_integration config x s =
     option_map_or (λ kind. bytes_eq (kind_for config s) kind) x.kind true
     && option_map_or (λ position. s.notice.integration == position) x.integration true
 
--- whether a notice is one of those that an expectation speaks of: delivered, from the one moment to the other, to its target
+-- whether a notice is one of those that an expectation speaks of: delivered, from the one moment to the other, to its target;
+-- one counts also if its sending ended after the deadline of its flush
 abbrev pub is_in_scope : Config → Expectation → SentData → Bool
 is_in_scope config x s =
     is_delivered s.outcome && nat_le x.from s.report.ended && nat_le s.report.ended x.to && is_for_receiver config x s
@@ -67,33 +69,43 @@ has_match matchers alerts = list_any (λ a. match_all matchers a.labels) alerts
 abbrev pub has_as_wanted : Option (List MatcherParts) → List AlertData → Bool
 has_as_wanted wanted alerts = option_map_or (λ matchers. has_match matchers alerts) wanted true
 
+-- the words of a reason that is wanted
+abbrev pub wanted_words : SentReason → List ℕ
+wanted_words FirstNotice = codes "first notice"
+wanted_words LogEntryExpired = codes "log entry expired"
+wanted_words NewAlert = codes "new alert"
+wanted_words AllResolved = codes "all resolved"
+wanted_words NewlyResolved = codes "newly resolved"
+wanted_words Repeat = codes "repeat"
+
 -- the reasons for which a notice is sent
-abbrev pub notifying : List Reason
-notifying = FirstNotice ∷ NewAlert ∷ AllResolved ∷ NewlyResolved ∷ Repeat ∷ []
+abbrev pub notifying : List SentReason
+notifying = FirstNotice ∷ LogEntryExpired ∷ NewAlert ∷ AllResolved ∷ NewlyResolved ∷ Repeat ∷ []
 
 -- the reason for which a notice is sent, by its words
-abbrev pub reason_named : List ℕ → Option Reason
-reason_named words = find (λ reason. bytes_eq words (reason_words reason)) notifying
+abbrev pub reason_named : List ℕ → Option SentReason
+reason_named words = find (λ reason. bytes_eq words (wanted_words reason)) notifying
 
--- whether a notice was sent for this reason
-abbrev pub is_sent_for : Reason → SentData → Bool
-is_sent_for reason s =
-    option_map_or (λ own. bytes_eq (reason_words own) (reason_words reason)) (slice_get s.begin.preview.reasons s.notice.integration) false
+-- whether a notice was sent for this reason, as its line in the timeline says it
+abbrev pub is_sent_for : PlaybackData → SentReason → SentData → Bool
+is_sent_for playback reason s =
+    option_map_or (λ own. bytes_eq (sent_words (expiry_before playback s) own) (wanted_words reason))
+    (slice_get s.begin.preview.reasons s.notice.integration) false
 
 -- the same, if a reason is said
-abbrev pub is_sent_as_wanted : Option Reason → SentData → Bool
-is_sent_as_wanted wanted s = option_map_or (λ reason. is_sent_for reason s) wanted true
+abbrev pub is_sent_as_wanted : PlaybackData → Option SentReason → SentData → Bool
+is_sent_as_wanted playback wanted s = option_map_or (λ reason. is_sent_for playback reason s) wanted true
 
 -- whether a notice says what is wanted of it
-abbrev pub has_content : Content → SentData → Bool
-has_content wanted s =
+abbrev pub has_content : PlaybackData → Content → SentData → Bool
+has_content playback wanted s =
     has_as_wanted wanted.has s.notice.firing && has_as_wanted wanted.has_resolved s.notice.resolved
     && are_as_wanted wanted.firing s.notice.firing && are_as_wanted wanted.resolved s.notice.resolved
-    && is_sent_as_wanted wanted.reason s
+    && is_sent_as_wanted playback wanted.reason s
 
 -- whether a notice is one that an expectation wants: in scope, and of its content
-abbrev pub fits : Config → Expectation → SentData → Bool
-fits config x s = is_in_scope config x s && has_content x.content s
+abbrev pub fits : PlaybackData → Expectation → SentData → Bool
+fits playback x s = is_in_scope playback.config x s && has_content playback x.content s
 
 -- whether the sending of a notice in scope ended by this
 abbrev pub ends_in_scope : PlaybackData → Expectation → Event → Bool
@@ -101,7 +113,7 @@ ends_in_scope playback x event = option_map_or (is_in_scope playback.config x) (
 
 -- whether the sending of a notice that fits did
 abbrev pub ends_fitting : PlaybackData → Expectation → Event → Bool
-ends_fitting playback x event = option_map_or (fits playback.config x) (sent_of playback event) false
+ends_fitting playback x event = option_map_or (fits playback x) (sent_of playback event) false
 
 -- how many notices fit
 abbrev pub count_fitting : PlaybackData → Expectation → ℕ

@@ -10,7 +10,6 @@ use Rattle.am_alerts.specs.declared.matcher.MatcherParts.{MatcherParts}
 use Rattle.am_alerts.specs.declared.matcher.Operator.{Operator}
 use Rattle.am_alerts.specs.declared.matcher.Operator.TheVariants.{Equal, NotEqual, Like, NotLike}
 use Rattle.am_model.specs.declared.config.Config.{Config}
-use Rattle.am_model.specs.declared.reason.Reason.{Reason}
 use Rattle.am_model.specs.Config.{kind_at}
 use Rattle.am_model.specs.Configured.{route_of, integration_text}
 use Rattle.am_model.specs.Notice.{NoticeData}
@@ -19,14 +18,15 @@ use Rattle.am_timeline.specs.declared.expectation.Amount.{Amount}
 use Rattle.am_timeline.specs.declared.expectation.Amount.TheVariants.{AtLeastOne, Exactly, AtMost}
 use Rattle.am_timeline.specs.declared.expectation.Expectation.{Expectation}
 use Rattle.am_timeline.specs.declared.expectation.content.Content.{Content}
+use Rattle.am_timeline.specs.declared.expectation.content.SentReason.{SentReason}
 use Rattle.am_timeline.specs.declared.expectation_report.nearest.Alike.{Alike}
 use Rattle.am_timeline.specs.declared.expectation_report.nearest.Alike.TheVariants.{ToReceiver, ToTarget, OfContent}
 use Rattle.am_timeline.specs.Expectation.{are_as_wanted, count_fitting, ends_in_scope, fits, has_as_wanted, has_content, is_for_integration}
-use Rattle.am_timeline.specs.Expectation.{is_for_receiver, is_in_scope, is_met, is_sent_as_wanted}
+use Rattle.am_timeline.specs.Expectation.{is_for_receiver, is_in_scope, is_met, is_sent_as_wanted, wanted_words}
 use Rattle.am_timeline.specs.Shown.{text_shown, sets_shown}
 use Rattle.am_timeline.specs.Playback.{PlaybackData, SentData, is_delivered, sent_of}
 use Rattle.am_timeline.specs.Table.{count_text}
-use Rattle.am_timeline.specs.Timeline.{alerts_text, reason_words}
+use Rattle.am_timeline.specs.Timeline.{alerts_text, expiry_before, sent_words}
 use Rattle.am_timeline.specs.TimeFormatData.{TimeFormatData, counted_text}
 
 -- a label set is its own
@@ -64,14 +64,14 @@ abbrev pub sets_text : List ℕ → Option (List (List Label)) → List ℕ
 sets_text word None = []
 sets_text word (Some sets) = word ++ listed_text sets
 
--- a reason behind its word
-unfoldable pub reason_part : Reason → List ℕ
-reason_part reason = codes "; reason " ++ reason_words reason
+-- the words of a reason behind another
+unfoldable pub reason_part : List ℕ → List ℕ
+reason_part words = codes "; reason " ++ words
 
 -- the same; nothing where no reason is said
-abbrev pub wanted_reason_text : Option Reason → List ℕ
+abbrev pub wanted_reason_text : Option SentReason → List ℕ
 wanted_reason_text None = []
-wanted_reason_text (Some reason) = reason_part reason
+wanted_reason_text (Some reason) = reason_part (wanted_words reason)
 
 -- which alerts a notice has to have among others
 unfoldable pub has_text : Content → List ℕ
@@ -146,9 +146,10 @@ abbrev pub unless : Bool → List ℕ → List ℕ
 unless holds text = if holds then [] else text
 
 -- why a notice was sent
-abbrev pub sent_reason_text : SentData → List ℕ
-sent_reason_text s =
-    option_map_or reason_part (slice_get s.begin.preview.reasons s.notice.integration) []
+abbrev pub sent_reason_text : PlaybackData → SentData → List ℕ
+sent_reason_text playback s =
+    option_map_or (λ own. reason_part (sent_words (expiry_before playback s) own))
+    (slice_get s.begin.preview.reasons s.notice.integration) []
 
 -- how a notice differs in the alerts that it has to have among others
 unfoldable pub has_differences : Content → SentData → List ℕ
@@ -163,12 +164,13 @@ exact_differences wanted s =
     ++ unless (are_as_wanted wanted.resolved s.notice.resolved) (codes "; other resolved alerts")
 
 -- why it was sent, if another reason is wanted
-abbrev pub reason_difference : Content → SentData → List ℕ
-reason_difference wanted s = unless (is_sent_as_wanted wanted.reason s) (sent_reason_text s)
+abbrev pub reason_difference : PlaybackData → Content → SentData → List ℕ
+reason_difference playback wanted s = unless (is_sent_as_wanted playback wanted.reason s) (sent_reason_text playback s)
 
 -- how a notice differs in its content from what is wanted
-unfoldable pub content_differences : Content → SentData → List ℕ
-content_differences wanted s = has_differences wanted s ++ exact_differences wanted s ++ reason_difference wanted s
+unfoldable pub content_differences : PlaybackData → Content → SentData → List ℕ
+content_differences playback wanted s =
+    has_differences wanted s ++ exact_differences wanted s ++ reason_difference playback wanted s
 
 -- by how much a time is outside of a span
 unfoldable pub off_span_text : ℕ → ℕ → ℕ → List ℕ
@@ -179,27 +181,28 @@ abbrev pub integration_difference : Config → Expectation → SentData → List
 integration_difference config x s = unless (is_for_integration config x s) (codes "; another integration")
 
 -- how a notice to the receiver of an expectation differs from what is expected
-unfoldable pub differences : Config → Expectation → SentData → List ℕ
-differences config x s =
-    off_span_text x.from x.to s.report.ended ++ integration_difference config x s ++ content_differences x.content s
+unfoldable pub differences : PlaybackData → Expectation → SentData → List ℕ
+differences playback x s =
+    off_span_text x.from x.to s.report.ended ++ integration_difference playback.config x s
+    ++ content_differences playback x.content s
 
 -- when a notice came and to whom, behind a word
 unfoldable pub came_front : List ℕ → Config → TimeFormatData → SentData → List ℕ
 came_front word config times s = word ++ times.text s.report.ended ++ getter_text config s.notice
 
 -- a notice behind a word: when it came, to whom, what it told, and how it differs from what is expected
-unfoldable pub came_line : List ℕ → Config → TimeFormatData → Expectation → SentData → List ℕ
-came_line word config times x s =
-    came_front word config times s ++ codes ": " ++ got_alerts_text s.notice ++ differences config x s ++ codes "\n"
+unfoldable pub came_line : List ℕ → PlaybackData → TimeFormatData → Expectation → SentData → List ℕ
+came_line word playback times x s =
+    came_front word playback.config times s ++ codes ": " ++ got_alerts_text s.notice ++ differences playback x s ++ codes "\n"
 
 -- whether a notice is shown: one that fits, or one in scope where none fits
-abbrev pub is_shown : Bool → Config → Expectation → SentData → Bool
-is_shown some_fit config x s = if some_fit then fits config x s else is_in_scope config x s
+abbrev pub is_shown : Bool → PlaybackData → Expectation → SentData → Bool
+is_shown some_fit playback x s = if some_fit then fits playback x s else is_in_scope playback.config x s
 
 -- a notice that came, if it is shown
 abbrev pub got_if_shown : Bool → PlaybackData → TimeFormatData → Expectation → SentData → List ℕ
 got_if_shown some_fit playback times x s =
-    if is_shown some_fit playback.config x s then came_line (codes "  got       ") playback.config times x s else []
+    if is_shown some_fit playback x s then came_line (codes "  got       ") playback times x s else []
 
 -- the notice that is shown whose sending ended by this, if there is one
 abbrev pub got_by : Bool → PlaybackData → TimeFormatData → Expectation → Event → List ℕ
@@ -210,18 +213,19 @@ abbrev pub distance : Expectation → SentData → ℕ
 distance x s = if nat_lt s.report.ended x.from then x.from - s.report.ended else s.report.ended - x.to
 
 -- whether a notice has so much of what is expected
-abbrev pub is_alike : Alike → Config → Expectation → SentData → Bool
-is_alike ToReceiver config x s = is_for_receiver config x s
-is_alike ToTarget config x s = is_for_receiver config x s && is_for_integration config x s
-is_alike OfContent config x s = is_for_receiver config x s && is_for_integration config x s && has_content x.content s
+abbrev pub is_alike : Alike → PlaybackData → Expectation → SentData → Bool
+is_alike ToReceiver playback x s = is_for_receiver playback.config x s
+is_alike ToTarget playback x s = is_for_receiver playback.config x s && is_for_integration playback.config x s
+is_alike OfContent playback x s =
+    is_for_receiver playback.config x s && is_for_integration playback.config x s && has_content playback x.content s
 
 -- a notice, if it was delivered and is alike
-abbrev pub if_alike : Alike → Config → Expectation → SentData → Option SentData
-if_alike alike config x s = if is_delivered s.outcome && is_alike alike config x s then Some s else None
+abbrev pub if_alike : Alike → PlaybackData → Expectation → SentData → Option SentData
+if_alike alike playback x s = if is_delivered s.outcome && is_alike alike playback x s then Some s else None
 
 -- the notice that is alike whose sending ended by this, if there is one
 abbrev pub candidate_by : Alike → PlaybackData → Expectation → Event → Option SentData
-candidate_by alike playback x event = option_and_then (if_alike alike playback.config x) (sent_of playback event)
+candidate_by alike playback x event = option_and_then (if_alike alike playback x) (sent_of playback event)
 
 -- the nearer of two notices, and the first where both are as near
 abbrev pub nearer : Expectation → Option SentData → Option SentData → Option SentData
@@ -244,7 +248,7 @@ nearest_of playback x =
 -- the nearest notice, and how it differs; nothing where none was delivered to the receiver
 unfoldable pub nearest_text : PlaybackData → TimeFormatData → Expectation → List ℕ
 nearest_text playback times x =
-    option_map_or (came_line (codes "  nearest   ") playback.config times x) (nearest_of playback x) []
+    option_map_or (came_line (codes "  nearest   ") playback times x) (nearest_of playback x) []
 
 -- that none came in scope, and the nearest
 unfoldable pub none_text : PlaybackData → TimeFormatData → Expectation → List ℕ

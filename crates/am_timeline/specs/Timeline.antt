@@ -95,6 +95,10 @@ expired_text times at = codes "log entry expired at " ++ times.text at
 abbrev pub sent_reason_text : TimeFormatData → Option ℕ → Reason → List ℕ
 sent_reason_text times expiry reason = option_map_or (expired_text times) (expiry_if_first expiry reason) (reason_text times reason)
 
+-- the same in words, without the time
+abbrev pub sent_words : Option ℕ → Reason → List ℕ
+sent_words expiry reason = option_map_or (λ at. codes "log entry expired") (expiry_if_first expiry reason) (reason_words reason)
+
 -- behind how many attempts something came, and when they began
 abbrev pub attempts_text : TimeFormatData → ℕ → ℕ → List ℕ
 attempts_text times attempts since =

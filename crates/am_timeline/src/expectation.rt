@@ -133,7 +133,7 @@ impl Expectation {
     {
         match sent_of(playback, event) {
             None => Ok(false),
-            Some(sent) => self.fits(alloc, playback.config, &sent),
+            Some(sent) => self.fits(alloc, playback, &sent),
         }
     }
 
@@ -141,12 +141,12 @@ impl Expectation {
     pub(crate) fn fits(
         &self,
         alloc: Global,
-        config: &Config,
+        playback: &Playback,
         sent: &Sent,
     ) -> Result<bool, AllocError>
-        ensures { IfOk result (λ fitting. fitting ≡ fits config.now self.now sent.now) }
+        ensures { IfOk result (λ fitting. fitting ≡ fits playback.now self.now sent.now) }
     {
-        Ok(self.is_in_scope(config, sent) && self.content.is_in(alloc, sent)?)
+        Ok(self.is_in_scope(playback.config, sent) && self.content.is_in(alloc, playback, sent)?)
     }
 
     /// Returns whether a notice is in scope.

@@ -1,7 +1,7 @@
 //! The parts of lines. The modules of lines call it.
 ghost use Rattle.std.specs.Prelude.{◌≡◌, ◌++◌, OnOk, string_bytes};
 ghost use Rattle.am_timeline.specs.Timeline.{attempts_text, expired_text, expiry_if_first, time_text, reason_text, reason_words};
-ghost use Rattle.am_timeline.specs.Timeline.{repeat_text, retries_text, sent_reason_text};
+ghost use Rattle.am_timeline.specs.Timeline.{repeat_text, retries_text, sent_reason_text, sent_words};
 
 use crate::clock::{TimeFormat, push_column, push_number};
 use am_board::reason::Reason;
@@ -99,6 +99,16 @@ fn push_expired<C: TimeFormat>(clock: &C, at: u64, out: &mut String) -> Result<(
 {
     out.push_str("log entry expired at ")?;
     clock.push_moment(at, out)
+}
+
+/// Returns why a notice was sent, in words without a time, where the log entry had expired at this time, if it had.
+pub(crate) fn sent_words(expiry: Option<u64>, reason: &Reason) -> &'static str
+    ensures { result.now ≡ sent_words expiry reason.now }
+{
+    match expiry_if_first(expiry, reason) {
+        None => reason_words(reason),
+        Some(_) => "log entry expired",
+    }
 }
 
 pub(crate) fn reason_words(reason: &Reason) -> &'static str

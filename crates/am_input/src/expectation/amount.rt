@@ -19,6 +19,7 @@ pub(crate) fn read_amount(item: &Object<'_, '_>) -> Result<Amount, InputFault>
     let count = read_number(item, "count")?;
     let at_most = read_number(item, "at_most")?;
     check_alone(item, is_none)?;
+    check_once(item, is_none, is_never)?;
     let amount = amount_or_refuse(item, says_never(is_none, is_never), count, at_most)?;
     Ok(amount)
 }
@@ -36,6 +37,16 @@ fn check_alone(item: &Object<'_, '_>, is_none: bool) -> Result<(), InputFault>
 {
     if is_none && says_content(item) {
         return Err(item.required("none")?.refuse(FaultKind::BadValue));
+    }
+    Ok(())
+}
+
+/// Refuses `never` beside `none`.
+fn check_once(item: &Object<'_, '_>, is_none: bool, is_never: bool) -> Result<(), InputFault>
+    ensures { OnOk result ((is_none && is_never) ≡ false) }
+{
+    if is_none && is_never {
+        return Err(item.required("never")?.refuse(FaultKind::BadValue));
     }
     Ok(())
 }
@@ -92,7 +103,7 @@ fn second_of(item: &Object<'_, '_>, at_most: Option<u64>) -> InputFault {
     }
 }
 
-/// Whether an expectation says what a notice has to say.
+/// Whether an expectation says what a notice has to say. `of` does too.
 fn says_content(item: &Object<'_, '_>) -> bool
     ensures { result ≡ says_content (members_view item.now.members) }
 {
@@ -101,6 +112,7 @@ fn says_content(item: &Object<'_, '_>) -> bool
         || has_member(item, "exactly")
         || has_member(item, "has")
         || has_member(item, "has_resolved")
+        || has_member(item, "of")
         || has_member(item, "reason")
 }
 

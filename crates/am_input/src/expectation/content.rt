@@ -1,22 +1,21 @@
 //! What an expectation wants a notice to say. `expectation` calls it.
-ghost use Rattle.std.specs.Prelude.{◌≡◌, IfOk, Some, codes};
+ghost use Rattle.std.specs.Prelude.{◌≡◌, IfOk, OnOk, Some, codes};
 ghost use Rattle.serde_json.specs.Find.{get_member};
 ghost use Rattle.serde_json.specs.View.{members_view, view};
 ghost use Rattle.am_cli.specs.Decoding.{IsList};
 ghost use Rattle.am_cli.specs.Configured.{DecodesToLabels, DecodesToMatcher};
 ghost use Rattle.am_input.specs.Expected.{AreFiringIn, AreMatchersIn, AreResolvedIn, AreSetsIn, HasContentIn, member_if, reason_in};
-ghost use Rattle.am_input.specs.Expected.{said_or_of};
+ghost use Rattle.am_input.specs.Expected.{SaysExactly, said_or_of};
 
 use crate::expectation::span::{read_when, refuse_beside};
 use am_alerts::labels::Labels;
 use am_alerts::limits::MAX_MATCHERS;
 use am_alerts::matcher::Matcher;
 use am_alerts::sequence::Sequence;
-use am_board::reason::Reason;
 use am_cli::fault::{FaultKind, InputFault};
 use am_cli::labels::read_labels;
 use am_cli::reader::{Object, Reader};
-use am_timeline::expectation::content::{Content, reason_named};
+use am_timeline::expectation::content::{Content, SentReason, reason_named};
 
 /// What a notice has to say. `has` or `has_resolved`, as `when` says, is `of` where it isn't said; `exactly` says
 /// both sets, of which that of the resolved alerts is empty.
@@ -26,7 +25,7 @@ pub(crate) fn read_content(item: &Object<'_, '_>) -> Result<Content, InputFault>
     let resolves = read_when(item)?;
     let has = read_has(item, "has", !resolves)?;
     let has_resolved = read_has(item, "has_resolved", resolves)?;
-    refuse_beside(item, "exactly", &["firing", "resolved"])?;
+    check_exactly(item)?;
     let firing = read_firing(item)?;
     let resolved = read_resolved(item)?;
     let reason = read_reason(item)?;
@@ -37,6 +36,17 @@ pub(crate) fn read_content(item: &Object<'_, '_>) -> Result<Content, InputFault>
         resolved,
         reason,
     })
+}
+
+/// Refuses `exactly` beside `firing` or `resolved`.
+fn check_exactly(item: &Object<'_, '_>) -> Result<(), InputFault>
+    ensures { OnOk result (SaysExactly (members_view item.now.members)) }
+{
+    let Some(exactly) = item.optional("exactly") else {
+        return Ok(());
+    };
+    refuse_beside(item, &exactly, "firing")?;
+    refuse_beside(item, &exactly, "resolved")
 }
 
 /// The matchers of a member, or else those of `of` if they stand for it.
@@ -111,7 +121,7 @@ fn list_sets(member: &Reader<'_, '_>) -> Result<Vec<Labels>, InputFault>
 }
 
 /// The reason for which a notice is sent.
-fn read_reason(item: &Object<'_, '_>) -> Result<Option<Reason>, InputFault>
+fn read_reason(item: &Object<'_, '_>) -> Result<Option<SentReason>, InputFault>
     ensures { IfOk result (λ reason.
         member_if reason_in (get_member (codes "reason") (members_view item.now.members)) ≡ Some reason) }
 {

@@ -2,15 +2,12 @@
 ghost use Rattle.std.specs.Prelude.{◌≡◌, IfOk, IfSome, codes};
 ghost use Rattle.serde_json.specs.Find.{get_member};
 ghost use Rattle.serde_json.specs.View.{members_view, view};
-ghost use Rattle.am_input.specs.Expected.{IsSplit, IsTargetIn, IsTargetOf, position_text};
+ghost use Rattle.am_input.specs.Expected.{IsSplit, IsTargetIn, IsTargetOf, position_named, position_text};
 
 use am_alerts::text::Text;
-use am_board::config::{Config, MAX_INTEGRATIONS, Receiver};
-use am_cli::fault::{FaultKind, InputFault};
-use am_cli::place::JsonPointer;
+use am_board::config::MAX_INTEGRATIONS;
+use am_cli::fault::InputFault;
 use am_cli::reader::{Object, Reader};
-use am_timeline::expectation::Expectation;
-use std::alloc::Global;
 
 /// The kind and the position of the integration, where they are said.
 pub(crate) fn read_target(item: &Object<'_, '_>) -> Result<(Option<Text>, Option<u32>), InputFault>
@@ -50,7 +47,8 @@ fn split(text: &str) -> (&str, Option<u32>)
 
 /// The position that is written so.
 fn position_of(text: &str) -> Option<u32>
-    ensures { IfSome result (λ position. text.now ≡ position_text position) }
+    ensures named { result ≡ position_named text.now }
+    ensures writes { IfSome result (λ position. text.now ≡ position_text position) }
 {
     match text {
         "0" => Some(0),
@@ -63,51 +61,4 @@ fn position_of(text: &str) -> Option<u32>
         "7" => Some(7),
         _ => None,
     }
-}
-
-/// Refuses a kind that no integration of the receiver has, or none at the position; where no receiver is named, of any
-/// receiver.
-pub(crate) fn check_kind(
-    alloc: Global,
-    config: &Config,
-    expectation: &Expectation,
-    place: JsonPointer<'_>,
-) -> Result<(), InputFault> {
-    let Some(kind) = &expectation.kind else {
-        return Ok(());
-    };
-    let position = expectation.integration;
-    let is_there = match &expectation.receiver {
-        None => config
-            .receivers
-            .as_slice()
-            .iter()
-            .any(|receiver| has_kind(receiver, kind.as_str(), position)),
-        Some(name) => match config.receiver(name.as_str()) {
-            None => true,
-            Some(receiver) => has_kind(receiver, kind.as_str(), position),
-        },
-    };
-    if is_there {
-        return Ok(());
-    }
-    Err(
-        place
-            .member("integration")
-            .refuse(alloc, FaultKind::BadValue),
-    )
-}
-
-/// Whether a receiver has an integration of a kind, at the position if one is said.
-fn has_kind(receiver: &Receiver, kind: &str, position: Option<u32>) -> bool {
-    for (place, integration) in receiver.integrations.as_slice().iter().enumerate() {
-        let is_meant = match position {
-            None => true,
-            Some(position) => position as usize == place,
-        };
-        if is_meant && integration.kind.as_str() == kind {
-            return true;
-        }
-    }
-    false
 }

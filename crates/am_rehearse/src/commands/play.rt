@@ -4,6 +4,7 @@ use crate::commands::given::given_to;
 use crate::console::{Console, Document, REJECTED, UNWRITABLE, say_ignored};
 use crate::fault::RehearseFault;
 use crate::files::{FileFault, open};
+use crate::matcher_words::{matcher_of, words_for};
 use crate::progress::Progress;
 use crate::run::{Judgement, Report, run_rehearsal};
 use crate::system_zones::SystemZones;
@@ -13,7 +14,6 @@ use am_alerts::matcher::{Matcher, MatcherFault};
 use am_alerts::sequence::Sequence;
 use am_alerts::text::Text;
 use am_cli::fault::InputFault;
-use am_cli::matcher_text::parts_of_text;
 use am_command::request::{PlayRequest, STANDARD_INPUT};
 use am_config::dropped::IgnoredSettings;
 use am_config::faults::{Faults, Refusal};
@@ -22,7 +22,6 @@ use am_input::input::{Changes, Output, Overrides};
 use am_rehearsal::MAX_UNTIL;
 use am_timeline::filtered::Filter;
 use am_yaml::document::read_document;
-use std::alloc::Global;
 use std::fs;
 use std::rt::Files;
 use std::time::Clock;
@@ -66,11 +65,21 @@ fn try_play<R: Files + Eprint + AllocGlobal + Clock>(
     let ended = run(rt, console, request.story, changes, &wanted, &mut report)?;
     say_ignored(rt, request.config.unwrap_or(request.story), report.ignored);
     if matches!(ended, Ok(()) | Err(RehearseFault::Unmet)) {
+        say_found(rt, &report.judgement);
         write_junit(rt, request.junit, &report.judgement.junit)?;
     }
     match ended {
         Ok(()) => Ok(()),
         Err(fault) => Err(complain(rt, console, request, config, overrides, report, fault)),
+    }
+}
+
+/// Says that the command line names what no flush is of, if it does.
+fn say_found<R: Eprint>(rt: &R, judgement: &Judgement) {
+    if judgement.found_nothing {
+        let _ = eprintln!(rt;
+            "am-rehearse: no flush is of what --receiver, --group and --alert name; its lines are all left out"
+        );
     }
 }
 
@@ -198,24 +207,14 @@ fn matchers_of<R: Eprint + AllocGlobal>(
                 }
             }
             Err(MatcherFault::NoMemory) => return Err(console.complain_of_memory(rt)),
-            Err(_) => {
-                let _ = eprintln!(rt;
-                    "am-rehearse: --alert: `{text}` is no matcher; write it as severity=\"critical\" or dc=~\"a|b\""
-                );
+            Err(fault) => {
+                let words = words_for(fault);
+                let _ = eprintln!(rt; "am-rehearse: --alert: `{text}` {words}");
                 return Err(REJECTED);
             }
         }
     }
     Ok(matchers)
-}
-
-/// Returns the matcher that a text writes.
-fn matcher_of(alloc: Global, text: &str) -> Result<Matcher, MatcherFault> {
-    match parts_of_text(alloc, text) {
-        Ok(Some(parts)) => Matcher::new(alloc, parts),
-        Ok(None) => Err(MatcherFault::BadName),
-        Err(_) => Err(MatcherFault::NoMemory),
-    }
 }
 
 /// Returns the end that the command line gives.

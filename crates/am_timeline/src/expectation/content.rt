@@ -2,15 +2,15 @@
 ghost use Rattle.std.specs.Prelude.{◌≡◌, IfOk, option_copied};
 ghost use Rattle.std.specs.List.{list_all, list_any};
 ghost use Rattle.am_timeline.specs.Expectation.{are_as_wanted, has_as_wanted, has_content, has_match, has_set, have_just};
-ghost use Rattle.am_timeline.specs.Expectation.{is_listed, is_sent_as_wanted, is_sent_for, reason_named};
+ghost use Rattle.am_timeline.specs.Expectation.{is_listed, is_sent_as_wanted, is_sent_for, reason_named, wanted_words};
 
-use crate::line::reason_words;
-use crate::sent::Sent;
+use crate::line::sent_words;
+use crate::playback::Playback;
+use crate::sent::{Sent, expiry_before};
 use am_alerts::alert::Alert;
 use am_alerts::labels::Labels;
 use am_alerts::matcher::{Matcher, all_match};
 use am_alerts::sequence::Sequence;
-use am_board::reason::Reason;
 use std::alloc::{AllocError, Global};
 
 /// What a notice has to say. A part that is none isn't compared.
@@ -25,27 +25,61 @@ pub struct Content {
     /// The resolved alerts have exactly these label sets, in any order.
     pub resolved: Option<Sequence<Labels>>,
     /// The notice was sent for this reason.
-    pub reason: Option<Reason>,
+    pub reason: Option<SentReason>,
+}
+
+/// Why a notice is sent, as its line in the timeline says it.
+#[derive(Clone, Copy, Debug)]
+pub enum SentReason {
+    FirstNotice,
+    /// A first notice, since the entry of the notification log had expired.
+    LogEntryExpired,
+    NewAlert,
+    AllResolved,
+    NewlyResolved,
+    Repeat,
+}
+
+impl SentReason {
+    /// Returns its words in a line of the timeline.
+    pub(crate) fn words(self) -> &'static str
+        ensures { result.now ≡ wanted_words self }
+    {
+        match self {
+            SentReason::FirstNotice => "first notice",
+            SentReason::LogEntryExpired => "log entry expired",
+            SentReason::NewAlert => "new alert",
+            SentReason::AllResolved => "all resolved",
+            SentReason::NewlyResolved => "newly resolved",
+            SentReason::Repeat => "repeat",
+        }
+    }
 }
 
 /// Returns the reason for which a notice is sent, by its words in a line of the timeline.
-pub fn reason_named(words: &str) -> Option<Reason>
+pub fn reason_named(words: &str) -> Option<SentReason>
     ensures { result ≡ reason_named words.now }
 {
     match words {
-        "first notice" => Some(Reason::FirstNotice),
-        "new alert" => Some(Reason::NewAlert),
-        "all resolved" => Some(Reason::AllResolved),
-        "newly resolved" => Some(Reason::NewlyResolved),
-        "repeat" => Some(Reason::Repeat),
+        "first notice" => Some(SentReason::FirstNotice),
+        "log entry expired" => Some(SentReason::LogEntryExpired),
+        "new alert" => Some(SentReason::NewAlert),
+        "all resolved" => Some(SentReason::AllResolved),
+        "newly resolved" => Some(SentReason::NewlyResolved),
+        "repeat" => Some(SentReason::Repeat),
         _ => None,
     }
 }
 
 impl Content {
     /// Returns whether a notice has this content.
-    pub(crate) fn is_in(&self, alloc: Global, sent: &Sent) -> Result<bool, AllocError>
-        ensures { IfOk result (λ is_in. is_in ≡ has_content self.now sent.now) }
+    pub(crate) fn is_in(
+        &self,
+        alloc: Global,
+        playback: &Playback,
+        sent: &Sent,
+    ) -> Result<bool, AllocError>
+        ensures { IfOk result (λ is_in. is_in ≡ has_content playback.now self.now sent.now) }
     {
         let notice = sent.notice;
         let firing = notice.firing.as_slice();
@@ -55,7 +89,7 @@ impl Content {
                 && has_as_wanted(alloc, self.has_resolved.as_ref(), resolved)?
                 && are_as_wanted(self.firing.as_ref(), firing)
                 && are_as_wanted(self.resolved.as_ref(), resolved)
-                && is_sent_as_wanted(self.reason, sent),
+                && is_sent_as_wanted(playback, self.reason, sent),
         )
     }
 }
@@ -127,22 +161,26 @@ fn is_listed(wanted: &[Labels], alert: &Alert) -> bool
 }
 
 /// Returns whether a notice was sent for a reason, if one is said.
-pub(crate) fn is_sent_as_wanted(wanted: Option<Reason>, sent: &Sent) -> bool
-    ensures { result ≡ is_sent_as_wanted wanted sent.now }
+pub(crate) fn is_sent_as_wanted(
+    playback: &Playback,
+    wanted: Option<SentReason>,
+    sent: &Sent,
+) -> bool
+    ensures { result ≡ is_sent_as_wanted playback.now wanted sent.now }
 {
     match wanted {
         None => true,
-        Some(reason) => is_sent_for(&reason, sent),
+        Some(reason) => is_sent_for(playback, reason, sent),
     }
 }
 
-fn is_sent_for(reason: &Reason, sent: &Sent) -> bool
-    ensures { result ≡ is_sent_for reason.now sent.now }
+fn is_sent_for(playback: &Playback, reason: SentReason, sent: &Sent) -> bool
+    ensures { result ≡ is_sent_for playback.now reason sent.now }
 {
     let notice = sent.notice;
     let reasons = sent.begin.preview.reasons.as_slice();
     match reasons.get(notice.integration as usize) {
         None => false,
-        Some(own) => reason_words(own) == reason_words(reason),
+        Some(own) => sent_words(expiry_before(playback, sent), own) == reason.words(),
     }
 }

@@ -117,9 +117,16 @@ fn push_if_shown<C: TimeFormat>(
     ensures { OnOk result (string_bytes out.new ≡ string_bytes out.old
         ++ got_if_shown some_fit playback.now (C.times clock.now) expectation.now sent.now) }
 {
-    let config = playback.config;
-    if is_shown(alloc, some_fit, config, expectation, sent)? {
-        return push_line(alloc, "  got       ", config, clock, expectation, sent, out);
+    if is_shown(alloc, some_fit, playback, expectation, sent)? {
+        return push_line(
+            alloc,
+            "  got       ",
+            playback,
+            clock,
+            expectation,
+            sent,
+            out,
+        );
     }
     Ok(())
 }
@@ -128,16 +135,16 @@ fn push_if_shown<C: TimeFormat>(
 fn is_shown(
     alloc: Global,
     some_fit: bool,
-    config: &Config,
+    playback: &Playback,
     expectation: &Expectation,
     sent: &Sent,
 ) -> Result<bool, AllocError>
-    ensures { IfOk result (λ shown. shown ≡ is_shown some_fit config.now expectation.now sent.now) }
+    ensures { IfOk result (λ shown. shown ≡ is_shown some_fit playback.now expectation.now sent.now) }
 {
     if some_fit {
-        return expectation.fits(alloc, config, sent);
+        return expectation.fits(alloc, playback, sent);
     }
-    Ok(expectation.is_in_scope(config, sent))
+    Ok(expectation.is_in_scope(playback.config, sent))
 }
 
 /// Adds the nearest notice, and how it differs; nothing where none was delivered to the receiver.
@@ -152,13 +159,12 @@ fn push_nearest<C: TimeFormat>(
     ensures { OnOk result (string_bytes out.new ≡ string_bytes out.old
         ++ nearest_text playback.now (C.times clock.now) expectation.now) }
 {
-    let config = playback.config;
     match nearest_of(alloc, playback, expectation)? {
         None => Ok(()),
         Some(sent) => push_line(
             alloc,
             "  nearest   ",
-            config,
+            playback,
             clock,
             expectation,
             &sent,
@@ -172,19 +178,19 @@ fn push_nearest<C: TimeFormat>(
 fn push_line<C: TimeFormat>(
     alloc: Global,
     word: &str,
-    config: &Config,
+    playback: &Playback,
     clock: &C,
     expectation: &Expectation,
     sent: &Sent,
     out: &mut String,
 ) -> Result<(), AllocError>
     ensures { OnOk result (string_bytes out.new ≡ string_bytes out.old
-        ++ came_line word.now config.now (C.times clock.now) expectation.now sent.now) }
+        ++ came_line word.now playback.now (C.times clock.now) expectation.now sent.now) }
 {
-    push_front(word, config, clock, sent, out)?;
+    push_front(word, playback.config, clock, sent, out)?;
     out.push_str(": ")?;
     push_got_alerts(sent.notice, out)?;
-    push_differences(alloc, config, expectation, sent, out)?;
+    push_differences(alloc, playback, expectation, sent, out)?;
     out.push_str("\n")
 }
 

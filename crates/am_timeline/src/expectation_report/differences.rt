@@ -8,7 +8,9 @@ use crate::clock::push_counted;
 use crate::expectation::Expectation;
 use crate::expectation::content::{Content, are_as_wanted, has_as_wanted, is_sent_as_wanted};
 use crate::expectation_report::wanted::push_reason_part;
-use crate::sent::Sent;
+use crate::line::sent_words;
+use crate::playback::Playback;
+use crate::sent::{Sent, expiry_before};
 use am_board::config::Config;
 use std::alloc::{AllocError, Global};
 
@@ -16,18 +18,18 @@ use std::alloc::{AllocError, Global};
 #[tactic(auto, unfolding(crate::specs::ExpectationReport::differences))]
 pub(crate) fn push_differences(
     alloc: Global,
-    config: &Config,
+    playback: &Playback,
     expectation: &Expectation,
     sent: &Sent,
     out: &mut String,
 ) -> Result<(), AllocError>
     ensures { OnOk result (string_bytes out.new
-        ≡ string_bytes out.old ++ differences config.now expectation.now sent.now) }
+        ≡ string_bytes out.old ++ differences playback.now expectation.now sent.now) }
 {
     let at = sent.report.ended;
     push_off_span(expectation.from, expectation.to, at, out)?;
-    push_other_integration(config, expectation, sent, out)?;
-    push_content(alloc, &expectation.content, sent, out)
+    push_other_integration(playback.config, expectation, sent, out)?;
+    push_content(alloc, playback, &expectation.content, sent, out)
 }
 
 /// Adds by how much a time is outside of a span; nothing where it isn't.
@@ -91,15 +93,17 @@ fn push_unless(holds: bool, text: &str, out: &mut String) -> Result<(), AllocErr
 #[tactic(auto, unfolding(crate::specs::ExpectationReport::content_differences))]
 fn push_content(
     alloc: Global,
+    playback: &Playback,
     wanted: &Content,
     sent: &Sent,
     out: &mut String,
 ) -> Result<(), AllocError>
-    ensures { OnOk result (string_bytes out.new ≡ string_bytes out.old ++ content_differences wanted.now sent.now) }
+    ensures { OnOk result (string_bytes out.new
+        ≡ string_bytes out.old ++ content_differences playback.now wanted.now sent.now) }
 {
     push_has_differences(alloc, wanted, sent, out)?;
     push_exact_differences(wanted, sent, out)?;
-    push_other_reason(wanted, sent, out)
+    push_other_reason(playback, wanted, sent, out)
 }
 
 /// Adds how it differs in the alerts that it has to have among others.
@@ -136,23 +140,29 @@ fn push_exact_differences(wanted: &Content, sent: &Sent, out: &mut String) -> Re
 }
 
 /// Adds why a notice was sent, if another reason is wanted.
-fn push_other_reason(wanted: &Content, sent: &Sent, out: &mut String) -> Result<(), AllocError>
+fn push_other_reason(
+    playback: &Playback,
+    wanted: &Content,
+    sent: &Sent,
+    out: &mut String,
+) -> Result<(), AllocError>
     ensures { OnOk result (string_bytes out.new
-        ≡ string_bytes out.old ++ reason_difference wanted.now sent.now) }
+        ≡ string_bytes out.old ++ reason_difference playback.now wanted.now sent.now) }
 {
-    if is_sent_as_wanted(wanted.reason, sent) {
+    if is_sent_as_wanted(playback, wanted.reason, sent) {
         return Ok(());
     }
-    push_reason_of(sent, out)
+    push_reason_of(playback, sent, out)
 }
 
-fn push_reason_of(sent: &Sent, out: &mut String) -> Result<(), AllocError>
-    ensures { OnOk result (string_bytes out.new ≡ string_bytes out.old ++ sent_reason_text sent.now) }
+fn push_reason_of(playback: &Playback, sent: &Sent, out: &mut String) -> Result<(), AllocError>
+    ensures { OnOk result (string_bytes out.new
+        ≡ string_bytes out.old ++ sent_reason_text playback.now sent.now) }
 {
     let notice = sent.notice;
     let reasons = sent.begin.preview.reasons.as_slice();
     match reasons.get(notice.integration as usize) {
         None => Ok(()),
-        Some(reason) => push_reason_part(reason, out),
+        Some(own) => push_reason_part(sent_words(expiry_before(playback, sent), own), out),
     }
 }

@@ -5,7 +5,6 @@ ghost use Rattle.am_timeline.specs.ExpectationReport.{candidate_by, distance, if
 use crate::expectation::Expectation;
 use crate::playback::Playback;
 use crate::sent::{Sent, sent_of};
-use am_board::config::Config;
 use am_rehearsal::event::Event;
 use std::alloc::{AllocError, Global};
 
@@ -68,7 +67,7 @@ fn candidate_by<'s>(
 {
     match sent_of(playback, event) {
         None => Ok(None),
-        Some(sent) => if_alike(alloc, alike, playback.config, expectation, sent),
+        Some(sent) => if_alike(alloc, alike, playback, expectation, sent),
     }
 }
 
@@ -76,13 +75,13 @@ fn candidate_by<'s>(
 fn if_alike<'s>(
     alloc: Global,
     alike: Alike,
-    config: &Config,
+    playback: &Playback<'s>,
     expectation: &Expectation,
     sent: Sent<'s>,
 ) -> Result<Option<Sent<'s>>, AllocError>
-    ensures { IfOk result (λ candidate. candidate ≡ if_alike alike config.now expectation.now sent.entry) }
+    ensures { IfOk result (λ candidate. candidate ≡ if_alike alike playback.now expectation.now sent.entry) }
 {
-    if sent.is_delivered() && is_alike(alloc, alike, config, expectation, &sent)? {
+    if sent.is_delivered() && is_alike(alloc, alike, playback, expectation, &sent)? {
         return Ok(Some(sent));
     }
     Ok(None)
@@ -91,20 +90,21 @@ fn if_alike<'s>(
 fn is_alike(
     alloc: Global,
     alike: Alike,
-    config: &Config,
+    playback: &Playback,
     expectation: &Expectation,
     sent: &Sent,
 ) -> Result<bool, AllocError>
-    ensures { IfOk result (λ holds. holds ≡ is_alike alike config.now expectation.now sent.now) }
+    ensures { IfOk result (λ holds. holds ≡ is_alike alike playback.now expectation.now sent.now) }
 {
-    if !expectation.is_for_receiver(config, sent) {
+    if !expectation.is_for_receiver(playback.config, sent) {
         return Ok(false);
     }
     match alike {
         Alike::ToReceiver => Ok(true),
-        Alike::ToTarget => Ok(expectation.is_for_integration(config, sent)),
+        Alike::ToTarget => Ok(expectation.is_for_integration(playback.config, sent)),
         Alike::OfContent => Ok(
-            expectation.is_for_integration(config, sent) && expectation.content.is_in(alloc, sent)?,
+            expectation.is_for_integration(playback.config, sent)
+                && expectation.content.is_in(alloc, playback, sent)?,
         ),
     }
 }

@@ -7,16 +7,14 @@ ghost use Rattle.am_timeline.specs.ExpectationReport.{reason_part, sets_text, sp
 ghost use Rattle.am_timeline.specs.Shown.{set_shown};
 
 use crate::clock::{TimeFormat, push_number};
-use crate::expectation::content::Content;
+use crate::expectation::content::{Content, SentReason};
 use crate::expectation::{Amount, Expectation};
-use crate::line::reason_words;
 use crate::shown::{push_set, push_text};
 use crate::table::push_count;
 use am_alerts::labels::Labels;
 use am_alerts::matcher::{Matcher, Operator};
 use am_alerts::sequence::Sequence;
 use am_board::config::{Config, kind_at};
-use am_board::reason::Reason;
 use std::alloc::AllocError;
 
 /// Adds the line on what is expected.
@@ -279,20 +277,20 @@ fn push_more_sets(sets: &[Labels], out: &mut String) -> Result<(), AllocError>
 }
 
 /// Adds a reason; nothing where none is said.
-fn push_reason(reason: Option<Reason>, out: &mut String) -> Result<(), AllocError>
+fn push_reason(reason: Option<SentReason>, out: &mut String) -> Result<(), AllocError>
     ensures { OnOk result (string_bytes out.new ≡ string_bytes out.old ++ wanted_reason_text reason) }
 {
     match reason {
         None => Ok(()),
-        Some(reason) => push_reason_part(&reason, out),
+        Some(reason) => push_reason_part(reason.words(), out),
     }
 }
 
-/// Adds a reason behind its word.
+/// Adds the words of a reason behind another.
 #[tactic(auto, unfolding(crate::specs::ExpectationReport::reason_part))]
-pub(crate) fn push_reason_part(reason: &Reason, out: &mut String) -> Result<(), AllocError>
-    ensures { OnOk result (string_bytes out.new ≡ string_bytes out.old ++ reason_part reason.now) }
+pub(crate) fn push_reason_part(words: &str, out: &mut String) -> Result<(), AllocError>
+    ensures { OnOk result (string_bytes out.new ≡ string_bytes out.old ++ reason_part words.now) }
 {
     out.push_str("; reason ")?;
-    out.push_str(reason_words(reason))
+    out.push_str(words)
 }

@@ -20,4 +20,5 @@ returns c =
       amount_is = subst (λ (b : Bool). amount_of b c.in_ok-count.count c.in_ok-at_most.at_most ≡ Some c.in_ok-amount.amount) c.says_never.ensures
           c.in_ok-amount.ensures;
       alone = c.in_ok-check_alone.ensures;
+      once = c.in_ok-check_once.ensures;
     }

@@ -9,5 +9,6 @@ returns c =
       has_resolved = c.in_ok-has_resolved.ensures;
       firing = c.in_ok-firing.ensures;
       resolved = c.in_ok-resolved.ensures;
+      exactly = c.in_ok-check_exactly.ensures;
       reason = c.in_ok-reason.ensures;
     }

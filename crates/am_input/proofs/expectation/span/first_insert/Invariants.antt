@@ -5,4 +5,4 @@ use Rattle.am_input.proofs.expectation.span.first_insert.Given as goal
 -- none of the actions so far does
 abbrev pub invariant-loop-plan : goal.invariant-loop-plan
 invariant-loop-plan l =
-    first_insert l.resolves l.matchers l.plans ≡ first_insert l.resolves l.matchers (drop l.plan-index l.plans)
+    first_insert l.last l.resolves l.matchers l.plans ≡ first_insert l.last l.resolves l.matchers (drop l.plan-index l.plans)

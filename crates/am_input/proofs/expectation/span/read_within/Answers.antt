@@ -21,7 +21,7 @@ returns c =
       of = subst (λ (d : Dialect). Has (IsList (DecodesToMatcher d)) (codes "of") members matchers) c.in_ok-of.ensures.dialect
           (decoded_by (IsList (DecodesToMatcher of.dialect)) (get_member (codes "of") members) (view of.value) matchers c.in_ok-of.ensures.value
           c.in_ok-matchers.ensures);
-      first = subst (λ (ms : List MatcherParts). first_insert c.in_ok-resolves.resolves ms c.args.plans.now ≡ Some c.in_ok-from.from) c.as_slice.ensures
+      first = subst (λ (ms : List MatcherParts). first_insert c.args.last c.in_ok-resolves.resolves ms c.args.plans.now ≡ Some c.in_ok-from.from) c.as_slice.ensures
           c.in_ok-from.ensures;
       last = c.in_ok-to.ensures;
     }

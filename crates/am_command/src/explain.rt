@@ -334,8 +334,9 @@ fn fault_of_text(name: &str) -> &'static str {
 }
 
 /// The reasons for which a notification is sent, in the timeline's words.
-const REASONS: [&str; 5] = [
+const REASONS: [&str; 6] = [
     "first notice",
+    "log entry expired",
     "new alert",
     "all resolved",
     "newly resolved",
@@ -350,7 +351,7 @@ fn no_reason(alloc: Global, text: &str) -> Result<String, AllocError> {
     }
     match nearest.found() {
         None => format!(in alloc;
-            "`{text}` is no reason; write first notice, new alert, all resolved, newly resolved or repeat"
+            "`{text}` is no reason; write first notice, log entry expired, new alert, all resolved, newly resolved or repeat"
         ),
         Some(meant) => format!(in alloc; "`{text}` is no reason; did you mean `{meant}`?"),
     }

@@ -8,7 +8,9 @@ returns-in_default c =
     (refl, λ kind written is lacks. absurd (split_after 47 c.args.text.now kind written None c.in_default.ensures.cases (omega arith) is lacks))
 
 pub returns-in-None : goal.returns-in-None
-returns-in-None c =
-    (refl, λ kind written is lacks.
+returns-in-None c = (
+  refl,
+  λ kind written is lacks.
       let same = split_after 47 c.args.text.now kind written (Some (c.in-Some.kind, c.in-Some.written)) c.in-Some.ensures.cases (omega arith) is lacks in
-      ap position_named (sym same.1) ∙ sym c.in-None.ensures.named)
+      ap position_named (sym same.1) ∙ sym c.in-None.ensures.named,
+)

@@ -238,21 +238,8 @@ fn bad_list(
     let most = bounds.matchers;
     if pointer.starts_with("/silences") {
         format!(in alloc; "a silence needs 1 to {most} matchers")
-    } else if pointer.starts_with("/expect") {
-        bad_expected_matchers(alloc, spot.name.as_str(), bounds)
     } else {
         too_many(alloc, spot, bounds)
-    }
-}
-
-/// Says what is wrong with the matchers of an expectation.
-fn bad_expected_matchers(alloc: Global, name: &str, bounds: &Bounds) -> Result<String, AllocError> {
-    let most = bounds.matchers;
-    match name {
-        "of" => format!(in alloc;
-            "`of` needs 1 to {most} matchers of an alert of the story, and stands with `within`"
-        ),
-        _ => format!(in alloc; "`{name}` needs 1 to {most} matchers"),
     }
 }
 
@@ -287,16 +274,11 @@ fn misplaced_duration(
     if written != text && text != "0" {
         return format!(in alloc; "`{text}` is no duration; write {written}");
     }
-    let days = bounds.days;
-    let fault = match name {
-        "until" => {
-            return format!(in alloc; "`{text}` is too long: a story has at most {days} days");
-        }
-        "to" => "comes before the beginning, is too long, or stands beside `at`",
-        "within" => "is too long; and neither `at`, `from` nor `to` stands beside `within`",
-        _ => return format!(in alloc; "`{text}` is out of range for `{name}`"),
-    };
-    format!(in alloc; "`{text}` {fault}")
+    if name == "until" {
+        let days = bounds.days;
+        return format!(in alloc; "`{text}` is too long: a story has at most {days} days");
+    }
+    format!(in alloc; "`{text}` is out of range for `{name}`")
 }
 
 fn bad_name(alloc: Global, text: &str) -> Result<String, AllocError> {

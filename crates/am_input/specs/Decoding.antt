@@ -1,5 +1,5 @@
 -- What the JSON values of a story's alerts, silences and outages tell, a line for each member.
-use Rattle.std.specs.Prelude.{◌≡◌, ◌<◌, ℕ, List, [], ◌∷◌, Some, codes, IfSome, IsSomeAnd, MatchOption}
+use Rattle.std.specs.Prelude.{◌≡◌, ◌<◌, List, [], ◌∷◌, Some, codes, IfSome, IsSomeAnd, MatchOption}
 use Rattle.serde_json.specs.Data.{Data, Members}
 use Rattle.serde_json.specs.Find.{as_object, get_member}
 use Rattle.am_cli.specs.Configured.{DecodesToLabels, DecodesToMatcher}

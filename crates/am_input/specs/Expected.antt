@@ -24,12 +24,12 @@ use Rattle.am_model.specs.declared.config.Receiver.{Receiver}
 use Rattle.am_rehearsal.specs.declared.rehearsal.Action.{Action}
 use Rattle.am_rehearsal.specs.declared.rehearsal.Action.TheVariants.{Insert, Silence}
 use Rattle.am_rehearsal.specs.declared.rehearsal.TimedAction.{TimedAction}
-use Rattle.am_timeline.specs.Expectation.{reason_named}
-use Rattle.am_timeline.specs.declared.expectation.Amount.{Amount}
-use Rattle.am_timeline.specs.declared.expectation.Amount.TheVariants.{AtLeastOne, Exactly, AtMost}
-use Rattle.am_timeline.specs.declared.expectation.Expectation.{Expectation}
-use Rattle.am_timeline.specs.declared.expectation.content.Content.{Content}
-use Rattle.am_timeline.specs.declared.expectation.content.SentReason.{SentReason}
+use Rattle.am_terms.specs.Expectation.{reason_named}
+use Rattle.am_terms.specs.declared.expectation.Amount.{Amount}
+use Rattle.am_terms.specs.declared.expectation.Amount.TheVariants.{AtLeastOne, Exactly, AtMost}
+use Rattle.am_terms.specs.declared.expectation.Expectation.{Expectation}
+use Rattle.am_terms.specs.declared.expectation.Content.{Content}
+use Rattle.am_terms.specs.declared.expectation.SentReason.{SentReason}
 
 -- what a member is read as, or what is said where it isn't there
 abbrev pub member_or : {A : Type 0} → (Data → Option A) → Option A → Option Data → Option A

@@ -8,9 +8,9 @@ use Rattle.am_cli.specs.Read.{interval_in}
 use Rattle.am_cli.specs.Decoding.{IsList, HasOr}
 use Rattle.am_cli.specs.declared.reader.Dialect.{Dialect}
 use Rattle.am_cli.specs.declared.reader.Dialect.TheVariants.{Strict}
-use Rattle.am_timeline.specs.declared.expectation.Expectation.{Expectation}
-use Rattle.am_timeline.specs.UtcDates.{IsReadFrom, StartData, dated}
-use Rattle.am_timeline.specs.TimeFormatData.{TimeFormatData, counted}
+use Rattle.am_terms.specs.declared.expectation.Expectation.{Expectation}
+use Rattle.am_terms.specs.UtcDates.{IsReadFrom, StartData, dated}
+use Rattle.am_terms.specs.TimeFormatData.{TimeFormatData, counted}
 use Rattle.am_input.specs.Configured.{IsConfigFor, file_in}
 use Rattle.am_input.specs.Decoding.{DecodesToOutage}
 use Rattle.am_input.specs.Expected.{AreExpectedIn, last_end, until_in}

@@ -22,7 +22,7 @@ use am_cli::fault::InputFault;
 use am_cli::reader::{Object, Reader};
 use am_config::faults::Faults;
 use am_rehearsal::rehearsal::TimedAction;
-use am_timeline::expectation::Expectation;
+use am_terms::expectation::Expectation;
 use amount::read_amount;
 use content::read_content;
 use receivers::check_target;

@@ -40,8 +40,8 @@ use am_config::dropped::IgnoredSettings;
 use am_config::faults::Refusal;
 use am_rehearsal::MAX_UNTIL;
 use am_rehearsal::rehearsal::{Outage, Rehearsal, TimedAction};
-use am_timeline::dated::UtcDates;
-use am_timeline::expectation::Expectation;
+use am_terms::dated::UtcDates;
+use am_terms::expectation::Expectation;
 use serde_json::Value;
 use std::alloc::Global;
 

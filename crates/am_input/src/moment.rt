@@ -6,7 +6,7 @@ ghost use Rattle.am_input.specs.Request.{DecodesToStart};
 
 use am_cli::fault::{FaultKind, InputFault};
 use am_cli::reader::Object;
-use am_timeline::dated::UtcDates;
+use am_terms::dated::UtcDates;
 
 /// When the rehearsal starts, if it is told: a text of RFC 3339, of the years 0 to 9999 of UTC.
 pub fn start(top: &Object<'_, '_>) -> Result<Option<UtcDates>, InputFault>

@@ -1,10 +1,10 @@
 -- Junit: the report on expectations as a test suite of JUnit.
 use Rattle.std.specs.Prelude.{ℕ, ◌+◌, List, [], ◌∷◌, ◌++◌, length, codes, decimal, Option, Some, None, if◌then◌else◌}
-use Rattle.am_timeline.specs.declared.expectation.Expectation.{Expectation}
+use Rattle.am_terms.specs.declared.expectation.Expectation.{Expectation}
 use Rattle.am_timeline.specs.Expectation.{is_met, unmet_from}
 use Rattle.am_timeline.specs.ExpectationReport.{answer_text}
 use Rattle.am_timeline.specs.Playback.{PlaybackData}
-use Rattle.am_timeline.specs.TimeFormatData.{TimeFormatData}
+use Rattle.am_terms.specs.TimeFormatData.{TimeFormatData}
 use Rattle.am_picture.specs.Escaped.{escaped}
 
 -- how many cases of a suite fail

@@ -7,7 +7,7 @@ use crate::scene::Scene;
 use crate::ticks::Ticks;
 use am_board::record::Call;
 use am_rehearsal::event::Event;
-use am_timeline::clock::TimeFormat;
+use am_terms::clock::TimeFormat;
 use std::alloc::{AllocError, Global};
 
 /// The milliseconds of a day.

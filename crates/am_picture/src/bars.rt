@@ -6,7 +6,7 @@ use crate::names::{push_hint, push_name, set_text, short_text};
 use crate::pen::{LEFT, WIDTH, below, push_bar, push_count, push_field, push_tenths};
 use crate::scene::Scene;
 use crate::span::Span;
-use am_timeline::clock::TimeFormat;
+use am_terms::clock::TimeFormat;
 use std::alloc::{AllocError, Global};
 
 /// The height of a row of an alert, in pixels.

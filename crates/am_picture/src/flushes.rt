@@ -4,7 +4,7 @@ use crate::lane::{Flush, Lane};
 use crate::names::{push_hint, push_name};
 use crate::pen::{below, push_bar};
 use crate::scene::Scene;
-use am_timeline::clock::TimeFormat;
+use am_terms::clock::TimeFormat;
 use std::alloc::{AllocError, Global};
 
 /// The height of the row of flushes, in pixels.

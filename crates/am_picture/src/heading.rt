@@ -3,7 +3,7 @@ use crate::axis::Axis;
 use crate::escape::push_escaped;
 use crate::lanes::Totals;
 use crate::style::STYLE;
-use am_timeline::clock::TimeFormat;
+use am_terms::clock::TimeFormat;
 use std::alloc::AllocError;
 
 /// The front of a page. Its policy lets a browser take nothing from elsewhere and run no script.

@@ -6,8 +6,9 @@ ghost use Rattle.am_timeline.specs.ExpectationReport.{answer_text};
 
 use crate::escape::push_escaped;
 use am_alerts::text::Text;
-use am_timeline::clock::{TimeFormat, push_number};
-use am_timeline::expectation::{Expectation, unmet_expectations};
+use am_terms::clock::{TimeFormat, push_number};
+use am_terms::expectation::Expectation;
+use am_timeline::expectation::{is_met, unmet_expectations};
 use am_timeline::expectation_report::push_answer;
 use am_timeline::playback::Playback;
 use std::alloc::{AllocError, Global};
@@ -129,7 +130,7 @@ fn push_outcome<C: TimeFormat>(
     ensures { OnOk result (string_bytes out.new
         ≡ string_bytes out.old ++ outcome_text playback.now (C.times clock.now) expectation.now) }
 {
-    if expectation.is_met(alloc, playback)? {
+    if is_met(alloc, playback, expectation)? {
         return out.push_str("/>\n");
     }
     push_failure(alloc, playback, clock, expectation, out)

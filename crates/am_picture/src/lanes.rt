@@ -15,7 +15,7 @@ use am_board::group::GroupName;
 use am_board::notice::Report;
 use am_board::record::Call;
 use am_rehearsal::event::{Event, PreviewedBegin};
-use am_timeline::clock::TimeFormat;
+use am_terms::clock::TimeFormat;
 use std::alloc::{AllocError, Global};
 use std::collections::HashMap;
 

@@ -6,7 +6,7 @@ use crate::lane::{Kind, Lane, Mark};
 use crate::names::{push_hint, push_name};
 use crate::pen::{below, push_count, push_field, push_place};
 use crate::scene::Scene;
-use am_timeline::clock::TimeFormat;
+use am_terms::clock::TimeFormat;
 use std::alloc::{AllocError, Global};
 
 /// The height of a row of notices, in pixels.

@@ -11,7 +11,7 @@ use crate::marks::{NOTICES, push_integrations};
 use crate::names::push_group;
 use crate::pen::{below, push_count};
 use crate::scene::Scene;
-use am_timeline::clock::TimeFormat;
+use am_terms::clock::TimeFormat;
 use am_timeline::table::table_text;
 use am_timeline::undelivered::undelivered_text;
 use std::alloc::{AllocError, Global};

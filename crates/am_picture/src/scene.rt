@@ -2,7 +2,7 @@
 use am_board::config::Config;
 use am_board::record::Record;
 use am_rehearsal::event::{Event, PreviewedBegin};
-use am_timeline::clock::TimeFormat;
+use am_terms::clock::TimeFormat;
 use am_timeline::logbook::Logbook;
 use am_timeline::notices::notices_text;
 use am_timeline::playback::Playback;

@@ -12,11 +12,11 @@ use Rattle.am_rehearsal.specs.declared.event.PreviewedBegin.{PreviewedBegin}
 use Rattle.am_rehearsal.specs.declared.limits.TheConstants.{BOARD_ID}
 use Rattle.am_rehearsal.specs.declared.rehearsal.Rehearsal.{Rehearsal}
 use Rattle.am_rehearse.specs.declared.wanted.Wanted.{Wanted}
-use Rattle.am_timeline.specs.declared.expectation.Expectation.{Expectation}
-use Rattle.am_timeline.specs.UtcDates.{StartData}
+use Rattle.am_terms.specs.declared.expectation.Expectation.{Expectation}
+use Rattle.am_terms.specs.UtcDates.{StartData}
 use Rattle.am_timeline.specs.Expectation.{is_met}
 use Rattle.am_timeline.specs.Playback.{PlaybackData}
-use Rattle.am_timeline.specs.TimeFormatData.{TimeFormatData}
+use Rattle.am_terms.specs.TimeFormatData.{TimeFormatData}
 use Rattle.am_input.specs.Request.{IsRequestIn, times_from}
 use Rattle.am_input.specs.declared.input.Output.{Output}
 use Rattle.am_input.specs.declared.input.Changes.{Changes}

@@ -5,34 +5,27 @@
 //! prints each fault to standard error, with file, line and column, and ends with the fault's status.
 #![tactic(auto)]
 
-mod bounds;
-mod commands;
-mod console;
+mod compare;
 mod fault;
-mod files;
-mod matcher_words;
-mod progress;
+mod play;
 mod run;
-mod story_words;
-mod system_zones;
-mod time_words;
 mod wanted;
 
+use crate::compare::compare;
+use crate::play::play;
 use am_cli::device::{StandardInput, StandardOutput};
 use am_command::completions::completions;
 use am_command::manual::manual;
 use am_command::request::{
     Color, CompareRequest, FaultFormat, PlayRequest, Request, StoryRequest, Style, read_request,
 };
+use am_console::commands::check::check;
+use am_console::commands::json::json;
+use am_console::commands::routes::{RoutesRequest, routes};
+use am_console::commands::story::story;
+use am_console::console::{Console, NO_MEMORY, REJECTED};
+use am_console::files::PaintedOutput;
 use clap::error::ErrorKind;
-use commands::check::check;
-use commands::compare::compare;
-use commands::json::json;
-use commands::play::play;
-use commands::routes::{RoutesRequest, routes};
-use commands::story::story;
-use console::{Console, NO_MEMORY, REJECTED};
-use files::PaintedOutput;
 use std::alloc::AllocError;
 use std::env;
 use std::io::{self, IsTerminal};

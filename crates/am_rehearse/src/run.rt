@@ -38,10 +38,11 @@ use am_rehearsal::event::Event;
 use am_rehearsal::play::{PlayFault, Played, play};
 use am_rehearsal::rehearsal::Rehearsal;
 use am_rehearsal::watch::Watch;
+use am_terms::clock::{Elapsed, TimeFormat};
+use am_terms::dated::UtcDates;
+use am_terms::expectation::Expectation;
 use am_timeline::changed::changed_events;
-use am_timeline::clock::{Elapsed, TimeFormat};
-use am_timeline::dated::UtcDates;
-use am_timeline::expectation::{Expectation, unmet_expectations};
+use am_timeline::expectation::{is_met, unmet_expectations};
 use am_timeline::expectation_report::expectations_text;
 use am_timeline::filtered::filtered_events;
 use am_timeline::json::json_text;
@@ -405,7 +406,7 @@ fn are_met(
     ensures { IfOk result (λ met. met ≡ list_all (is_met playback.now) expectations.now) }
 {
     for expectation in expectations {
-        if !expectation.is_met(alloc, playback)? {
+        if !is_met(alloc, playback, expectation)? {
             return Ok(false);
         }
     }

@@ -4,8 +4,6 @@ pub mod Showing
 pub mod Rows
 -- the first elements of a list, the last of them first
 pub mod Reversed
--- the day so many days later
-pub mod Days
 -- the known alerts of a past, found from its end: each insert whose label set wasn't found before
 pub mod Known
 -- what tables by label set or by group hold after one more alert or begin

@@ -8,7 +8,7 @@ use Rattle.am_timeline.specs.declared.runs.Fold.{Fold}
 use Rattle.am_timeline.specs.Playback.{PlaybackData}
 use Rattle.am_timeline.specs.Runs.{FlushData, folds_of, start_frame}
 use Rattle.am_timeline.specs.Timeline.{begun_lines}
-use Rattle.am_timeline.specs.TimeFormatData.{TimeFormatData}
+use Rattle.am_terms.specs.TimeFormatData.{TimeFormatData}
 
 -- the flush of a begin with its lines, whatever it sends, as if it were at the rehearsal's start
 abbrev pub told_flush : PlaybackData → TimeFormatData → PreviewedBegin → FlushData

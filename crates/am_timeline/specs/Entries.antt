@@ -1,5 +1,5 @@
 -- Entries: a table of the entries that expired before flushes.
-use Rattle.std.specs.Prelude.{ℕ, Bool, ◌&&◌, ◌==◌}
+use Rattle.std.specs.Prelude.{Bool, ◌&&◌, ◌==◌}
 use Rattle.am_timeline.specs.declared.logbook.entries.FlushKey.{FlushKey}
 
 -- whether two keys are of one place and integration

@@ -1,5 +1,5 @@
 -- Expectation: what is expected of a rehearsal, and whether it is met.
-use Rattle.std.specs.Prelude.{ℕ, ◌+◌, Bool, true, false, ◌&&◌, ◌==◌, nat_le, count_by, find, List, [], ◌∷◌, ◌++◌, Option, codes, slice_get}
+use Rattle.std.specs.Prelude.{ℕ, ◌+◌, Bool, true, false, ◌&&◌, ◌==◌, nat_le, count_by, List, [], ◌∷◌, ◌++◌, Option, slice_get}
 use Rattle.std.specs.Prelude.{if◌then◌else◌}
 use Rattle.std.specs.List.{list_all, list_any}
 use Rattle.std.specs.Option.{option_map_or}
@@ -13,13 +13,10 @@ use Rattle.am_model.specs.declared.config.Config.{Config}
 use Rattle.am_model.specs.Config.{kind_at}
 use Rattle.am_model.specs.Configured.{integrations_named, route_of}
 use Rattle.am_rehearsal.specs.declared.event.Event.{Event}
-use Rattle.am_timeline.specs.declared.expectation.Amount.{Amount}
-use Rattle.am_timeline.specs.declared.expectation.Amount.TheVariants.{AtLeastOne, Exactly, AtMost}
-use Rattle.am_timeline.specs.declared.expectation.Expectation.{Expectation}
-use Rattle.am_timeline.specs.declared.expectation.content.Content.{Content}
-use Rattle.am_timeline.specs.declared.expectation.content.SentReason.{SentReason}
-use Rattle.am_timeline.specs.declared.expectation.content.SentReason.TheVariants.{FirstNotice, LogEntryExpired, NewAlert, AllResolved}
-use Rattle.am_timeline.specs.declared.expectation.content.SentReason.TheVariants.{NewlyResolved, Repeat}
+use Rattle.am_terms.specs.Expectation.{allows, wanted_words}
+use Rattle.am_terms.specs.declared.expectation.Expectation.{Expectation}
+use Rattle.am_terms.specs.declared.expectation.Content.{Content}
+use Rattle.am_terms.specs.declared.expectation.SentReason.{SentReason}
 use Rattle.am_timeline.specs.Playback.{PlaybackData, SentData, is_delivered, sent_of}
 use Rattle.am_timeline.specs.Table.{is_for}
 use Rattle.am_timeline.specs.Timeline.{expiry_before, sent_words}
@@ -69,23 +66,6 @@ has_match matchers alerts = list_any (λ a. match_all matchers a.labels) alerts
 abbrev pub has_as_wanted : Option (List MatcherParts) → List AlertData → Bool
 has_as_wanted wanted alerts = option_map_or (λ matchers. has_match matchers alerts) wanted true
 
--- the words of a reason that is wanted
-abbrev pub wanted_words : SentReason → List ℕ
-wanted_words FirstNotice = codes "first notice"
-wanted_words LogEntryExpired = codes "log entry expired"
-wanted_words NewAlert = codes "new alert"
-wanted_words AllResolved = codes "all resolved"
-wanted_words NewlyResolved = codes "newly resolved"
-wanted_words Repeat = codes "repeat"
-
--- the reasons for which a notice is sent
-abbrev pub notifying : List SentReason
-notifying = FirstNotice ∷ LogEntryExpired ∷ NewAlert ∷ AllResolved ∷ NewlyResolved ∷ Repeat ∷ []
-
--- the reason for which a notice is sent, by its words
-abbrev pub reason_named : List ℕ → Option SentReason
-reason_named words = find (λ reason. bytes_eq words (wanted_words reason)) notifying
-
 -- whether a notice was sent for this reason, as its line in the timeline says it
 abbrev pub is_sent_for : PlaybackData → SentReason → SentData → Bool
 is_sent_for playback reason s =
@@ -118,12 +98,6 @@ ends_fitting playback x event = option_map_or (fits playback x) (sent_of playbac
 -- how many notices fit
 abbrev pub count_fitting : PlaybackData → Expectation → ℕ
 count_fitting playback x = count_by (ends_fitting playback x) playback.events
-
--- whether so many are as many as are expected
-abbrev pub allows : Amount → ℕ → Bool
-allows AtLeastOne count = nat_le 1 count
-allows (Exactly wanted) count = count == wanted
-allows (AtMost most) count = nat_le count most
 
 -- met: as many notices fit as are expected
 abbrev pub is_met : PlaybackData → Expectation → Bool

@@ -14,20 +14,21 @@ use Rattle.am_model.specs.Config.{kind_at}
 use Rattle.am_model.specs.Configured.{route_of, integration_text}
 use Rattle.am_model.specs.Notice.{NoticeData}
 use Rattle.am_rehearsal.specs.declared.event.Event.{Event}
-use Rattle.am_timeline.specs.declared.expectation.Amount.{Amount}
-use Rattle.am_timeline.specs.declared.expectation.Amount.TheVariants.{AtLeastOne, Exactly, AtMost}
-use Rattle.am_timeline.specs.declared.expectation.Expectation.{Expectation}
-use Rattle.am_timeline.specs.declared.expectation.content.Content.{Content}
-use Rattle.am_timeline.specs.declared.expectation.content.SentReason.{SentReason}
+use Rattle.am_terms.specs.declared.expectation.Amount.{Amount}
+use Rattle.am_terms.specs.declared.expectation.Amount.TheVariants.{AtLeastOne, Exactly, AtMost}
+use Rattle.am_terms.specs.declared.expectation.Expectation.{Expectation}
+use Rattle.am_terms.specs.declared.expectation.Content.{Content}
+use Rattle.am_terms.specs.declared.expectation.SentReason.{SentReason}
 use Rattle.am_timeline.specs.declared.expectation_report.nearest.Alike.{Alike}
 use Rattle.am_timeline.specs.declared.expectation_report.nearest.Alike.TheVariants.{ToReceiver, ToTarget, OfContent}
 use Rattle.am_timeline.specs.Expectation.{are_as_wanted, count_fitting, ends_in_scope, fits, has_as_wanted, has_content, is_for_integration}
-use Rattle.am_timeline.specs.Expectation.{is_for_receiver, is_in_scope, is_met, is_sent_as_wanted, wanted_words}
+use Rattle.am_terms.specs.Expectation.{wanted_words}
+use Rattle.am_timeline.specs.Expectation.{is_for_receiver, is_in_scope, is_met, is_sent_as_wanted}
 use Rattle.am_timeline.specs.Shown.{text_shown, sets_shown}
 use Rattle.am_timeline.specs.Playback.{PlaybackData, SentData, is_delivered, sent_of}
 use Rattle.am_timeline.specs.Table.{count_text}
 use Rattle.am_timeline.specs.Timeline.{alerts_text, expiry_before, sent_words}
-use Rattle.am_timeline.specs.TimeFormatData.{TimeFormatData, counted_text}
+use Rattle.am_terms.specs.TimeFormatData.{TimeFormatData, counted_text}
 
 -- a label set is its own
 abbrev pub as_it_is : List Label → List Label

@@ -1,5 +1,3 @@
--- how times are shown
-pub mod TimeFormatData
 -- texts and label sets without characters that a terminal would take as a command
 pub mod Shown
 -- when the entry of the log expired for whose lack a notice is a first one
@@ -28,7 +26,5 @@ pub mod Filtered
 pub mod Changed
 -- the text on each expectation
 pub mod ExpectationReport
--- times as dates with times of day, in UTC (RFC 3339)
-pub mod UtcDates
 -- texts that were computed by hand
 pub mod Rows

@@ -5,7 +5,7 @@ use Rattle.std.specs.Option.{option_map_or}
 use Rattle.am_rehearsal.specs.declared.event.Event.{Event}
 use Rattle.am_timeline.specs.Playback.{PlaybackData, SentData, is_delivered, sent_of}
 use Rattle.am_timeline.specs.Timeline.{sent_line}
-use Rattle.am_timeline.specs.TimeFormatData.{TimeFormatData}
+use Rattle.am_terms.specs.TimeFormatData.{TimeFormatData}
 
 -- the line on a notice, if it was delivered or failures are wanted
 abbrev pub line_if_wanted : Bool → PlaybackData → TimeFormatData → SentData → List ℕ

@@ -1,5 +1,5 @@
 -- Playback: a rehearsal that ran, and the notices that were sent in it.
-use Rattle.std.specs.Prelude.{ℕ, ◌+◌, Bool, true, false, ◌==◌, List, [], drop, find, Option, Some, None, slice_get}
+use Rattle.std.specs.Prelude.{ℕ, ◌+◌, Bool, true, false, ◌==◌, List, [], drop, find, Option, None, slice_get}
 use Rattle.std.specs.Option.{option_and_then, option_map, option_map_or}
 use Rattle.am_retry.specs.declared.outcome.Outcome.{Outcome}
 use Rattle.am_retry.specs.declared.outcome.Outcome.TheVariants.{Delivered, Refused, Expired, Starved}

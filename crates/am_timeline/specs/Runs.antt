@@ -15,7 +15,7 @@ use Rattle.am_timeline.specs.declared.runs.Fold.{Fold}
 use Rattle.am_timeline.specs.declared.runs.Run.{Run}
 use Rattle.am_timeline.specs.Playback.{PlaybackData, notices_at, sent_of}
 use Rattle.am_timeline.specs.Timeline.{FrameData, begun_lines, sent_line}
-use Rattle.am_timeline.specs.TimeFormatData.{TimeFormatData}
+use Rattle.am_terms.specs.TimeFormatData.{TimeFormatData}
 
 -- a flush: its group, when it began, and its lines, if it sends nothing
 pub record FlushData : Type 0 where

@@ -11,7 +11,7 @@ use Rattle.am_rehearsal.specs.declared.event.Event.{Event}
 use Rattle.am_rehearsal.specs.declared.event.Event.TheVariants.{Begun, Sent}
 use Rattle.am_timeline.specs.Shown.{text_shown}
 use Rattle.am_timeline.specs.Playback.{PlaybackData, SentData, is_delivered, sent_of}
-use Rattle.am_timeline.specs.TimeFormatData.{TimeFormatData}
+use Rattle.am_terms.specs.TimeFormatData.{TimeFormatData}
 
 -- whether a notice was for the receiver of this name
 abbrev pub is_for : Config → List ℕ → SentData → Bool

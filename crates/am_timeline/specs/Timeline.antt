@@ -25,7 +25,7 @@ use Rattle.am_rehearsal.specs.declared.event.PreviewedBegin.{PreviewedBegin}
 use Rattle.am_timeline.specs.Expiry.{expired}
 use Rattle.am_timeline.specs.Shown.{text_shown, set_shown, sets_shown}
 use Rattle.am_timeline.specs.Playback.{PlaybackData, SentData, notices_at, notice_for, sent_of}
-use Rattle.am_timeline.specs.TimeFormatData.{TimeFormatData, column}
+use Rattle.am_terms.specs.TimeFormatData.{TimeFormatData, column}
 
 -- the label set of an alert
 abbrev pub labels_of : AlertData → List Label

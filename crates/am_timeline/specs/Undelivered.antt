@@ -33,7 +33,7 @@ use Rattle.am_timeline.specs.Expectation.{has_set}
 use Rattle.am_timeline.specs.Playback.{PlaybackData, is_delivered}
 use Rattle.am_timeline.specs.Shown.{set_shown}
 use Rattle.am_timeline.specs.Timeline.{cause_text}
-use Rattle.am_timeline.specs.TimeFormatData.{TimeFormatData, counted_text}
+use Rattle.am_terms.specs.TimeFormatData.{TimeFormatData, counted_text}
 
 -- the alerts that a notice has, those that fire and those that are resolved
 abbrev pub alerts_in : NoticeData → List AlertData

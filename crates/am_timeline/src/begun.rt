@@ -7,7 +7,6 @@ ghost use Rattle.am_timeline.specs.Timeline.{is_sent_nothing, nothing_left_line,
 ghost use Rattle.am_timeline.specs.Timeline.{nothing_left, quiet_line, quiet_lines};
 ghost use Rattle.am_timeline.specs.Timeline.{reason_text, no_integrations_line, not_sent_line, not_sent_text};
 
-use crate::clock::TimeFormat;
 use crate::frame::Frame;
 use crate::groups::{push_group, push_group_receiver, push_target};
 use crate::line::{push_reason, push_time};
@@ -18,6 +17,7 @@ use am_board::notice::Notice;
 use am_board::preview::{MutedAlert, Preview};
 use am_board::reason::Reason;
 use am_rehearsal::event::PreviewedBegin;
+use am_terms::clock::TimeFormat;
 use std::alloc::AllocError;
 
 /// Adds the lines on a begin: the muted alerts, and each integration that isn't notified, with its

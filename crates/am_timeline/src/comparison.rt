@@ -4,12 +4,12 @@
 //! those of one time are paired first. Of what is left the first of one rehearsal is paired with the first of the other,
 //! and so on: these have moved. Cost: the notices of both, sorted.
 use crate::alerts::push_alerts;
-use crate::clock::{TimeFormat, push_column};
 use crate::groups::push_integration;
 use crate::line::push_sent_reason;
 use crate::playback::Playback;
 use crate::sent::{Sent, expiry_before, sent_of};
 use crate::shown::{push_set, push_text};
+use am_terms::clock::{TimeFormat, push_column};
 use std::alloc::{AllocError, Global};
 use std::cmp::Ordering;
 

@@ -7,11 +7,12 @@ mod differences;
 mod nearest;
 mod wanted;
 
-use crate::clock::{TimeFormat, push_number};
-use crate::expectation::Expectation;
+use crate::expectation::is_met;
 use crate::playback::Playback;
 use crate::shown::push_text;
 use am_alerts::text::Text;
+use am_terms::clock::{TimeFormat, push_number};
+use am_terms::expectation::Expectation;
 use came::push_got;
 use std::alloc::{AllocError, Global};
 use wanted::push_expected;
@@ -50,7 +51,7 @@ fn push_judged<C: TimeFormat>(
     out.push_str("expect ")?;
     push_number(number as u64, out)?;
     push_name(expectation.name.as_ref(), out)?;
-    if expectation.is_met(alloc, playback)? {
+    if is_met(alloc, playback, expectation)? {
         return out.push_str(": met\n");
     }
     out.push_str(": not met\n")?;

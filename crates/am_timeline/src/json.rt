@@ -2,7 +2,6 @@
 mod object;
 
 use crate::begun::{is_sent_nothing, nothing_left};
-use crate::clock::TimeFormat;
 use crate::line::{expiry_if_first, reason_words};
 use crate::playback::{Playback, notices_at};
 use crate::sent::{Sent, expiry_before, sent_of};
@@ -12,6 +11,7 @@ use am_board::preview::Preview;
 use am_board::reason::Reason;
 use am_rehearsal::event::{Event, PreviewedBegin};
 use am_retry::Outcome;
+use am_terms::clock::TimeFormat;
 use object::{Object, muted_list, sets_of};
 use std::alloc::{AllocError, Global};
 

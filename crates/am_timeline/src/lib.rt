@@ -12,9 +12,7 @@
 mod alerts;
 mod begun;
 pub mod changed;
-pub mod clock;
 pub mod comparison;
-pub mod dated;
 pub mod expectation;
 pub mod expectation_report;
 pub mod filtered;

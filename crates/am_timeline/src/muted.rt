@@ -4,11 +4,11 @@ ghost use Rattle.std.specs.List.{flat_map};
 ghost use Rattle.am_timeline.specs.Timeline.{cause_shown, cause_text, cause_words, muted_alert_text, muted_text};
 ghost use Rattle.am_timeline.specs.Shown.{set_shown};
 
-use crate::clock::{TimeFormat, push_number};
 use crate::shown::push_set;
 use am_alerts::labels::Labels;
 use am_board::preview::MutedAlert;
 use am_mute::mute::MuteCause;
+use am_terms::clock::{TimeFormat, push_number};
 use std::alloc::AllocError;
 
 /// Adds muted alerts, each with its cause.

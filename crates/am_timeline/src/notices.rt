@@ -2,11 +2,11 @@
 ghost use Rattle.std.specs.Prelude.{◌≡◌, ◌++◌, IfOk, OnOk, string_bytes};
 ghost use Rattle.am_timeline.specs.Notices.{line_if_wanted, notice_of_event, notices_text};
 
-use crate::clock::TimeFormat;
 use crate::playback::Playback;
 use crate::sent::{Sent, sent_of};
 use crate::timeline::push_sent;
 use am_rehearsal::event::Event;
+use am_terms::clock::TimeFormat;
 use std::alloc::{AllocError, Global};
 
 /// Returns the lines of the timeline on notices, in their order: on all, or without `failures` on the delivered ones.

@@ -15,12 +15,12 @@ ghost use Rattle.am_timeline.specs.Runs.{start_frame};
 ghost use Rattle.am_timeline.specs.Timeline.{begun_lines};
 
 use crate::begun::push_begun;
-use crate::clock::TimeFormat;
 use crate::frame::Frame;
 use crate::playback::{Playback, notices_at};
 use am_board::group::GroupName;
 use am_board::notice::Notice;
 use am_rehearsal::event::PreviewedBegin;
+use am_terms::clock::TimeFormat;
 use std::alloc::{AllocError, Global};
 use std::collections::HashMap;
 use std::marker::Model;

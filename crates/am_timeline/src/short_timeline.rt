@@ -5,12 +5,12 @@ ghost use Rattle.am_timeline.specs.Runs.{begins_folded, count_text, folded_begun
 ghost use Rattle.am_timeline.specs.Runs.{short_timeline_text, until_text};
 
 use crate::begun::push_begun;
-use crate::clock::{TimeFormat, push_number};
 use crate::frame::Frame;
 use crate::playback::Playback;
 use crate::runs::{Fold, Run, begins_folded};
 use crate::timeline::push_sent_by;
 use am_rehearsal::event::{Event, PreviewedBegin};
+use am_terms::clock::{TimeFormat, push_number};
 use std::alloc::{AllocError, Global};
 
 /// Returns the short timeline of a rehearsal: the lines on all events, in their order, with one begin's for each run.

@@ -5,12 +5,12 @@ ghost use Rattle.std.specs.List.{flat_map};
 ghost use Rattle.am_timeline.specs.Table.{count_text, counts_text, delivers, end_of, end_text, ends_text, fails, is_for, receiver_line};
 ghost use Rattle.am_timeline.specs.Table.{table_text};
 
-use crate::clock::{TimeFormat, push_number};
 use crate::playback::Playback;
 use crate::sent::{Sent, sent_of};
 use crate::shown::push_text;
 use am_board::config::{Config, Receiver};
 use am_rehearsal::event::Event;
+use am_terms::clock::{TimeFormat, push_number};
 use std::alloc::{AllocError, Global};
 
 /// Returns an empty line, and a line for each receiver in the configuration's order.

@@ -7,7 +7,6 @@ ghost use Rattle.am_timeline.specs.Timeline.{outcome_text, own_lines, past_text,
 
 use crate::alerts::push_alerts;
 use crate::begun::push_begun;
-use crate::clock::TimeFormat;
 use crate::frame::Frame;
 use crate::groups::push_target;
 use crate::line::{push_attempts, push_retries, push_sent_reason, push_time};
@@ -18,6 +17,7 @@ use am_board::notice::Notice;
 use am_board::reason::Reason;
 use am_rehearsal::event::{Event, PreviewedBegin};
 use am_retry::Outcome;
+use am_terms::clock::TimeFormat;
 use std::alloc::{AllocError, Global};
 
 /// Returns the timeline of a rehearsal: the lines on all events, in their order.

@@ -21,7 +21,6 @@ mod known;
 mod muted_alerts;
 mod route_mutes;
 
-use crate::clock::{TimeFormat, push_counted};
 use crate::muted::push_cause;
 use crate::playback::Playback;
 use crate::shown::push_set;
@@ -32,6 +31,7 @@ use am_board::config::Config;
 use am_board::group::GroupName;
 use am_board::record::Record;
 use am_mute::mute::MuteCause;
+use am_terms::clock::{TimeFormat, push_counted};
 use delivered::delivered_alerts;
 use findings::Findings;
 use known::known_alerts;

@@ -12,12 +12,11 @@ use am_cli::fault::{FaultKind, InputFault};
 use am_cli::place::JsonPointer;
 use am_cli::reader::Object;
 use am_rehearsal::rehearsal::{Action, TimedAction};
-use am_timeline::expectation::content::Content;
+use am_terms::expectation::Content;
 use std::alloc::Global;
 
-/// Refuses what no notice says by the last time, since none has no alert, or no alert of these actions fires so, or is
-/// resolved so. `item` is
-/// the expectation, at this place.
+/// Refuses an expectation, `item` at this place, that no notice can meet by the last time: it lists no alert, or one that
+/// these actions never let fire or resolve.
 pub(crate) fn check_alerts(
     item: &Object<'_, '_>,
     last: u64,

@@ -7,7 +7,7 @@ ghost use Rattle.am_input.specs.Expected.{IsAmountIn, amount_of, member_if, says
 
 use am_cli::fault::{FaultKind, InputFault};
 use am_cli::reader::Object;
-use am_timeline::expectation::Amount;
+use am_terms::expectation::Amount;
 
 /// The amount that `none`, `never`, `count` or `at_most` says, of which one is said at most; at least one notice
 /// where none of them is.

@@ -15,7 +15,7 @@ use am_alerts::sequence::Sequence;
 use am_cli::fault::{FaultKind, InputFault};
 use am_cli::labels::read_labels;
 use am_cli::reader::{Object, Reader};
-use am_timeline::expectation::content::{Content, SentReason, reason_named};
+use am_terms::expectation::{Content, SentReason, reason_named};
 
 /// What a notice has to say. `has` or `has_resolved`, as `when` says, is `of` where it isn't said; `exactly` says
 /// both sets, of which that of the resolved alerts is empty.

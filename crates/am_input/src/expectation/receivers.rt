@@ -7,7 +7,7 @@ ghost use Rattle.am_input.specs.Expected.{has_integration, has_kind, has_target,
 use am_board::config::{Config, Integration, Receiver};
 use am_cli::fault::{FaultKind, InputFault};
 use am_cli::place::JsonPointer;
-use am_timeline::expectation::Expectation;
+use am_terms::expectation::Expectation;
 use std::alloc::Global;
 
 /// Refuses a receiver that the configuration hasn't, and an integration that the receiver hasn't; where no receiver is

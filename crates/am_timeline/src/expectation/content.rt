@@ -1,8 +1,8 @@
-//! What an expectation wants of a notice's content. `expectation` and `expectation_report` call it.
+//! Whether a notice has the content that an expectation wants. `expectation` and `expectation_report` call it.
 ghost use Rattle.std.specs.Prelude.{◌≡◌, IfOk, option_copied};
 ghost use Rattle.std.specs.List.{list_all, list_any};
 ghost use Rattle.am_timeline.specs.Expectation.{are_as_wanted, has_as_wanted, has_content, has_match, has_set, have_just};
-ghost use Rattle.am_timeline.specs.Expectation.{is_listed, is_sent_as_wanted, is_sent_for, reason_named, wanted_words};
+ghost use Rattle.am_timeline.specs.Expectation.{is_listed, is_sent_as_wanted, is_sent_for};
 
 use crate::line::sent_words;
 use crate::playback::Playback;
@@ -11,87 +11,28 @@ use am_alerts::alert::Alert;
 use am_alerts::labels::Labels;
 use am_alerts::matcher::{Matcher, all_match};
 use am_alerts::sequence::Sequence;
+use am_terms::expectation::{Content, SentReason};
 use std::alloc::{AllocError, Global};
 
-/// What a notice has to say. A part that is none isn't compared.
-#[derive(Debug, Drop)]
-pub struct Content {
-    /// One of the firing alerts matches all of these.
-    pub has: Option<Sequence<Matcher>>,
-    /// One of the resolved alerts matches all of these.
-    pub has_resolved: Option<Sequence<Matcher>>,
-    /// The firing alerts have exactly these label sets, in any order.
-    pub firing: Option<Sequence<Labels>>,
-    /// The resolved alerts have exactly these label sets, in any order.
-    pub resolved: Option<Sequence<Labels>>,
-    /// The notice was sent for this reason.
-    pub reason: Option<SentReason>,
-}
-
-/// Why a notice is sent, as its line in the timeline says it.
-#[derive(Clone, Copy, Debug)]
-pub enum SentReason {
-    FirstNotice,
-    /// A first notice, since the entry of the notification log had expired.
-    LogEntryExpired,
-    NewAlert,
-    AllResolved,
-    NewlyResolved,
-    Repeat,
-}
-
-impl SentReason {
-    /// Returns its words in a line of the timeline.
-    pub(crate) fn words(self) -> &'static str
-        ensures { result.now ≡ wanted_words self }
-    {
-        match self {
-            SentReason::FirstNotice => "first notice",
-            SentReason::LogEntryExpired => "log entry expired",
-            SentReason::NewAlert => "new alert",
-            SentReason::AllResolved => "all resolved",
-            SentReason::NewlyResolved => "newly resolved",
-            SentReason::Repeat => "repeat",
-        }
-    }
-}
-
-/// Returns the reason for which a notice is sent, by its words in a line of the timeline.
-pub fn reason_named(words: &str) -> Option<SentReason>
-    ensures { result ≡ reason_named words.now }
+/// Returns whether a notice has the content that is wanted.
+pub(crate) fn is_in(
+    alloc: Global,
+    playback: &Playback,
+    wanted: &Content,
+    sent: &Sent,
+) -> Result<bool, AllocError>
+    ensures { IfOk result (λ is_in. is_in ≡ has_content playback.now wanted.now sent.now) }
 {
-    match words {
-        "first notice" => Some(SentReason::FirstNotice),
-        "log entry expired" => Some(SentReason::LogEntryExpired),
-        "new alert" => Some(SentReason::NewAlert),
-        "all resolved" => Some(SentReason::AllResolved),
-        "newly resolved" => Some(SentReason::NewlyResolved),
-        "repeat" => Some(SentReason::Repeat),
-        _ => None,
-    }
-}
-
-impl Content {
-    /// Returns whether a notice has this content.
-    pub(crate) fn is_in(
-        &self,
-        alloc: Global,
-        playback: &Playback,
-        sent: &Sent,
-    ) -> Result<bool, AllocError>
-        ensures { IfOk result (λ is_in. is_in ≡ has_content playback.now self.now sent.now) }
-    {
-        let notice = sent.notice;
-        let firing = notice.firing.as_slice();
-        let resolved = notice.resolved.as_slice();
-        Ok(
-            has_as_wanted(alloc, self.has.as_ref(), firing)?
-                && has_as_wanted(alloc, self.has_resolved.as_ref(), resolved)?
-                && are_as_wanted(self.firing.as_ref(), firing)
-                && are_as_wanted(self.resolved.as_ref(), resolved)
-                && is_sent_as_wanted(playback, self.reason, sent),
-        )
-    }
+    let notice = sent.notice;
+    let firing = notice.firing.as_slice();
+    let resolved = notice.resolved.as_slice();
+    Ok(
+        has_as_wanted(alloc, wanted.has.as_ref(), firing)?
+            && has_as_wanted(alloc, wanted.has_resolved.as_ref(), resolved)?
+            && are_as_wanted(wanted.firing.as_ref(), firing)
+            && are_as_wanted(wanted.resolved.as_ref(), resolved)
+            && is_sent_as_wanted(playback, wanted.reason, sent),
+    )
 }
 
 /// Returns whether one of these alerts matches all matchers, if any are said.

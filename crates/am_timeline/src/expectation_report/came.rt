@@ -5,8 +5,7 @@ ghost use Rattle.am_timeline.specs.ExpectationReport.{came_front, came_line, get
 ghost use Rattle.am_timeline.specs.ExpectationReport.{is_shown, nearest_text, none_text, resolved_word, unfitting_text};
 
 use crate::alerts::push_alerts;
-use crate::clock::TimeFormat;
-use crate::expectation::Expectation;
+use crate::expectation::{count_fitting, fits, has_in_scope, is_in_scope};
 use crate::expectation_report::differences::push_differences;
 use crate::expectation_report::nearest::nearest_of;
 use crate::groups::push_integration;
@@ -17,6 +16,8 @@ use am_alerts::alert::Alert;
 use am_board::config::Config;
 use am_board::notice::Notice;
 use am_rehearsal::event::Event;
+use am_terms::clock::TimeFormat;
+use am_terms::expectation::Expectation;
 use std::alloc::{AllocError, Global};
 
 /// Adds the notices that came: those that fit, or else those in scope, or else the nearest.
@@ -30,7 +31,7 @@ pub(crate) fn push_got<C: TimeFormat>(
     ensures { OnOk result (string_bytes out.new ≡ string_bytes out.old
         ++ got_text playback.now (C.times clock.now) expectation.now) }
 {
-    if expectation.count_fitting(alloc, playback)? == 0 {
+    if count_fitting(alloc, playback, expectation)? == 0 {
         return push_unfitting(alloc, playback, clock, expectation, out);
     }
     push_all_got(alloc, true, playback, clock, expectation, out)
@@ -47,7 +48,7 @@ fn push_unfitting<C: TimeFormat>(
     ensures { OnOk result (string_bytes out.new ≡ string_bytes out.old
         ++ unfitting_text playback.now (C.times clock.now) expectation.now) }
 {
-    if expectation.has_in_scope(playback) {
+    if has_in_scope(playback, expectation) {
         return push_all_got(alloc, false, playback, clock, expectation, out);
     }
     push_none(alloc, playback, clock, expectation, out)
@@ -142,9 +143,9 @@ fn is_shown(
     ensures { IfOk result (λ shown. shown ≡ is_shown some_fit playback.now expectation.now sent.now) }
 {
     if some_fit {
-        return expectation.fits(alloc, playback, sent);
+        return fits(alloc, playback, expectation, sent);
     }
-    Ok(expectation.is_in_scope(playback.config, sent))
+    Ok(is_in_scope(playback.config, expectation, sent))
 }
 
 /// Adds the nearest notice, and how it differs; nothing where none was delivered to the receiver.

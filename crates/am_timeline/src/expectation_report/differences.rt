@@ -4,14 +4,15 @@ ghost use Rattle.am_timeline.specs.ExpectationReport.{content_differences, diffe
 ghost use Rattle.am_timeline.specs.ExpectationReport.{integration_difference, off_span_text};
 ghost use Rattle.am_timeline.specs.ExpectationReport.{late_text, reason_difference, sent_reason_text, unless};
 
-use crate::clock::push_counted;
-use crate::expectation::Expectation;
-use crate::expectation::content::{Content, are_as_wanted, has_as_wanted, is_sent_as_wanted};
+use crate::expectation::content::{are_as_wanted, has_as_wanted, is_sent_as_wanted};
+use crate::expectation::is_for_integration;
 use crate::expectation_report::wanted::push_reason_part;
 use crate::line::sent_words;
 use crate::playback::Playback;
 use crate::sent::{Sent, expiry_before};
 use am_board::config::Config;
+use am_terms::clock::push_counted;
+use am_terms::expectation::{Content, Expectation};
 use std::alloc::{AllocError, Global};
 
 /// Adds how a notice to the receiver of an expectation differs from what is expected.
@@ -51,7 +52,7 @@ fn push_other_integration(
     ensures { OnOk result (string_bytes out.new
         ≡ string_bytes out.old ++ integration_difference config.now expectation.now sent.now) }
 {
-    let is_meant = expectation.is_for_integration(config, sent);
+    let is_meant = is_for_integration(config, expectation, sent);
     push_unless(is_meant, "; another integration", out)
 }
 

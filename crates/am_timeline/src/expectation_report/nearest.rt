@@ -2,10 +2,12 @@
 ghost use Rattle.std.specs.Prelude.{◌≡◌, IfOk, None};
 ghost use Rattle.am_timeline.specs.ExpectationReport.{candidate_by, distance, if_alike, is_alike, nearer, nearest_of, nearest_with};
 
-use crate::expectation::Expectation;
+use crate::expectation::content::is_in;
+use crate::expectation::{is_for_integration, is_for_receiver};
 use crate::playback::Playback;
 use crate::sent::{Sent, sent_of};
 use am_rehearsal::event::Event;
+use am_terms::expectation::Expectation;
 use std::alloc::{AllocError, Global};
 
 /// How much a delivered notice has of what is expected, besides its time.
@@ -96,15 +98,15 @@ fn is_alike(
 ) -> Result<bool, AllocError>
     ensures { IfOk result (λ holds. holds ≡ is_alike alike playback.now expectation.now sent.now) }
 {
-    if !expectation.is_for_receiver(playback.config, sent) {
+    if !is_for_receiver(playback.config, expectation, sent) {
         return Ok(false);
     }
     match alike {
         Alike::ToReceiver => Ok(true),
-        Alike::ToTarget => Ok(expectation.is_for_integration(playback.config, sent)),
+        Alike::ToTarget => Ok(is_for_integration(playback.config, expectation, sent)),
         Alike::OfContent => Ok(
-            expectation.is_for_integration(playback.config, sent)
-                && expectation.content.is_in(alloc, playback, sent)?,
+            is_for_integration(playback.config, expectation, sent)
+                && is_in(alloc, playback, &expectation.content, sent)?,
         ),
     }
 }

@@ -6,15 +6,14 @@ ghost use Rattle.am_timeline.specs.ExpectationReport.{listed_text, matcher_shown
 ghost use Rattle.am_timeline.specs.ExpectationReport.{reason_part, sets_text, span_text, wanted_reason_text, wanted_text};
 ghost use Rattle.am_timeline.specs.Shown.{set_shown};
 
-use crate::clock::{TimeFormat, push_number};
-use crate::expectation::content::{Content, SentReason};
-use crate::expectation::{Amount, Expectation};
 use crate::shown::{push_set, push_text};
 use crate::table::push_count;
 use am_alerts::labels::Labels;
 use am_alerts::matcher::{Matcher, Operator};
 use am_alerts::sequence::Sequence;
 use am_board::config::{Config, kind_at};
+use am_terms::clock::{TimeFormat, push_number};
+use am_terms::expectation::{Amount, Content, Expectation, SentReason};
 use std::alloc::AllocError;
 
 /// Adds the line on what is expected.

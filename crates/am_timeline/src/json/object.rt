@@ -1,5 +1,4 @@
 //! A JSON object that is being made. `json` calls it.
-use crate::clock::TimeFormat;
 use crate::groups::push_integration;
 use crate::shown::push_hex;
 use am_alerts::alert::Alert;
@@ -8,6 +7,7 @@ use am_board::config::Config;
 use am_board::group::GroupName;
 use am_board::preview::MutedAlert;
 use am_mute::mute::MuteCause;
+use am_terms::clock::TimeFormat;
 use serde_json::{Map, Value};
 use std::alloc::{AllocError, Global};
 

@@ -1,6 +1,6 @@
 use Rattle.std.proofs.Common.{List, IfOk, string_bytes, subst}
 use Rattle.std.proofs.lemmas.Result.{IfOk-weaker}
-use Rattle.am_timeline.specs.declared.expectation.Expectation.{Expectation}
+use Rattle.am_terms.specs.declared.expectation.Expectation.{Expectation}
 use Rattle.am_input.specs.Request.{times_from}
 use Rattle.am_rehearse.specs.Printed.{IsOutputOf, IsOutputOfRun}
 use Rattle.am_rehearse.proofs.run.play_and_render.Goals as goal

@@ -1,5 +1,5 @@
 use Rattle.std.proofs.Common.{Option, IfOk, string_bytes, subst, sym}
-use Rattle.am_timeline.specs.UtcDates.{StartData}
+use Rattle.am_terms.specs.UtcDates.{StartData}
 use Rattle.am_input.specs.Request.{times_from}
 use Rattle.am_rehearse.specs.Printed.{IsOutputOf}
 use Rattle.am_rehearse.proofs.run.render_from.Goals as goal

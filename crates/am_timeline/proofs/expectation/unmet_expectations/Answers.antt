@@ -1,6 +1,6 @@
 use Rattle.std.proofs.Common.{◌≡◌, ◌∙◌, ◌++◌, ◌∷◌, ◌+◌, ◌<◌, ℕ, List, ap, sym, arith, append_assoc, drop, length}
 use Rattle.std.proofs.lemmas.List.{drop_more}
-use Rattle.am_timeline.specs.declared.expectation.Expectation.{Expectation}
+use Rattle.am_terms.specs.declared.expectation.Expectation.{Expectation}
 use Rattle.am_timeline.specs.Expectation.{unmet_at, unmet_from}
 use Rattle.am_timeline.proofs.expectation.unmet_expectations.Goals as goal
 

@@ -1,0 +1,185 @@
+//! `am-rehearse compare`: simulates a story under two configurations, and prints what differs.
+use crate::play::until_of;
+use crate::run::{logbook_of, play_or_refuse};
+use am_cli::fault::InputFault;
+use am_command::request::CompareRequest;
+use am_config::dropped::IgnoredSettings;
+use am_config::faults::Refusal;
+use am_console::commands::faults::accept;
+use am_console::commands::given::given_to;
+use am_console::console::{Console, DIFFERS, Document, say_ignored};
+use am_console::progress::Progress;
+use am_console::system_zones::SystemZones;
+use am_input::faults::ReceiversOf;
+use am_input::input::{Changes, Input, Overrides, read_input};
+use am_input::zone_files::ZoneFiles;
+use am_rehearsal::play::Played;
+use am_rehearsal::watch::Watch;
+use am_terms::clock::Elapsed;
+use am_terms::dated::UtcDates;
+use am_timeline::comparison::{Comparison, compare_notices};
+use am_timeline::playback::Playback;
+use std::alloc::{AllocError, Global};
+use std::rt::Files;
+use std::time::Clock;
+
+/// A story that was played.
+#[derive(Drop)]
+struct PlayedStory {
+    played: Played,
+    /// The moment of the start, if the story tells it.
+    start: Option<UtcDates>,
+    /// What of the configuration is ignored.
+    ignored: IgnoredSettings,
+}
+
+/// Compares two configurations, and returns the status.
+pub fn compare<R: Files + Eprint + AllocGlobal + Clock>(
+    rt: &R,
+    console: &mut Console,
+    request: CompareRequest<'_>,
+) -> u8 {
+    match try_compare(rt, console, request) {
+        Ok(status) | Err(status) => status,
+    }
+}
+
+fn try_compare<R: Files + Eprint + AllocGlobal + Clock>(
+    rt: &R,
+    console: &mut Console,
+    request: CompareRequest<'_>,
+) -> Result<u8, u8> {
+    let overrides = Overrides {
+        output: None,
+        until: until_of(rt, request.until)?,
+    };
+    let story = console.read(rt, request.story)?;
+    let compared = compared(rt, console, &story, request, overrides)?;
+    Ok(print(rt, console, &compared, request.exit_code))
+}
+
+/// Compares the notices of a story under two configurations. The error is the status.
+fn compared<R: Files + Eprint + AllocGlobal + Clock>(
+    rt: &R,
+    console: &mut Console,
+    story: &Document<'_>,
+    request: CompareRequest<'_>,
+    overrides: Overrides,
+) -> Result<Comparison, u8> {
+    let old = played_under(rt, console, story, request.old, overrides)?;
+    let new = played_under(rt, console, story, request.new, overrides)?;
+    say_ignored(rt, request.old, old.ignored);
+    say_ignored(rt, request.new, new.ignored);
+    match compare_played(rt.alloc(), &old, &new) {
+        Ok(compared) => Ok(compared),
+        Err(_) => Err(console.complain_of_memory(rt)),
+    }
+}
+
+/// Prints what differs, and returns the status.
+fn print<R: Files + Eprint + AllocGlobal>(
+    rt: &R,
+    console: &mut Console,
+    compared: &Comparison,
+    exit_code: bool,
+) -> u8 {
+    let status = console.print(rt, compared.text.as_str());
+    if status == 0 && compared.differs && exit_code {
+        DIFFERS
+    } else {
+        status
+    }
+}
+
+/// Plays the story under the configuration of a file. The error is the status.
+fn played_under<R: Files + Eprint + AllocGlobal + Clock>(
+    rt: &R,
+    console: &mut Console,
+    story: &Document<'_>,
+    path: &str,
+    overrides: Overrides,
+) -> Result<PlayedStory, u8> {
+    let config = console.read(rt, path)?;
+    accept_under(rt, console, story, &config, overrides)?;
+    let changes = Changes {
+        config: Some(&config.value),
+        overrides,
+    };
+    let mut files = SystemZones::new(rt);
+    let mut watch = Progress::begin(rt, console.is_terminal);
+    match played(rt.alloc(), story, changes, &mut files, &mut watch) {
+        Ok(played) => Ok(played),
+        Err(refusal) => Err(console.complain_of_refusal(rt, story, refusal)),
+    }
+}
+
+/// Complains of the faults of a configuration, and of those of a story under it. The error is the status.
+fn accept_under<R: Files + Eprint + AllocGlobal>(
+    rt: &R,
+    console: &Console,
+    story: &Document<'_>,
+    config: &Document<'_>,
+    overrides: Overrides,
+) -> Result<(), u8> {
+    let configured = given_to(rt, console, story, config, overrides)?;
+    accept(
+        rt,
+        console,
+        story,
+        ReceiversOf::Given(Some(&configured)),
+        overrides,
+    )
+}
+
+/// Plays a story that these changes are made to.
+fn played<Z: ZoneFiles, W: Watch>(
+    alloc: Global,
+    story: &Document<'_>,
+    changes: Changes<'_>,
+    files: &mut Z,
+    watch: &mut W,
+) -> Result<PlayedStory, Refusal> {
+    let input = read_input(alloc, &story.value, changes, files)?;
+    match play_input(alloc, input, watch) {
+        Ok(played) => Ok(played),
+        Err(fault) => Err(Refusal::One(fault)),
+    }
+}
+
+fn play_input<W: Watch>(
+    alloc: Global,
+    input: Input,
+    watch: &mut W,
+) -> Result<PlayedStory, InputFault> {
+    let Input {
+        rehearsal,
+        origins,
+        start,
+        expectations: _,
+        output: _,
+        dropped,
+    } = input;
+    match play_or_refuse(alloc, rehearsal, origins.as_slice(), watch) {
+        Ok(played) => Ok(PlayedStory {
+            played,
+            start,
+            ignored: dropped,
+        }),
+        Err(fault) => Err(fault),
+    }
+}
+
+fn compare_played(
+    alloc: Global,
+    old: &PlayedStory,
+    new: &PlayedStory,
+) -> Result<Comparison, AllocError> {
+    let old_log = logbook_of(alloc, &old.played)?;
+    let new_log = logbook_of(alloc, &new.played)?;
+    let one = Playback::new(&old_log, old.played.events.as_slice());
+    let other = Playback::new(&new_log, new.played.events.as_slice());
+    match &old.start {
+        None => compare_notices(alloc, &one, &other, &Elapsed),
+        Some(start) => compare_notices(alloc, &one, &other, start),
+    }
+}

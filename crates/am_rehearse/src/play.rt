@@ -1,0 +1,347 @@
+//! `am-rehearse play`: simulates a story.
+use crate::fault::RehearseFault;
+use crate::run::{Judgement, Report, run_rehearsal};
+use crate::wanted::Wanted;
+use am_alerts::duration::read_duration;
+use am_alerts::matcher::Matcher;
+use am_alerts::sequence::Sequence;
+use am_alerts::text::Text;
+use am_cli::fault::InputFault;
+use am_command::request::{PlayRequest, STANDARD_INPUT};
+use am_config::dropped::IgnoredSettings;
+use am_config::faults::{Faults, Refusal};
+use am_console::commands::faults::faults_of;
+use am_console::commands::given::given_to;
+use am_console::console::{Console, Document, REJECTED, UNWRITABLE, say_ignored};
+use am_console::files::{FileFault, open};
+use am_console::matcher_words::{matcher_of, words_for};
+use am_console::progress::Progress;
+use am_console::story_words::PAGE_HAS_NO_LINES;
+use am_console::system_zones::SystemZones;
+use am_input::faults::ReceiversOf;
+use am_input::input::{Changes, Output, Overrides};
+use am_rehearsal::MAX_UNTIL;
+use am_timeline::filtered::Filter;
+use am_yaml::document::read_document;
+use std::fs;
+use std::rt::Files;
+use std::time::Clock;
+
+/// Simulates a story, and returns the status.
+pub fn play<R: Files + Eprint + AllocGlobal + Clock>(
+    rt: &R,
+    console: &mut Console,
+    request: &PlayRequest<'_>,
+) -> u8 {
+    match try_play(rt, console, request) {
+        Ok(()) => 0,
+        Err(status) => status,
+    }
+}
+
+fn try_play<R: Files + Eprint + AllocGlobal + Clock>(
+    rt: &R,
+    console: &mut Console,
+    request: &PlayRequest<'_>,
+) -> Result<(), u8> {
+    let overrides = Overrides {
+        output: output_of(rt, request)?,
+        until: until_of(rt, request.until)?,
+    };
+    let wanted = wanted_of(rt, console, request)?;
+    let config = match request.config {
+        None => None,
+        Some(path) => Some(console.read(rt, path)?),
+    };
+    let config = config.as_ref();
+    let changes = Changes {
+        config: config.map(|document| &document.value),
+        overrides,
+    };
+    let mut report = Report {
+        text: Vec::new(rt.alloc()),
+        ignored: IgnoredSettings::nothing(),
+        judgement: Judgement::none(rt.alloc()),
+    };
+    let ended = run(rt, console, request.story, changes, &wanted, &mut report)?;
+    say_ignored(rt, request.config.unwrap_or(request.story), report.ignored);
+    if matches!(ended, Ok(()) | Err(RehearseFault::Unmet)) {
+        say_found(rt, &report.judgement);
+        write_junit(rt, request.junit, &report.judgement.junit)?;
+    }
+    match ended {
+        Ok(()) => Ok(()),
+        Err(fault) => Err(complain(rt, console, request, config, overrides, report, fault)),
+    }
+}
+
+/// Says that the command line names what no flush is of, if it does.
+fn say_found<R: Eprint>(rt: &R, judgement: &Judgement) {
+    if judgement.found_nothing {
+        let _ = eprintln!(rt;
+            "am-rehearse: no flush is of what --receiver, --group and --alert name; its lines are all left out"
+        );
+    }
+}
+
+/// Writes the report on the expectations to the file that the command line names. The error is the status.
+fn write_junit<R: Files + Eprint>(
+    rt: &R,
+    file: Option<&str>,
+    junit: &Option<String>,
+) -> Result<(), u8> {
+    let (Some(path), Some(text)) = (file, junit) else {
+        return Ok(());
+    };
+    if fs::write(rt, path, text.as_str()).is_ok() {
+        return Ok(());
+    }
+    let _ = eprintln!(rt; "am-rehearse: {path}: not writable");
+    Err(UNWRITABLE)
+}
+
+/// Runs a story from its file. The error is the status, if the file isn't there.
+fn run<R: Files + Eprint + AllocGlobal + Clock>(
+    rt: &R,
+    console: &mut Console,
+    story: &str,
+    changes: Changes<'_>,
+    wanted: &Wanted,
+    report: &mut Report,
+) -> Result<Result<(), RehearseFault>, u8> {
+    let alloc = rt.alloc();
+    let mut files = SystemZones::new(rt);
+    let mut watch = Progress::begin(rt, console.is_terminal);
+    if story == STANDARD_INPUT {
+        let Console { input, output, .. } = console;
+        return Ok(run_rehearsal(
+            alloc, input, changes, wanted, &mut files, &mut watch, output, report,
+        ));
+    }
+    let mut file = match open(rt, story) {
+        Ok(file) => file,
+        Err(fault) => return Err(console.complain_of_file(rt, story, fault)),
+    };
+    let output = &mut console.output;
+    Ok(run_rehearsal(
+        alloc, &mut file, changes, wanted, &mut files, &mut watch, output, report,
+    ))
+}
+
+/// Returns the output that the command line asks for. It has checked the name. The error is the status.
+fn output_of<R: Eprint>(rt: &R, request: &PlayRequest<'_>) -> Result<Option<Output>, u8> {
+    match request.output {
+        Some("notices") if request.no_failures => Ok(Some(Output::Delivered)),
+        _ if request.no_failures => {
+            let _ = eprintln!(rt; "am-rehearse: --no-failures needs --output notices");
+            Err(REJECTED)
+        }
+        None | Some("timeline") if request.all => Ok(Some(Output::Full)),
+        _ if request.all => {
+            let _ = eprintln!(rt; "am-rehearse: --all is for the timeline alone");
+            Err(REJECTED)
+        }
+        None => Ok(None),
+        Some("notices") => Ok(Some(Output::Notices)),
+        Some("json") => Ok(Some(Output::Json)),
+        Some("html") => Ok(Some(Output::Html)),
+        Some(_) => Ok(Some(Output::Timeline)),
+    }
+}
+
+/// Returns what of a rehearsal the command line wants to see. The error is the status.
+fn wanted_of<R: Eprint + AllocGlobal>(
+    rt: &R,
+    console: &Console,
+    request: &PlayRequest<'_>,
+) -> Result<Wanted, u8> {
+    let selection = &request.selection;
+    let matchers = matchers_of(rt, console, selection.alerts.as_slice())?;
+    let receiver = text_of(rt, console, selection.receiver)?;
+    let route = text_of(rt, console, selection.group)?;
+    let filter = Filter {
+        receiver,
+        route,
+        matchers: Sequence::from(matchers),
+    };
+    let changes = selection.changes;
+    if request.output == Some("html") && (changes || !filter.is_empty()) {
+        let _ = eprintln!(rt; "am-rehearse: {PAGE_HAS_NO_LINES}");
+        return Err(REJECTED);
+    }
+    Ok(Wanted {
+        filter,
+        changes,
+        junit: request.junit.is_some(),
+    })
+}
+
+/// Returns a text of the command line, if there is one. The error is the status.
+fn text_of<R: Eprint + AllocGlobal>(
+    rt: &R,
+    console: &Console,
+    text: Option<&str>,
+) -> Result<Option<Text>, u8> {
+    match text {
+        None => Ok(None),
+        Some(text) => match Text::new(rt.alloc(), text) {
+            Ok(text) => Ok(Some(text)),
+            Err(_) => Err(console.complain_of_memory(rt)),
+        },
+    }
+}
+
+/// Returns the matchers of the command line. The error is the status.
+fn matchers_of<R: Eprint + AllocGlobal>(
+    rt: &R,
+    console: &Console,
+    texts: &[&str],
+) -> Result<Vec<Matcher>, u8> {
+    let mut matchers = Vec::new(rt.alloc());
+    for text in texts {
+        match matcher_of(rt.alloc(), text) {
+            Ok(matcher) => {
+                if matchers.push(matcher).is_err() {
+                    return Err(console.complain_of_memory(rt));
+                }
+            }
+            Err(fault) => {
+                let Some(words) = words_for(fault) else {
+                    return Err(console.complain_of_memory(rt));
+                };
+                let _ = eprintln!(rt; "am-rehearse: --alert: `{text}` {words}");
+                return Err(REJECTED);
+            }
+        }
+    }
+    Ok(matchers)
+}
+
+/// Returns the end that the command line gives.
+pub(crate) fn until_of<R: Eprint>(rt: &R, until: Option<&str>) -> Result<Option<u64>, u8> {
+    let Some(text) = until else {
+        return Ok(None);
+    };
+    match read_duration(text) {
+        Ok(until) if until <= MAX_UNTIL => Ok(Some(until)),
+        _ => {
+            let _ = eprintln!(rt;
+                "am-rehearse: --until: `{text}` is no duration up to 366d; write 5h or 2h30m"
+            );
+            Err(REJECTED)
+        }
+    }
+}
+
+/// Complains of what ended a run, and returns the status.
+fn complain<R: Files + Eprint + AllocGlobal>(
+    rt: &R,
+    console: &mut Console,
+    request: &PlayRequest<'_>,
+    config: Option<&Document<'_>>,
+    overrides: Overrides,
+    report: Report,
+    fault: RehearseFault,
+) -> u8 {
+    let status = fault.status();
+    let refusal = match fault {
+        RehearseFault::NotRead { fault } => {
+            return console.complain_of_text(rt, request.story, fault);
+        }
+        RehearseFault::Refused { place, fault_kind } => {
+            Refusal::One(InputFault::Refused { place, fault_kind })
+        }
+        RehearseFault::AllRefused { faults } => Refusal::All(faults),
+        RehearseFault::Unreadable => {
+            return console.complain_of_file(rt, request.story, FileFault::Unreadable);
+        }
+        RehearseFault::Unmet => {
+            complain_of_unmet(rt, console, request.story, report);
+            let unmet = RehearseFault::Unmet;
+            let _ = eprintln!(rt; "{unmet}");
+            return status;
+        }
+        fault => {
+            let _ = eprintln!(rt; "{fault}");
+            return status;
+        }
+    };
+    let Ok(value) = read_document(rt.alloc(), report.text.as_slice()) else {
+        return console.complain_of_memory(rt);
+    };
+    let document = Document {
+        path: request.story,
+        text: report.text,
+        value,
+    };
+    complain_of_story(rt, console, config, overrides, &document, refusal)
+}
+
+/// Says of each expectation that isn't met where it stands.
+fn complain_of_unmet<R: Files + Eprint + AllocGlobal>(
+    rt: &R,
+    console: &Console,
+    path: &str,
+    report: Report,
+) {
+    let Report {
+        text,
+        ignored: _,
+        judgement,
+    } = report;
+    let Ok(value) = read_document(rt.alloc(), text.as_slice()) else {
+        return;
+    };
+    let document = Document { path, text, value };
+    for number in &judgement.unmet {
+        if let Ok(pointer) = format!(in rt.alloc(); "/expect/{number}") {
+            let words = "this expectation isn't met";
+            let _ = console.complain_in_words(rt, &document, pointer.as_str(), words);
+        }
+    }
+}
+
+/// Complains of all faults of a story that was refused, and returns the status.
+fn complain_of_story<R: Files + Eprint + AllocGlobal>(
+    rt: &R,
+    console: &mut Console,
+    config: Option<&Document<'_>>,
+    overrides: Overrides,
+    document: &Document<'_>,
+    refusal: Refusal,
+) -> u8 {
+    match faults_under(rt, console, config, overrides, document) {
+        Err(status) => status,
+        Ok(faults) => complain_of_all(rt, console, document, &faults, refusal),
+    }
+}
+
+/// Complains of a story's faults, or where none are found of what it was refused for, and returns the status.
+fn complain_of_all<R: Eprint + AllocGlobal>(
+    rt: &R,
+    console: &Console,
+    document: &Document<'_>,
+    faults: &Faults,
+    refusal: Refusal,
+) -> u8 {
+    if faults.is_empty() {
+        return console.complain_of_refusal(rt, document, refusal);
+    }
+    console.complain_of_faults(rt, document, faults)
+}
+
+/// Returns the faults of a story under the configuration that the command line names. The error is the status.
+fn faults_under<R: Files + Eprint + AllocGlobal>(
+    rt: &R,
+    console: &mut Console,
+    config: Option<&Document<'_>>,
+    overrides: Overrides,
+    story: &Document<'_>,
+) -> Result<Faults, u8> {
+    let Some(config) = config else {
+        return faults_of(rt, console, story, ReceiversOf::Own, overrides);
+    };
+    let configured = given_to(rt, console, story, config, overrides)?;
+    let receivers = ReceiversOf::Given(Some(&configured));
+    faults_of(rt, console, story, receivers, overrides)
+}

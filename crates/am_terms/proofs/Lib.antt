@@ -1,0 +1,4 @@
+-- the worked rows: the definitions, run on them
+pub mod Rows
+-- the day so many days later
+pub mod Days

@@ -130,22 +130,40 @@ fn run<R: Files + Eprint + AllocGlobal + Clock>(
 
 /// Returns the output that the command line asks for. It has checked the name. The error is the status.
 fn output_of<R: Eprint>(rt: &R, request: &PlayRequest<'_>) -> Result<Option<Output>, u8> {
-    match request.output {
-        Some("notices") if request.no_failures => Ok(Some(Output::Delivered)),
-        _ if request.no_failures => {
-            let _ = eprintln!(rt; "am-rehearse: --no-failures needs --output notices");
-            Err(REJECTED)
-        }
-        None | Some("timeline") if request.all => Ok(Some(Output::Full)),
-        _ if request.all => {
-            let _ = eprintln!(rt; "am-rehearse: --all is for the timeline alone");
-            Err(REJECTED)
-        }
-        None => Ok(None),
-        Some("notices") => Ok(Some(Output::Notices)),
-        Some("json") => Ok(Some(Output::Json)),
-        Some("html") => Ok(Some(Output::Html)),
-        Some(_) => Ok(Some(Output::Timeline)),
+    if request.no_failures {
+        delivered_of(rt, request.output)
+    } else if request.all {
+        full_of(rt, request.output)
+    } else {
+        Ok(request.output.map(output_named))
+    }
+}
+
+/// Returns the output of delivered notices, where notices are asked for. The error is the status.
+fn delivered_of<R: Eprint>(rt: &R, output: Option<&str>) -> Result<Option<Output>, u8> {
+    if output == Some("notices") {
+        return Ok(Some(Output::Delivered));
+    }
+    let _ = eprintln!(rt; "am-rehearse: --no-failures needs --output notices");
+    Err(REJECTED)
+}
+
+/// Returns the output of each line, where the timeline is asked for. The error is the status.
+fn full_of<R: Eprint>(rt: &R, output: Option<&str>) -> Result<Option<Output>, u8> {
+    if output.unwrap_or("timeline") == "timeline" {
+        return Ok(Some(Output::Full));
+    }
+    let _ = eprintln!(rt; "am-rehearse: --all is for the timeline alone");
+    Err(REJECTED)
+}
+
+/// Returns the output of a name.
+fn output_named(name: &str) -> Output {
+    match name {
+        "notices" => Output::Notices,
+        "json" => Output::Json,
+        "html" => Output::Html,
+        _ => Output::Timeline,
     }
 }
 
@@ -199,22 +217,31 @@ fn matchers_of<R: Eprint + AllocGlobal>(
 ) -> Result<Vec<Matcher>, u8> {
     let mut matchers = Vec::new(rt.alloc());
     for text in texts {
-        match matcher_of(rt.alloc(), text) {
-            Ok(matcher) => {
-                if matchers.push(matcher).is_err() {
-                    return Err(console.complain_of_memory(rt));
-                }
-            }
-            Err(fault) => {
-                let Some(words) = words_for(fault) else {
-                    return Err(console.complain_of_memory(rt));
-                };
-                let _ = eprintln!(rt; "am-rehearse: --alert: `{text}` {words}");
-                return Err(REJECTED);
-            }
+        let matcher = alert_matcher(rt, console, text)?;
+        if matchers.push(matcher).is_err() {
+            return Err(console.complain_of_memory(rt));
         }
     }
     Ok(matchers)
+}
+
+/// Returns the matcher that a text of the command line writes. The error is the status.
+fn alert_matcher<R: Eprint + AllocGlobal>(
+    rt: &R,
+    console: &Console,
+    text: &str,
+) -> Result<Matcher, u8> {
+    let fault = match matcher_of(rt.alloc(), text) {
+        Ok(matcher) => return Ok(matcher),
+        Err(fault) => fault,
+    };
+    match words_for(fault) {
+        None => Err(console.complain_of_memory(rt)),
+        Some(words) => {
+            let _ = eprintln!(rt; "am-rehearse: --alert: `{text}` {words}");
+            Err(REJECTED)
+        }
+    }
 }
 
 /// Returns the end that the command line gives.

@@ -225,12 +225,15 @@ fn play_and_render<W: Watch>(
 
 /// Refuses a page of which lines are to be left out.
 fn check_lines(alloc: Global, output: Output, wanted: &Wanted) -> Result<(), InputFault> {
-    let leaves_out = wanted.changes || !wanted.filter.is_empty();
-    if output == Output::Html && leaves_out {
-        let top = JsonPointer::Root;
-        return Err(top.member("output").refuse(alloc, FaultKind::BadValue));
+    match output {
+        Output::Html if wanted.leaves_out() => Err(refused_output(alloc)),
+        _ => Ok(()),
     }
-    Ok(())
+}
+
+fn refused_output(alloc: Global) -> InputFault {
+    let top = JsonPointer::Root;
+    top.member("output").refuse(alloc, FaultKind::BadValue)
 }
 
 /// Plays a rehearsal whose planned actions are at these places of the input.

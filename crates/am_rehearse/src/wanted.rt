@@ -12,3 +12,10 @@ pub struct Wanted {
     /// Whether a report on the expectations is made, as XML of JUnit.
     pub junit: bool,
 }
+
+impl Wanted {
+    /// Returns whether lines may be left out.
+    pub fn leaves_out(&self) -> bool {
+        self.changes || !self.filter.is_empty()
+    }
+}

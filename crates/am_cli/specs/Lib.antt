@@ -2,6 +2,8 @@
 pub mod Bytes
 -- what the JSON value of a configuration tells, a line for each member
 pub mod Configured
+-- the faults of an input: how they add up, and which end the reading
+pub mod Faults
 -- matchers that are written as one text
 pub mod MatcherText
 -- what a reader is at, and how it refuses

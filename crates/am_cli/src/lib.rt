@@ -7,6 +7,7 @@ pub mod config;
 pub mod device;
 pub mod duration;
 pub mod fault;
+pub mod faults;
 pub mod io_trace;
 pub mod labels;
 pub mod law;

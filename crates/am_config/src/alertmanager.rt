@@ -1,10 +1,9 @@
 //! Reads a whole `alertmanager.yml`, as JSON. `am_rehearse` calls `read_alertmanager`.
 ghost use Rattle.std.specs.Prelude.{◌≡◌, IfErr, IfOk, None};
-ghost use Rattle.am_config.specs.Faults.{Tells};
+ghost use Rattle.am_cli.specs.Faults.{Tells};
 ghost use Rattle.am_model.specs.Config.{config_fault};
 
 use crate::dropped::IgnoredSettings;
-use crate::faults::{Faults, Refusal};
 use crate::hours::Hours;
 use crate::inhibit::read_rules;
 use crate::optional::{has_items, non_null};
@@ -15,6 +14,7 @@ use am_alerts::route::Routes;
 use am_alerts::sequence::Sequence;
 use am_alerts::tree::TreeFault;
 use am_cli::fault::{FaultKind, InputFault};
+use am_cli::faults::{Faults, Refusal};
 use am_cli::reader::{Object, Reader};
 use am_model::config::{Config, Limits, Receiver};
 use am_mute::inhibit::InhibitRule;

@@ -1,11 +1,11 @@
 //! Inhibition rules of an `alertmanager.yml`. `alertmanager` calls it.
-use crate::faults::Faults;
 use crate::matchers::{MatcherMembers, read_matchers};
 use crate::optional::non_null;
 use am_alerts::labels::is_label_name;
 use am_alerts::limits::MAX_NAMES;
 use am_alerts::text::Text;
 use am_cli::fault::{FaultKind, InputFault};
+use am_cli::faults::Faults;
 use am_cli::reader::{Object, Reader};
 use am_model::config::MAX_RULES;
 use am_mute::inhibit::InhibitRule;

@@ -7,7 +7,6 @@
 
 pub mod alertmanager;
 pub mod dropped;
-pub mod faults;
 pub mod hours;
 mod inhibit;
 pub mod law;

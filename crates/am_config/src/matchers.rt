@@ -1,11 +1,11 @@
 //! Matchers of an `alertmanager.yml`. `route` and `inhibit` call it.
-use crate::faults::Faults;
 use crate::optional::non_null;
 use crate::scalar::matched_text_of;
 use am_alerts::limits::MAX_MATCHERS;
 use am_alerts::matcher::{Matcher, MatcherFault, MatcherParts, Operator};
 use am_alerts::text::Text;
 use am_cli::fault::{FaultKind, InputFault};
+use am_cli::faults::Faults;
 use am_cli::matcher_text::parts_of_text;
 use am_cli::reader::{Object, Reader};
 use serde_json::Value;

@@ -1,7 +1,7 @@
 //! Fields that can be absent or null. The other modules read theirs by it.
-use crate::faults::Faults;
 use am_cli::duration::{duration, interval};
 use am_cli::fault::{FaultKind, InputFault};
+use am_cli::faults::Faults;
 use am_cli::reader::{Object, Reader};
 use serde_json::Value;
 

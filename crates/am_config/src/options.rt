@@ -1,5 +1,4 @@
 //! The options of a route that the routes below it inherit. `route` calls it.
-use crate::faults::Faults;
 use crate::inhibit::label_name;
 use crate::optional::{non_null, optional_duration, optional_interval};
 use crate::route::Routing;
@@ -10,6 +9,7 @@ use am_alerts::sequence::Sequence;
 use am_alerts::text::Text;
 use am_alerts::tree::Options;
 use am_cli::fault::{FaultKind, InputFault};
+use am_cli::faults::Faults;
 use am_cli::reader::{Object, Reader};
 use serde_json::Value;
 

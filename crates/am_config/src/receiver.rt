@@ -1,11 +1,11 @@
 //! Receivers and their integrations. `alertmanager` calls it.
 use crate::dropped::IgnoredSettings;
-use crate::faults::Faults;
 use crate::optional::{flag_or, non_null, required};
 use crate::scalar::required_text;
 use am_alerts::sequence::Sequence;
 use am_alerts::text::Text;
 use am_cli::fault::{FaultKind, InputFault};
+use am_cli::faults::Faults;
 use am_cli::reader::{Object, Reader};
 use am_model::config::{Integration, MAX_INTEGRATIONS, MAX_RECEIVERS, Receiver};
 

@@ -5,7 +5,6 @@
 //! empty `group_by` below the root is none, as in Alertmanager.
 ghost use Rattle.std.specs.Prelude.{◌<◌, IfOk, IsTrue};
 
-use crate::faults::Faults;
 use crate::matchers::{MatcherMembers, read_matchers};
 use crate::names::RouteNames;
 use crate::optional::{flag_or, has_items, has_members, non_null, refuse_member, required};
@@ -18,6 +17,7 @@ use am_alerts::sequence::Sequence;
 use am_alerts::text::Text;
 use am_alerts::tree::{Node, Options, RouteSpec};
 use am_cli::fault::{FaultKind, InputFault};
+use am_cli::faults::Faults;
 use am_cli::reader::{Object, Reader};
 use std::alloc::Global;
 

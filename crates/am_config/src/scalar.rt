@@ -5,10 +5,10 @@
 //! those. The text of other numbers and of flags isn't known any more (`True` is a flag too), so they
 //! are refused. In `match` and `match_re` the reader of YAML keeps each text itself; there a flag is
 //! one of JSON, which has one text.
-use crate::faults::Faults;
 use crate::optional::{non_null, required};
 use am_alerts::text::Text;
 use am_cli::fault::InputFault;
+use am_cli::faults::Faults;
 use am_cli::reader::{Object, Reader};
 use serde_json::Value;
 use std::alloc::{AllocError, Global};

@@ -3,13 +3,13 @@
 //!
 //! The old list `mute_time_intervals` is read first. The names of both are one set. Where there are
 //! clocks each name's spans are found once, and routes that list the same names share theirs.
-use crate::faults::Faults;
 use crate::hours::{Clocks, Hours, Placed, may_be_zone};
 use crate::optional::{items_up_to, non_null, refuse_member};
 use crate::scalar::{optional_text, required_text, text_of};
 use am_alerts::spans::Spans;
 use am_alerts::text::Text;
 use am_cli::fault::{FaultKind, InputFault};
+use am_cli::faults::Faults;
 use am_cli::reader::{Object, Reader};
 use am_hours::fault::HoursFault;
 use am_hours::interval::{Interval, TimeRange};

@@ -5,7 +5,7 @@ use am_alerts::limits::{
 use am_cli::fault::FaultKind;
 use am_command::explain::{Bounds, Wrong};
 use am_model::config::{MAX_INTEGRATIONS, MAX_RECEIVERS, MAX_RULES};
-use am_rehearsal::MAX_UNTIL;
+use am_terms::rehearsal::MAX_UNTIL;
 
 /// How many milliseconds a day has.
 const DAY: u64 = 86_400_000;

@@ -6,12 +6,11 @@ use crate::story_words::explain_story;
 use crate::time_words::explain_times;
 use am_cli::device::StandardInput;
 use am_cli::fault::{FaultKind, InputFault};
+use am_cli::faults::{Fault, Faults, Refusal};
 use am_cli::transfer::write_all;
 use am_command::complaint::Complaint;
 use am_command::explain::{Wrong, explain};
 use am_command::request::{FaultFormat, STANDARD_INPUT};
-use am_config::dropped::IgnoredSettings;
-use am_config::faults::{Fault, Faults, Refusal};
 use am_yaml::document::{DocumentFault, read_document};
 use am_yaml::fault::YamlFault;
 use am_yaml::locate::{Part, locate};
@@ -62,14 +61,6 @@ pub fn shown(path: &str) -> &str {
         "<stdin>"
     } else {
         path
-    }
-}
-
-/// Says what of a configuration is ignored, if something is.
-pub fn say_ignored<R: Eprint>(rt: &R, path: &str, ignored: IgnoredSettings) {
-    if ignored.is_something() {
-        let file = shown(path);
-        let _ = eprintln!(rt; "{file}: ignored: {ignored}");
     }
 }
 

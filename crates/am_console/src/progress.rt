@@ -1,6 +1,6 @@
 //! `Progress`: a line on standard error that counts simulated time while a long run goes on.
 use am_command::durations::push_duration;
-use am_rehearsal::watch::Watch;
+use am_terms::watch::Watch;
 use std::time::Clock;
 
 /// After how many steps the clock is looked at.

@@ -2,7 +2,8 @@
 use am_alerts::duration::read_duration;
 use am_alerts::limits::MAX_MATCHERS;
 use am_cli::fault::{FaultKind, InputFault};
-use am_input::causes::{Cause, cause_of_matchers, cause_of_set};
+use am_plans::causes::{Cause, cause_of_matchers, cause_of_set};
+use am_plans::expectation::MAX_EXPECTATIONS;
 use serde_json::Value;
 use std::alloc::{AllocError, Global};
 
@@ -31,6 +32,11 @@ pub fn explain_story(
 ) -> Result<Option<String>, AllocError> {
     if pointer == "/output" && is_page(story) {
         return Ok(Some(String::from_str(alloc, PAGE_HAS_NO_LINES)?));
+    }
+    if pointer == "/expect" && fault_kind == FaultKind::BadValue {
+        return Ok(Some(format!(in alloc;
+            "there are too many expectations: at most {MAX_EXPECTATIONS}"
+        )?));
     }
     match field_at(story, pointer) {
         None => Ok(None),

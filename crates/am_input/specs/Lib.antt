@@ -1,10 +1,4 @@
 -- what a rehearsal asks for
 pub mod Request
--- what the members of an expectation say
-pub mod Expected
--- what the JSON values of a story's alerts, silences and outages tell
-pub mod Decoding
--- what the alerts and the silences of a story plan
-pub mod Planned
 -- under which configuration a story is played
 pub mod Configured

@@ -12,10 +12,10 @@ use Rattle.am_terms.specs.declared.expectation.Expectation.{Expectation}
 use Rattle.am_terms.specs.UtcDates.{IsReadFrom, StartData, dated}
 use Rattle.am_terms.specs.TimeFormatData.{TimeFormatData, counted}
 use Rattle.am_input.specs.Configured.{IsConfigFor, file_in}
-use Rattle.am_input.specs.Decoding.{DecodesToOutage}
-use Rattle.am_input.specs.Expected.{AreExpectedIn, last_end, until_in}
-use Rattle.am_input.specs.Planned.{ArePlannedIn}
-use Rattle.am_rehearsal.specs.declared.rehearsal.Rehearsal.{Rehearsal}
+use Rattle.am_plans.specs.Decoding.{DecodesToOutage}
+use Rattle.am_plans.specs.Expected.{AreExpectedIn, last_end, until_in}
+use Rattle.am_plans.specs.Planned.{ArePlannedIn}
+use Rattle.am_terms.specs.declared.rehearsal.Rehearsal.{Rehearsal}
 use Rattle.am_input.specs.declared.input.TheConstants.{MAINTAIN}
 use Rattle.am_input.specs.declared.input.Output.{Output}
 use Rattle.am_input.specs.declared.input.Changes.{Changes}

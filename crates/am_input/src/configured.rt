@@ -7,14 +7,14 @@ ghost use Rattle.am_input.specs.Configured.{IsConfigFor, IsConfigIn, IsConfigOf,
 use crate::form::{Form, alertmanager_in, form_of};
 use crate::hours::read_hours;
 use crate::zone_files::ZoneFiles;
-use am_board::config::Config;
 use am_cli::config::read_config;
 use am_cli::fault::{FaultKind, InputFault};
+use am_cli::faults::Refusal;
 use am_cli::reader::{Object, Reader};
 use am_config::alertmanager::read_alertmanager;
 use am_config::dropped::IgnoredSettings;
-use am_config::faults::Refusal;
 use am_config::hours::Hours;
+use am_model::config::Config;
 use serde_json::Value;
 use std::alloc::Global;
 

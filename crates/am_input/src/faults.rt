@@ -1,21 +1,21 @@
 //! All faults of a story.
-use crate::alert::AlertItem;
 use crate::configured::{Configured, read_configured};
-use crate::expectation::expectation_faults;
 use crate::hours::check_start;
-use crate::input::{MEMBERS, Overrides, read_maintain, read_output, read_plans, read_until};
+use crate::input::{MEMBERS, Overrides, read_maintain, read_output, read_until};
 use crate::moment;
-use crate::outage::OutageItem;
-use crate::silence::SilenceItem;
-use crate::target::check;
 use crate::zone_files::ZoneFiles;
 use crate::zones::read_zones;
-use am_board::config::Config;
 use am_cli::fault::InputFault;
+use am_cli::faults::{Faults, Refusal};
 use am_cli::reader::{FromJson, Object, Reader};
-use am_config::faults::{Faults, Refusal};
-use am_rehearsal::MAX_UNTIL;
-use am_rehearsal::rehearsal::TimedAction;
+use am_model::config::Config;
+use am_plans::alert::AlertItem;
+use am_plans::expectation::expectation_faults;
+use am_plans::outage::OutageItem;
+use am_plans::planned::read_plans;
+use am_plans::silence::SilenceItem;
+use am_plans::target::check;
+use am_terms::rehearsal::{MAX_UNTIL, TimedAction};
 use serde_json::Value;
 use std::alloc::Global;
 

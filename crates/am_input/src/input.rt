@@ -12,36 +12,33 @@ ghost use Rattle.std.specs.Prelude.{◌≡◌, ◌≤◌, ◌<◌, [], IfOk, Som
 ghost use Rattle.std.specs.Result.{result_ok};
 ghost use Rattle.serde_json.specs.Find.{get_member};
 ghost use Rattle.serde_json.specs.View.{members_view, view};
-ghost use Rattle.am_rehearsal.specs.declared.limits.TheConstants.{MAX_UNTIL};
+ghost use Rattle.am_terms.specs.declared.rehearsal.TheConstants.{MAX_UNTIL};
 ghost use Rattle.am_cli.specs.Decoding.{HasOr, IsList};
 ghost use Rattle.am_input.specs.Configured.{IsConfigFor, file_in};
-ghost use Rattle.am_input.specs.Decoding.{DecodesToOutage};
-ghost use Rattle.am_input.specs.Expected.{AreExpectedIn, last_end};
-ghost use Rattle.am_input.specs.Planned.{ArePlannedIn};
+ghost use Rattle.am_plans.specs.Decoding.{DecodesToOutage};
+ghost use Rattle.am_plans.specs.Expected.{AreExpectedIn, last_end};
+ghost use Rattle.am_plans.specs.Planned.{ArePlannedIn};
 ghost use Rattle.am_input.specs.Request.{DecodesToStart, Requests, IsRequestIn, end_for, maintain_in, output_for};
 
-use crate::alert::AlertItem;
 use crate::configured::{Configured, read_configured};
-use crate::expectation::read_expectations;
 use crate::hours::check_start;
-use crate::origin::Origin;
-use crate::outage::{OutageItem, outages_of};
-use crate::silence::SilenceItem;
-use crate::target::check;
+use crate::moment;
 use crate::zone_files::ZoneFiles;
 use crate::zones::read_zones;
-use crate::{moment, planned};
-use am_board::config::Config;
 use am_cli::duration::{duration, interval};
 use am_cli::fault::{FaultKind, InputFault};
+use am_cli::faults::Refusal;
 use am_cli::place::JsonPointer;
 use am_cli::reader::{Object, Reader};
 use am_config::dropped::IgnoredSettings;
-use am_config::faults::Refusal;
-use am_rehearsal::MAX_UNTIL;
-use am_rehearsal::rehearsal::{Outage, Rehearsal, TimedAction};
+use am_model::config::Config;
+use am_plans::expectation::read_expectations;
+use am_plans::origin::Origin;
+use am_plans::outage::read_outages;
+use am_plans::planned::read_plans;
 use am_terms::dated::UtcDates;
 use am_terms::expectation::Expectation;
+use am_terms::rehearsal::{MAX_UNTIL, Rehearsal};
 use serde_json::Value;
 use std::alloc::Global;
 
@@ -224,17 +221,6 @@ fn read_rehearsal(
     Ok((rehearsal, origins))
 }
 
-/// Reads the planned actions, in the order of their times, and where each is in the input.
-pub(crate) fn read_plans(
-    top: &Object<'_, '_>,
-) -> Result<(Vec<TimedAction>, Vec<Origin>), InputFault>
-    ensures { IfOk result (λ read. ArePlannedIn top.now.dialect (members_view top.now.members) read.0.items) }
-{
-    let alerts = top.list_or_none::<AlertItem>("alerts")?;
-    let silences = top.list_or_none::<SilenceItem>("silences")?;
-    Ok(planned::in_order(top.alloc(), alerts, silences)?)
-}
-
 /// The time between two maintenances, in milliseconds.
 pub(crate) fn read_maintain(top: &Object<'_, '_>) -> Result<u64, InputFault>
     ensures value { result_ok result ≡ maintain_in (get_member (codes "maintain") (members_view top.now.members)) }
@@ -271,32 +257,6 @@ fn end_of(top: &Object<'_, '_>, asked: Option<u64>) -> Result<u64, InputFault>
         Some(until) => Ok(until),
         None => duration(&top.required("until")?),
     }
-}
-
-/// Reads the outages, whose receivers and integrations the configuration has.
-fn read_outages(top: &Object<'_, '_>, config: &Config) -> Result<Vec<Outage>, InputFault>
-    ensures { IfOk result (λ outages.
-        HasOr (IsList DecodesToOutage) [] (codes "outages") (members_view top.now.members) outages.items) }
-{
-    let items = top.list_or_none::<OutageItem>("outages")?;
-    let outages = outages_of(top.alloc(), items)?;
-    check_outages(top.alloc(), config, outages.as_slice())?;
-    Ok(outages)
-}
-
-/// Refuses the first outage whose receiver or integration the configuration hasn't.
-fn check_outages(alloc: Global, config: &Config, outages: &[Outage]) -> Result<(), InputFault> {
-    for (index, outage) in outages.iter().enumerate() {
-        let place = JsonPointer::Root;
-        check(
-            alloc,
-            config,
-            outage.receiver.as_str(),
-            outage.integration,
-            place.member("outages").item(index),
-        )?;
-    }
-    Ok(())
 }
 
 /// What is printed, as the command line says it, or else the member; the timeline, where it isn't said.

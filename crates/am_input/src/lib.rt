@@ -5,20 +5,11 @@
 //! `story_faults` goes over a refused story once more and lists all of its faults.
 #![tactic(auto)]
 
-mod alert;
-pub mod causes;
 pub mod configured;
-mod expectation;
 pub mod faults;
 pub mod form;
 mod hours;
 pub mod input;
 mod moment;
-pub mod origin;
-mod outage;
-mod planned;
-mod silence;
-mod span;
-mod target;
 pub mod zone_files;
 mod zones;

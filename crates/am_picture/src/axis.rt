@@ -5,9 +5,9 @@ use crate::escape::push_escaped;
 use crate::pen::{LEFT, WIDTH, push_place};
 use crate::scene::Scene;
 use crate::ticks::Ticks;
-use am_board::record::Call;
-use am_rehearsal::event::Event;
+use am_model::record::Call;
 use am_terms::clock::TimeFormat;
+use am_terms::event::Event;
 use std::alloc::{AllocError, Global};
 
 /// The milliseconds of a day.

@@ -2,9 +2,9 @@
 use crate::span::{Span, end_or_add, is_open};
 use am_alerts::alert::Alert;
 use am_alerts::labels::Labels;
-use am_board::group::GroupName;
-use am_board::preview::{MutedAlert, Preview};
-use am_board::reason::Reason;
+use am_model::group::GroupName;
+use am_model::preview::{MutedAlert, Preview};
+use am_model::reason::Reason;
 use std::alloc::{AllocError, Global};
 
 /// How many alerts of a group have a row each; those that come later share one.

@@ -10,12 +10,12 @@ use crate::lane::{Kind, Lane, Mark};
 use crate::scene::Scene;
 use am_alerts::alert::Alert;
 use am_alerts::labels::Labels;
-use am_board::config::Config;
-use am_board::group::GroupName;
-use am_board::notice::Report;
-use am_board::record::Call;
-use am_rehearsal::event::{Event, PreviewedBegin};
+use am_model::config::Config;
+use am_model::group::GroupName;
+use am_model::notice::Report;
+use am_model::record::Call;
 use am_terms::clock::TimeFormat;
+use am_terms::event::{Event, PreviewedBegin};
 use std::alloc::{AllocError, Global};
 use std::collections::HashMap;
 

@@ -2,8 +2,8 @@
 use crate::escape::{push_cut, push_escaped};
 use crate::pen::push_count;
 use am_alerts::labels::Labels;
-use am_board::config::Config;
-use am_board::group::GroupName;
+use am_model::config::Config;
+use am_model::group::GroupName;
 use std::alloc::{AllocError, Global};
 
 /// How many characters of a row's name are shown.

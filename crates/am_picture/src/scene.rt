@@ -1,8 +1,8 @@
 //! `Scene`: what a picture is drawn from. `am_rehearse` makes one.
-use am_board::config::Config;
-use am_board::record::Record;
-use am_rehearsal::event::{Event, PreviewedBegin};
+use am_model::config::Config;
+use am_model::record::Record;
 use am_terms::clock::TimeFormat;
+use am_terms::event::{Event, PreviewedBegin};
 use am_timeline::logbook::Logbook;
 use am_timeline::notices::notices_text;
 use am_timeline::playback::Playback;

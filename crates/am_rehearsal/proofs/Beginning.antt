@@ -11,7 +11,7 @@ use Rattle.am_rehearsal.specs.EventOrder.{begin_indices}
 use Rattle.am_rehearsal.specs.Scene.{Scene, SendingData, Setting}
 use Rattle.am_rehearsal.specs.Steps.{IsBegun, IsDone, IsReplied, IsSendingAdded, after_taking}
 use Rattle.am_rehearsal.specs.Taking.{IsBeginBy, IsTaken, why_not}
-use Rattle.am_rehearsal.specs.declared.event.Event.{Event}
+use Rattle.am_terms.specs.declared.event.Event.{Event}
 use Rattle.am_rehearsal.specs.declared.next.Step.TheVariants as step
 use Rattle.am_rehearsal.specs.declared.taken.Taken.TheVariants.{Flush, Nothing, Quiet}
 

@@ -29,7 +29,7 @@ use Rattle.am_pool.specs.Sendings.{note_at}
 use Rattle.am_rehearsal.specs.Previews.{takes_group}
 use Rattle.am_rehearsal.specs.Steps.{with_call, with_note}
 use Rattle.am_rehearsal.specs.Taking.{IsBeginBy, IsOwn, IsTaken, begun_events, begun_where}
-use Rattle.am_rehearsal.specs.declared.event.Event.{Event}
+use Rattle.am_terms.specs.declared.event.Event.{Event}
 use Rattle.am_rehearsal.specs.declared.taken.Taken.{Taken}
 use Rattle.am_rehearsal.specs.declared.taken.Taken.TheVariants.{Flush}
 

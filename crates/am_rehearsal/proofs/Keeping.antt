@@ -30,15 +30,15 @@ use Rattle.am_rehearsal.specs.Play.{PlaysTo, LeadsIn}
 use Rattle.am_rehearsal.specs.Scene.{Scene, SendingData, Setting, opening_scene}
 use Rattle.am_rehearsal.specs.Steps.{IsBegun, IsDone, IsPlanDone, IsReplied, Steps, after_end, after_finish, is_success, with_call, with_note, with_report}
 use Rattle.am_rehearsal.specs.Taking.{why_not}
-use Rattle.am_rehearsal.specs.declared.event.Event.{Event}
+use Rattle.am_terms.specs.declared.event.Event.{Event}
 use Rattle.am_rehearsal.specs.declared.limits.TheConstants.{BOARD_ID}
 use Rattle.am_rehearsal.specs.declared.next.End.{End}
 use Rattle.am_rehearsal.specs.declared.next.Next.{Next}
 use Rattle.am_rehearsal.specs.declared.next.Step.{Step}
 use Rattle.am_rehearsal.specs.declared.next.Step.TheVariants as step
-use Rattle.am_rehearsal.specs.declared.rehearsal.Action.{Action}
-use Rattle.am_rehearsal.specs.declared.rehearsal.Action.TheVariants.{Insert, Silence}
-use Rattle.am_rehearsal.specs.declared.rehearsal.TimedAction.{TimedAction}
+use Rattle.am_terms.specs.declared.rehearsal.Action.{Action}
+use Rattle.am_terms.specs.declared.rehearsal.Action.TheVariants.{Insert, Silence}
+use Rattle.am_terms.specs.declared.rehearsal.TimedAction.{TimedAction}
 use Rattle.am_rehearsal.proofs.Coming.{next_none, next_there}
 use Rattle.am_rehearsal.proofs.Doing.{acted_of-input_trace, config_of-input_trace, input_trace-more, input_trace-opening, input_trace-same}
 

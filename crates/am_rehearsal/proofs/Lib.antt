@@ -14,8 +14,6 @@ pub mod Ends
 pub mod Happening
 -- what each step keeps: the configuration, and what is done and left of the plans
 pub mod Keeping
--- lists of flushes in flight, one after the other
-pub mod Listing
 -- a rehearsal has one play
 pub mod OnePlay
 -- the scene with which a rehearsal starts

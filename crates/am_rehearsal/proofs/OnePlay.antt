@@ -27,7 +27,7 @@ use Rattle.am_rehearsal.specs.declared.next.End.{End}
 use Rattle.am_rehearsal.specs.declared.next.Next.{Next}
 use Rattle.am_rehearsal.specs.declared.next.Step.{Step}
 use Rattle.am_rehearsal.specs.declared.next.Step.TheVariants as step
-use Rattle.am_rehearsal.specs.declared.rehearsal.TimedAction.{TimedAction}
+use Rattle.am_terms.specs.declared.rehearsal.TimedAction.{TimedAction}
 
 -- what follows from two facts of a value
 both_some : {X : Type 0} (o : Option X) (P Q : X → Type 0) (R : Type 0) → ((x : X) → P x → Q x → R) → IsSomeAnd o P → IsSomeAnd o Q → R

@@ -2,8 +2,8 @@
 use Rattle.std.proofs.Common.{◌≡◌, ℕ, Bool, List}
 use Rattle.am_board.specs.History.{BoardData}
 use Rattle.am_rehearsal.specs.Scene.{Scene, SendingData}
-use Rattle.am_rehearsal.specs.declared.event.Event.{Event}
-use Rattle.am_rehearsal.specs.declared.rehearsal.TimedAction.{TimedAction}
+use Rattle.am_terms.specs.declared.event.Event.{Event}
+use Rattle.am_terms.specs.declared.rehearsal.TimedAction.{TimedAction}
 
 -- the scene of these parts
 abbrev pub scene_of : BoardData → List Event → List TimedAction → List SendingData → ℕ → ℕ → Bool → Bool → Scene

@@ -8,7 +8,7 @@ use Rattle.am_model.specs.declared.record.Record.{Record}
 use Rattle.am_model.specs.look_back.Preview.{preview}
 use Rattle.am_model.specs.Records.{now_of}
 use Rattle.am_rehearsal.specs.Previews.{takes_group, preview_where, previews_of}
-use Rattle.am_rehearsal.specs.declared.event.PreviewedBegin.{PreviewedBegin}
+use Rattle.am_terms.specs.declared.event.PreviewedBegin.{PreviewedBegin}
 use Rattle.am_rehearsal.proofs.Telling.{previews-more}
 
 -- the board has this id, and these are what its begins were to do

@@ -16,12 +16,12 @@ use Rattle.am_rehearsal.specs.Planned.{call_of}
 use Rattle.am_rehearsal.specs.Play.{Reaches}
 use Rattle.am_rehearsal.specs.Scene.{Scene, SendingData, Setting}
 use Rattle.am_rehearsal.specs.Steps.{IsDone, IsPlanDone, IsSendingAdded, Steps, after_end, after_end_of, after_finish, after_maintenance, after_plan, answers_for, is_success, sent_events, with_call, with_note, with_report}
-use Rattle.am_rehearsal.specs.declared.event.Event.{Event}
+use Rattle.am_terms.specs.declared.event.Event.{Event}
 use Rattle.am_rehearsal.specs.declared.next.End.{End}
 use Rattle.am_rehearsal.specs.declared.next.Next.{Next}
 use Rattle.am_rehearsal.specs.declared.next.Step.{Step}
 use Rattle.am_rehearsal.specs.declared.next.Step.TheVariants as step
-use Rattle.am_rehearsal.specs.declared.rehearsal.TimedAction.{TimedAction}
+use Rattle.am_terms.specs.declared.rehearsal.TimedAction.{TimedAction}
 
 module _ (r : Setting) (c : Scene) (n : Next) (what : Step) (comes : next r c ≡ Some n) (is : n.what ≡ what) where
   -- what it is about is there

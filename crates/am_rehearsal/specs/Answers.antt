@@ -8,7 +8,7 @@ use Rattle.am_retry.specs.declared.outcome.Answer.TheVariants.{Done}
 use Rattle.am_pool.specs.Sendings.{IsAnsweredBy, IsSentFrom, end_on, later}
 use Rattle.am_pool.specs.declared.courier.Sent.{Sent}
 use Rattle.am_rehearsal.specs.declared.next.End.{End}
-use Rattle.am_rehearsal.specs.declared.rehearsal.Outage.{Outage}
+use Rattle.am_terms.specs.declared.rehearsal.Outage.{Outage}
 
 -- whether an outage of one integration, or of all, is of this one
 abbrev pub is_for : ℕ → Option ℕ → Bool

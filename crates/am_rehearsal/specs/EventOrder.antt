@@ -1,8 +1,8 @@
 -- EventOrder: what the events of a rehearsal say of its begins.
 use Rattle.std.specs.Prelude.{ℕ, List, Option, Some, None}
 use Rattle.std.specs.List.{filter_map}
-use Rattle.am_rehearsal.specs.declared.event.Event.{Event}
-use Rattle.am_rehearsal.specs.declared.event.Event.TheVariants.{Begun, Sent}
+use Rattle.am_terms.specs.declared.event.Event.{Event}
+use Rattle.am_terms.specs.declared.event.Event.TheVariants.{Begun, Sent}
 
 -- the place of the begin that an event tells of, if it tells of one
 abbrev pub begin_index_of : Event → Option ℕ

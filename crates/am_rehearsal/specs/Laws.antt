@@ -4,8 +4,8 @@ use Rattle.am_model.specs.declared.config.Config.{Config}
 use Rattle.am_board.specs.History.{BoardData}
 use Rattle.am_rehearsal.specs.Play.{PlaysTo}
 use Rattle.am_rehearsal.specs.Scene.{Setting}
-use Rattle.am_rehearsal.specs.declared.event.Event.{Event}
-use Rattle.am_rehearsal.specs.declared.rehearsal.TimedAction.{TimedAction}
+use Rattle.am_terms.specs.declared.event.Event.{Event}
+use Rattle.am_terms.specs.declared.rehearsal.TimedAction.{TimedAction}
 
 -- law: a rehearsal plays to one board and one list of events
 abbrev pub RehearsalsHaveOnePlay : Type 0

@@ -7,9 +7,9 @@ use Rattle.am_model.specs.declared.record.Call.TheVariants as call
 use Rattle.am_model.specs.declared.record.Record.{Record}
 use Rattle.am_model.specs.Records.{call_of_silence}
 use Rattle.am_board.specs.History.{BoardData}
-use Rattle.am_rehearsal.specs.declared.rehearsal.Action.{Action}
-use Rattle.am_rehearsal.specs.declared.rehearsal.Action.TheVariants.{Insert, Silence}
-use Rattle.am_rehearsal.specs.declared.rehearsal.TimedAction.{TimedAction}
+use Rattle.am_terms.specs.declared.rehearsal.Action.{Action}
+use Rattle.am_terms.specs.declared.rehearsal.Action.TheVariants.{Insert, Silence}
+use Rattle.am_terms.specs.declared.rehearsal.TimedAction.{TimedAction}
 
 -- a call, if it is one that is planned: an insert or a silence
 abbrev pub input_of : Call → Option Call

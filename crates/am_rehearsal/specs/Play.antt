@@ -5,9 +5,9 @@ use Rattle.am_board.specs.History.{BoardData}
 use Rattle.am_rehearsal.specs.Next.{next}
 use Rattle.am_rehearsal.specs.Scene.{Scene, Setting, opening_scene, setting_with}
 use Rattle.am_rehearsal.specs.Steps.{Steps}
-use Rattle.am_rehearsal.specs.declared.event.Event.{Event}
-use Rattle.am_rehearsal.specs.declared.rehearsal.Rehearsal.{Rehearsal}
-use Rattle.am_rehearsal.specs.declared.rehearsal.TimedAction.{TimedAction}
+use Rattle.am_terms.specs.declared.event.Event.{Event}
+use Rattle.am_terms.specs.declared.rehearsal.Rehearsal.{Rehearsal}
+use Rattle.am_terms.specs.declared.rehearsal.TimedAction.{TimedAction}
 
 -- so many steps lead from one scene to another
 abbrev pub LeadsIn : Setting → ℕ → Scene → Scene → Type 0

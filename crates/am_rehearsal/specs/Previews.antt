@@ -7,7 +7,7 @@ use Rattle.am_model.specs.declared.record.Reply.{Reply}
 use Rattle.am_model.specs.declared.record.Reply.TheVariants.{Inserted, Silenced, NothingDue, Quiet, Flush, Finished, Maintained, Noted}
 use Rattle.am_model.specs.look_back.Preview.{preview}
 use Rattle.am_model.specs.Records.{now_of}
-use Rattle.am_rehearsal.specs.declared.event.PreviewedBegin.{PreviewedBegin}
+use Rattle.am_terms.specs.declared.event.PreviewedBegin.{PreviewedBegin}
 
 -- whether a reply is that of a begin that took a group
 abbrev pub takes_group : Reply → Bool

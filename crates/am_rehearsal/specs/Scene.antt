@@ -3,11 +3,11 @@ use Rattle.std.specs.Prelude.{ℕ, Bool, false, List, []}
 use Rattle.am_model.specs.declared.config.Config.{Config}
 use Rattle.am_model.specs.Ticket.{TicketData}
 use Rattle.am_board.specs.History.{BoardData, opening}
-use Rattle.am_rehearsal.specs.declared.event.Event.{Event}
+use Rattle.am_terms.specs.declared.event.Event.{Event}
 use Rattle.am_rehearsal.specs.declared.limits.TheConstants.{BOARD_ID}
 use Rattle.am_rehearsal.specs.declared.next.End.{End}
-use Rattle.am_rehearsal.specs.declared.rehearsal.Outage.{Outage}
-use Rattle.am_rehearsal.specs.declared.rehearsal.TimedAction.{TimedAction}
+use Rattle.am_terms.specs.declared.rehearsal.Outage.{Outage}
+use Rattle.am_terms.specs.declared.rehearsal.TimedAction.{TimedAction}
 
 -- what doesn't change in a rehearsal: its end, the time between two maintenances, and its outages
 pub record Setting : Type 0 where

@@ -15,8 +15,8 @@ use Rattle.am_board.specs.declared.begin.Begun.{Begun as Answer}
 use Rattle.am_board.specs.declared.begin.Begun.TheVariants as answer
 use Rattle.am_rehearsal.specs.EventOrder.{begin_indices}
 use Rattle.am_rehearsal.specs.Previews.{takes_group}
-use Rattle.am_rehearsal.specs.declared.event.Event.{Event}
-use Rattle.am_rehearsal.specs.declared.event.Event.TheVariants.{Begun}
+use Rattle.am_terms.specs.declared.event.Event.{Event}
+use Rattle.am_terms.specs.declared.event.Event.TheVariants.{Begun}
 use Rattle.am_rehearsal.specs.declared.taken.Taken.{Taken}
 use Rattle.am_rehearsal.specs.declared.taken.Taken.TheVariants.{Nothing, Quiet, Flush}
 

@@ -7,18 +7,18 @@ ghost use Rattle.std.specs.Prelude.{◌≡◌, All, find, option_copied};
 ghost use Rattle.am_pool.specs.Sendings.{IsAnsweredBy};
 ghost use Rattle.am_rehearsal.specs.Answers.{answer_of, covers, is_for, is_over, sent_by};
 
-use crate::rehearsal::Outage;
 use am_alerts::text::Text;
 use am_board::notice::Notice;
 use am_pool::{AttemptTrace, Courier, Sent, Tried};
 use am_retry::Answer;
+use am_terms::rehearsal::Outage;
 use std::alloc::AllocError;
 use std::marker::{Brand, PhantomData};
 
 /// Names the outages of one rehearsal and a receiver in proofs. It has no functions.
 pub(crate) trait Outages {
     ghost use Rattle.std.specs.Prelude.{ℕ, List};
-    ghost use Rattle.am_rehearsal.specs.declared.rehearsal.Outage.{Outage};
+    ghost use Rattle.am_terms.specs.declared.rehearsal.Outage.{Outage};
 
     ghost outages: { List Outage };
 
@@ -90,19 +90,17 @@ fn first_covering<'o>(
 {
     outages
         .iter()
-        .find(|outage| outage.covers(receiver, integration, at))
+        .find(|outage| covers(outage, receiver, integration, at))
 }
 
-impl Outage {
-    /// Returns whether it covers an attempt at `at` for this integration of this receiver.
-    fn covers(&self, receiver: &Text, integration: u32, at: u64) -> bool
-        ensures { result ≡ covers receiver.now integration at self.now }
-    {
-        let is_asked = is_for(integration, self.integration);
-        let is_past = is_over(at, self.to);
-        let is_same = self.receiver == *receiver;
-        is_asked && self.from <= at && !is_past && is_same
-    }
+/// Returns whether an outage covers an attempt at `at` for this integration of this receiver.
+fn covers(outage: &Outage, receiver: &Text, integration: u32, at: u64) -> bool
+    ensures { result ≡ covers receiver.now integration at outage.now }
+{
+    let is_asked = is_for(integration, outage.integration);
+    let is_past = is_over(at, outage.to);
+    let is_same = outage.receiver == *receiver;
+    is_asked && outage.from <= at && !is_past && is_same
 }
 
 /// Returns whether an outage of one integration, or of all, is of this one.

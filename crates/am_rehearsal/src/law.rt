@@ -1,7 +1,8 @@
 //! The limits of a rehearsal, and that it has one play, as laws that verifiers read.
 ghost use Rattle.std.specs.Prelude.{◌≡◌};
 ghost use Rattle.am_rehearsal.specs.Laws.{RehearsalsHaveOnePlay};
-ghost use Rattle.am_rehearsal.specs.declared.limits.TheConstants.{BOARD_ID, MAX_UNTIL};
+ghost use Rattle.am_rehearsal.specs.declared.limits.TheConstants.{BOARD_ID};
+ghost use Rattle.am_terms.specs.declared.rehearsal.TheConstants.{MAX_UNTIL};
 
 /// States the latest end of a rehearsal, and the id of its board.
 pub fn limits_are()

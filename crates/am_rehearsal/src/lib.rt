@@ -5,16 +5,13 @@
 #![tactic(auto)]
 
 mod courier;
-pub mod event;
 mod law;
 mod limits;
 mod next;
 pub mod play;
 mod previewing;
-pub mod rehearsal;
 mod sending;
 mod taken;
-pub mod watch;
 
 pub use law::{limits_are, rehearsals_have_one_play};
-pub use limits::{BOARD_ID, MAX_UNTIL};
+pub use limits::BOARD_ID;

@@ -22,23 +22,24 @@ ghost use Rattle.am_rehearsal.specs.Play.{setting_of, PlaysTo, Reaches};
 ghost use Rattle.am_rehearsal.specs.Previews.{previews_of};
 ghost use Rattle.am_rehearsal.specs.Scene.{opening_scene, setting_with};
 ghost use Rattle.am_rehearsal.specs.Steps.{after_plan, is_success, sent_events, with_note, with_report, IsDone, IsSendingAdded, Steps};
-ghost use Rattle.am_rehearsal.specs.declared.limits.TheConstants.{BOARD_ID, MAX_UNTIL};
+ghost use Rattle.am_rehearsal.specs.declared.limits.TheConstants.{BOARD_ID};
+ghost use Rattle.am_terms.specs.declared.rehearsal.TheConstants.{MAX_UNTIL};
 ghost use Rattle.am_rehearsal.specs.declared.next.Step.TheVariants as step;
 
-use crate::event::{Event, PreviewedBegin};
 use crate::limits::BOARD_ID;
 use crate::next::{End, Next, Step, comes_by, earlier, in_time};
 use crate::previewing::PreviewingBoard;
-use crate::rehearsal::{Outage, Rehearsal, TimedAction};
 use crate::sending::{Sending, ends_of, next_end, next_finish};
 use crate::taken::Taken;
-use crate::watch::Watch;
 use am_board::board::Board;
 use am_board::config::Config;
 use am_board::fault::{BoardFault, Fault};
 use am_board::notice::Report;
 use am_board::own_ticket::OwnTicket;
 use am_retry::Outcome;
+use am_terms::event::{Event, PreviewedBegin};
+use am_terms::rehearsal::{Outage, Rehearsal, TimedAction};
+use am_terms::watch::Watch;
 use std::alloc::{AllocError, Global};
 use std::collections::VecDeque;
 use std::marker::Brand;
@@ -213,7 +214,7 @@ impl<'o> Course<'o> {
         ensures { result ≡ next_but_begins (setting_in self.now) (scene_in self.now) }
     {
         let sendings = self.sendings.as_slice();
-        let over = earlier(next_end(0, sendings), next_finish(self.clock, 0, sendings));
+        let over = earlier(next_end(sendings), next_finish(self.clock, 0, sendings));
         let maintenance = in_time(self.until, self.next_maintenance, Step::Maintenance);
         earlier(over, earlier(self.next_plan(), maintenance))
     }

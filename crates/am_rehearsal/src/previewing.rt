@@ -15,12 +15,10 @@ ghost use Rattle.am_rehearsal.specs.Planned.{call_of, input_trace, no_inputs, wi
 ghost use Rattle.am_rehearsal.specs.Previews.{takes_group, previews_of, preview_where};
 ghost use Rattle.am_rehearsal.specs.Steps.{with_call, with_note};
 ghost use Rattle.am_rehearsal.specs.Taking.{begun_where, why_not, IsOwn, IsTaken};
-ghost use Rattle.am_rehearsal.specs.declared.event.Event.TheVariants.{Sent};
+ghost use Rattle.am_terms.specs.declared.event.Event.TheVariants.{Sent};
 ghost use Rattle.am_rehearsal.specs.declared.limits.TheConstants.{BOARD_ID};
 
-use crate::event::{Event, PreviewedBegin};
 use crate::limits::BOARD_ID;
-use crate::rehearsal::Action;
 use crate::taken::Taken;
 use am_alerts::alert::Alert;
 use am_board::begin::Begun;
@@ -31,6 +29,8 @@ use am_board::notice::Report;
 use am_board::own_ticket::OwnTicket;
 use am_board::preview::Preview;
 use am_mute::silence::Silence;
+use am_terms::event::{Event, PreviewedBegin};
+use am_terms::rehearsal::Action;
 use std::alloc::{AllocError, Global};
 
 /// The pass of each call: there is one thread.

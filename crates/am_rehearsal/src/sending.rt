@@ -9,12 +9,12 @@ ghost use Rattle.am_rehearsal.specs.Steps.{with_report};
 use crate::courier::{OutageCourier, Outages};
 use crate::limits::BOARD_ID;
 use crate::next::{End, Next, Step, earlier};
-use crate::rehearsal::Outage;
 use am_alerts::text::Text;
 use am_board::notice::{Notice, Report};
 use am_board::own_ticket::OwnTicket;
 use am_board::ticket::Ticket;
 use am_pool::deliver;
+use am_terms::rehearsal::Outage;
 use std::alloc::{AllocError, Global};
 use std::marker::Model;
 
@@ -53,19 +53,16 @@ impl Sending {
     }
 }
 
-/// Returns the first end that is still to come of these flushes, the first of which has this
-/// position. Of one time the first flush comes first, and of one flush the first place.
-pub(crate) fn next_end(position: usize, sendings: &[Sending]) -> Option<Next>
-    requires { position + length sendings.now < 2 ^ 64 }
-    ensures { result ≡ next_end position sendings.now }
+/// Returns the first end that is still to come of these flushes. Of one time the first flush comes
+/// first, and of one flush the first place.
+pub(crate) fn next_end(sendings: &[Sending]) -> Option<Next>
+    ensures { result ≡ next_end 0 sendings.now }
 {
-    match sendings.split_first() {
-        None => None,
-        Some((sending, sendings)) => earlier(
-            next_end_of(position, 0, sending.ends.as_slice()),
-            next_end(position + 1, sendings),
-        ),
+    let mut first = None;
+    for (position, sending) in sendings.iter().enumerate() {
+        first = earlier(first, next_end_of(position, 0, sending.ends.as_slice()));
     }
+    first
 }
 
 /// Returns the first of these ends of the flush at a position, the first of which has this index.

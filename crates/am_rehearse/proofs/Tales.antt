@@ -7,10 +7,10 @@ use Rattle.am_board.specs.History.{BoardData}
 use Rattle.am_model.specs.Replay.{IsLegal}
 use Rattle.am_rehearsal.specs.EventOrder.{begin_indices}
 use Rattle.am_rehearsal.specs.Previews.{previews_of}
-use Rattle.am_rehearsal.specs.declared.event.Event.{Event}
-use Rattle.am_rehearsal.specs.declared.event.PreviewedBegin.{PreviewedBegin}
+use Rattle.am_terms.specs.declared.event.Event.{Event}
+use Rattle.am_terms.specs.declared.event.PreviewedBegin.{PreviewedBegin}
 use Rattle.am_rehearsal.specs.declared.limits.TheConstants.{BOARD_ID}
-use Rattle.am_rehearsal.specs.declared.rehearsal.Rehearsal.{Rehearsal}
+use Rattle.am_terms.specs.declared.rehearsal.Rehearsal.{Rehearsal}
 use Rattle.am_rehearse.specs.declared.wanted.Wanted.{Wanted}
 use Rattle.am_terms.specs.declared.expectation.Expectation.{Expectation}
 use Rattle.am_terms.specs.UtcDates.{StartData}

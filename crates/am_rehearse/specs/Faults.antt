@@ -7,8 +7,8 @@ use Rattle.am_yaml.specs.declared.document.DocumentFault.{DocumentFault}
 use Rattle.am_yaml.specs.declared.document.DocumentFault.TheVariants as document
 use Rattle.am_cli.specs.declared.transfer.ReadFault.{ReadFault}
 use Rattle.am_cli.specs.declared.transfer.ReadFault.TheVariants as read
-use Rattle.am_config.specs.declared.faults.Refusal.{Refusal}
-use Rattle.am_config.specs.declared.faults.Refusal.TheVariants as refusal
+use Rattle.am_cli.specs.declared.faults.Refusal.{Refusal}
+use Rattle.am_cli.specs.declared.faults.Refusal.TheVariants as refusal
 use Rattle.am_rehearse.specs.declared.fault.RehearseFault.{RehearseFault}
 use Rattle.am_rehearse.specs.declared.fault.RehearseFault.TheVariants as rehearse
 

@@ -10,10 +10,10 @@ use Rattle.am_yaml.specs.Document.{IsReadAs}
 use Rattle.am_rehearsal.specs.EventOrder.{begin_indices}
 use Rattle.am_rehearsal.specs.Play.{PlaysTo, setting_of}
 use Rattle.am_rehearsal.specs.Previews.{previews_of}
-use Rattle.am_rehearsal.specs.declared.event.Event.{Event}
-use Rattle.am_rehearsal.specs.declared.event.PreviewedBegin.{PreviewedBegin}
+use Rattle.am_terms.specs.declared.event.Event.{Event}
+use Rattle.am_terms.specs.declared.event.PreviewedBegin.{PreviewedBegin}
 use Rattle.am_rehearsal.specs.declared.limits.TheConstants.{BOARD_ID}
-use Rattle.am_rehearsal.specs.declared.rehearsal.Rehearsal.{Rehearsal}
+use Rattle.am_terms.specs.declared.rehearsal.Rehearsal.{Rehearsal}
 use Rattle.am_rehearse.specs.declared.wanted.Wanted.{Wanted}
 use Rattle.am_timeline.specs.Changed.{changed}
 use Rattle.am_timeline.specs.Filtered.{filtered}

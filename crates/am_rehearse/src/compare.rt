@@ -2,21 +2,22 @@
 use crate::play::until_of;
 use crate::run::{logbook_of, play_or_refuse};
 use am_cli::fault::InputFault;
+use am_cli::faults::Refusal;
 use am_command::request::CompareRequest;
+use am_commands::faults::accept;
+use am_commands::given::given_to;
+use am_commands::ignored::say_ignored;
+use am_commands::system_zones::SystemZones;
 use am_config::dropped::IgnoredSettings;
-use am_config::faults::Refusal;
-use am_console::commands::faults::accept;
-use am_console::commands::given::given_to;
-use am_console::console::{Console, DIFFERS, Document, say_ignored};
+use am_console::console::{Console, DIFFERS, Document};
 use am_console::progress::Progress;
-use am_console::system_zones::SystemZones;
 use am_input::faults::ReceiversOf;
 use am_input::input::{Changes, Input, Overrides, read_input};
 use am_input::zone_files::ZoneFiles;
 use am_rehearsal::play::Played;
-use am_rehearsal::watch::Watch;
 use am_terms::clock::Elapsed;
 use am_terms::dated::UtcDates;
+use am_terms::watch::Watch;
 use am_timeline::comparison::{Comparison, compare_notices};
 use am_timeline::playback::Playback;
 use std::alloc::{AllocError, Global};
@@ -26,7 +27,7 @@ use std::time::Clock;
 /// A story that was played.
 #[derive(Drop)]
 struct PlayedStory {
-    played: Played,
+    played: Box<Played>,
     /// The moment of the start, if the story tells it.
     start: Option<UtcDates>,
     /// What of the configuration is ignored.
@@ -159,14 +160,12 @@ fn play_input<W: Watch>(
         output: _,
         dropped,
     } = input;
-    match play_or_refuse(alloc, rehearsal, origins.as_slice(), watch) {
-        Ok(played) => Ok(PlayedStory {
-            played,
-            start,
-            ignored: dropped,
-        }),
-        Err(fault) => Err(fault),
-    }
+    let played = play_or_refuse(alloc, rehearsal, origins.as_slice(), watch)?;
+    Ok(PlayedStory {
+        played,
+        start,
+        ignored: dropped,
+    })
 }
 
 fn compare_played(

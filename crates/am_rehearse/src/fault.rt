@@ -1,8 +1,8 @@
 //! Why a rehearsal ends without its output, or with an expectation that isn't met. `main` ends with
 //! its status.
 use am_cli::fault::{FaultKind, InputFault};
+use am_cli::faults::{Faults, Refusal};
 use am_cli::transfer::{ReadFault, Unwritable};
-use am_config::faults::{Faults, Refusal};
 use am_yaml::document::DocumentFault;
 use thiserror::Error;
 

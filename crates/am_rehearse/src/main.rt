@@ -19,10 +19,10 @@ use am_command::manual::manual;
 use am_command::request::{
     Color, CompareRequest, FaultFormat, PlayRequest, Request, StoryRequest, Style, read_request,
 };
-use am_console::commands::check::check;
-use am_console::commands::json::json;
-use am_console::commands::routes::{RoutesRequest, routes};
-use am_console::commands::story::story;
+use am_commands::check::check;
+use am_commands::json::json;
+use am_commands::routes::{RoutesRequest, routes};
+use am_commands::story::story;
 use am_console::console::{Console, NO_MEMORY, REJECTED};
 use am_console::files::PaintedOutput;
 use clap::error::ErrorKind;

@@ -7,20 +7,21 @@ use am_alerts::matcher::Matcher;
 use am_alerts::sequence::Sequence;
 use am_alerts::text::Text;
 use am_cli::fault::InputFault;
+use am_cli::faults::{Faults, Refusal};
 use am_command::request::{PlayRequest, STANDARD_INPUT};
+use am_commands::faults::faults_of;
+use am_commands::given::given_to;
+use am_commands::ignored::say_ignored;
+use am_commands::system_zones::SystemZones;
 use am_config::dropped::IgnoredSettings;
-use am_config::faults::{Faults, Refusal};
-use am_console::commands::faults::faults_of;
-use am_console::commands::given::given_to;
-use am_console::console::{Console, Document, REJECTED, UNWRITABLE, say_ignored};
+use am_console::console::{Console, Document, REJECTED, UNWRITABLE};
 use am_console::files::{FileFault, open};
 use am_console::matcher_words::{matcher_of, words_for};
 use am_console::progress::Progress;
 use am_console::story_words::PAGE_HAS_NO_LINES;
-use am_console::system_zones::SystemZones;
 use am_input::faults::ReceiversOf;
 use am_input::input::{Changes, Output, Overrides};
-use am_rehearsal::MAX_UNTIL;
+use am_terms::rehearsal::MAX_UNTIL;
 use am_timeline::filtered::Filter;
 use am_yaml::document::read_document;
 use std::fs;
@@ -53,7 +54,18 @@ fn try_play<R: Files + Eprint + AllocGlobal + Clock>(
         None => None,
         Some(path) => Some(console.read(rt, path)?),
     };
-    let config = config.as_ref();
+    play_under(rt, console, request, config.as_ref(), overrides, &wanted)
+}
+
+/// Simulates a story under the configuration that the command line names, if it names one. The error is the status.
+fn play_under<R: Files + Eprint + AllocGlobal + Clock>(
+    rt: &R,
+    console: &mut Console,
+    request: &PlayRequest<'_>,
+    config: Option<&Document<'_>>,
+    overrides: Overrides,
+    wanted: &Wanted,
+) -> Result<(), u8> {
     let changes = Changes {
         config: config.map(|document| &document.value),
         overrides,
@@ -63,7 +75,7 @@ fn try_play<R: Files + Eprint + AllocGlobal + Clock>(
         ignored: IgnoredSettings::nothing(),
         judgement: Judgement::none(rt.alloc()),
     };
-    let ended = run(rt, console, request.story, changes, &wanted, &mut report)?;
+    let ended = run(rt, console, request.story, changes, wanted, &mut report)?;
     say_ignored(rt, request.config.unwrap_or(request.story), report.ignored);
     if matches!(ended, Ok(()) | Err(RehearseFault::Unmet)) {
         say_found(rt, &report.judgement);
@@ -182,16 +194,16 @@ fn wanted_of<R: Eprint + AllocGlobal>(
         route,
         matchers: Sequence::from(matchers),
     };
-    let changes = selection.changes;
-    if request.output == Some("html") && (changes || !filter.is_empty()) {
+    let wanted = Wanted {
+        filter,
+        changes: selection.changes,
+        junit: request.junit.is_some(),
+    };
+    if request.output == Some("html") && wanted.leaves_out() {
         let _ = eprintln!(rt; "am-rehearse: {PAGE_HAS_NO_LINES}");
         return Err(REJECTED);
     }
-    Ok(Wanted {
-        filter,
-        changes,
-        junit: request.junit.is_some(),
-    })
+    Ok(wanted)
 }
 
 /// Returns a text of the command line, if there is one. The error is the status.

@@ -29,18 +29,18 @@ use am_cli::place::JsonPointer;
 use am_cli::transfer::{MAX_INPUT, read_all, write_all};
 use am_config::dropped::IgnoredSettings;
 use am_input::input::{Changes, Input, Output, read_input};
-use am_input::origin::Origin;
 use am_input::zone_files::ZoneFiles;
 use am_picture::junit::junit_text;
 use am_picture::page::page;
 use am_picture::scene::Scene;
-use am_rehearsal::event::Event;
+use am_plans::origin::Origin;
 use am_rehearsal::play::{PlayFault, Played, play};
-use am_rehearsal::rehearsal::Rehearsal;
-use am_rehearsal::watch::Watch;
 use am_terms::clock::{Elapsed, TimeFormat};
 use am_terms::dated::UtcDates;
+use am_terms::event::Event;
 use am_terms::expectation::Expectation;
+use am_terms::rehearsal::Rehearsal;
+use am_terms::watch::Watch;
 use am_timeline::changed::changed_events;
 use am_timeline::expectation::{is_met, unmet_expectations};
 use am_timeline::expectation_report::expectations_text;
@@ -237,23 +237,27 @@ fn refused_output(alloc: Global) -> InputFault {
 }
 
 /// Plays a rehearsal whose planned actions are at these places of the input.
+///
+/// What it returns is in a box: a proof of a function with a whole board in its frame takes a minute,
+/// and with two of them ten.
 pub(crate) fn play_or_refuse<W: Watch>(
     alloc: Global,
     rehearsal: Rehearsal,
     origins: &[Origin],
     watch: &mut W,
-) -> Result<Played, InputFault>
-    ensures ours { IfOk result (λ played. played.board.id ≡ BOARD_ID) }
-    ensures previews { IfOk result (λ played. played.begins.items ≡ previews_of played.board.config played.board.history) }
+) -> Result<Box<Played>, InputFault>
+    ensures ours { IfOk result (λ played. played.value.board.id ≡ BOARD_ID) }
+    ensures previews { IfOk result (λ played.
+        played.value.begins.items ≡ previews_of played.value.board.config played.value.board.history) }
     ensures begun { IfOk result (λ played.
-        begin_indices played.events.items ≡ range_with_len 0 (vec_len played.begins)) }
+        begin_indices played.value.events.items ≡ range_with_len 0 (vec_len played.value.begins)) }
     ensures played { IfOk result (λ played.
-        PlaysTo (setting_of rehearsal) rehearsal.config rehearsal.plans.items played.board played.events.items) }
+        PlaysTo (setting_of rehearsal) rehearsal.config rehearsal.plans.items played.value.board played.value.events.items) }
 {
     let ended = play(alloc, rehearsal, watch);
     watch.end();
     match ended {
-        Ok(played) => Ok(played),
+        Ok(played) => Ok(Box::new(alloc, played)?),
         Err(fault) => Err(refused(alloc, fault, origins)),
     }
 }

@@ -1,9 +1,13 @@
-//! What a story and the texts on it share: how times are shown, and what is expected. `am_input`
-//! reads a story by it, and `am_timeline` tells of one. All times are in milliseconds from the
-//! start of the rehearsal.
+//! What a story, its play and the texts on it share: what a rehearsal is made of, what happens in
+//! it, how times are shown, and what is expected. `am_input` reads a story by it, `am_rehearsal`
+//! plays it, and `am_timeline` tells of it, so each of these is proved without the others. All times
+//! are in milliseconds from the start of the rehearsal.
 #![tactic(auto)]
 
 pub mod clock;
 pub mod dated;
+pub mod event;
 pub mod expectation;
 pub mod law;
+pub mod rehearsal;
+pub mod watch;

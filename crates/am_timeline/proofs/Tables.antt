@@ -15,7 +15,7 @@ use Rattle.am_model.specs.declared.group.GroupName.{GroupName}
 use Rattle.am_model.specs.declared.preview.MutedAlert.{MutedAlert}
 use Rattle.am_model.specs.State.{same_name}
 use Rattle.am_timeline.specs.Expectation.{has_set}
-use Rattle.am_rehearsal.specs.declared.event.PreviewedBegin.{PreviewedBegin}
+use Rattle.am_terms.specs.declared.event.PreviewedBegin.{PreviewedBegin}
 use Rattle.am_timeline.specs.declared.undelivered.muted_alerts.Mute.{Mute}
 use Rattle.am_timeline.specs.declared.undelivered.route_mutes.RouteMute.{RouteMute}
 use Rattle.am_timeline.proofs.Reversed.{reverse_more}

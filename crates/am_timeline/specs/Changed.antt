@@ -1,9 +1,9 @@
 -- Changed: the events of a rehearsal, without the flushes that say the same as the flush before of their group.
 use Rattle.std.specs.Prelude.{Bool, true, List, [], filter, map, slice_get}
 use Rattle.std.specs.Option.{option_map_or}
-use Rattle.am_rehearsal.specs.declared.event.Event.{Event}
-use Rattle.am_rehearsal.specs.declared.event.Event.TheVariants.{Begun, Sent}
-use Rattle.am_rehearsal.specs.declared.event.PreviewedBegin.{PreviewedBegin}
+use Rattle.am_terms.specs.declared.event.Event.{Event}
+use Rattle.am_terms.specs.declared.event.Event.TheVariants.{Begun, Sent}
+use Rattle.am_terms.specs.declared.event.PreviewedBegin.{PreviewedBegin}
 use Rattle.am_timeline.specs.declared.runs.Fold.{Fold}
 use Rattle.am_timeline.specs.Playback.{PlaybackData}
 use Rattle.am_timeline.specs.Runs.{FlushData, folds_of, start_frame}

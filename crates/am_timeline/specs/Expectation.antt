@@ -12,7 +12,7 @@ use Rattle.am_alerts.specs.declared.matcher.MatcherParts.{MatcherParts}
 use Rattle.am_model.specs.declared.config.Config.{Config}
 use Rattle.am_model.specs.Config.{kind_at}
 use Rattle.am_model.specs.Configured.{integrations_named, route_of}
-use Rattle.am_rehearsal.specs.declared.event.Event.{Event}
+use Rattle.am_terms.specs.declared.event.Event.{Event}
 use Rattle.am_terms.specs.Expectation.{allows, wanted_words}
 use Rattle.am_terms.specs.declared.expectation.Expectation.{Expectation}
 use Rattle.am_terms.specs.declared.expectation.Content.{Content}

@@ -13,7 +13,7 @@ use Rattle.am_model.specs.declared.config.Config.{Config}
 use Rattle.am_model.specs.Config.{kind_at}
 use Rattle.am_model.specs.Configured.{route_of, integration_text}
 use Rattle.am_model.specs.Notice.{NoticeData}
-use Rattle.am_rehearsal.specs.declared.event.Event.{Event}
+use Rattle.am_terms.specs.declared.event.Event.{Event}
 use Rattle.am_terms.specs.declared.expectation.Amount.{Amount}
 use Rattle.am_terms.specs.declared.expectation.Amount.TheVariants.{AtLeastOne, Exactly, AtMost}
 use Rattle.am_terms.specs.declared.expectation.Expectation.{Expectation}

@@ -10,8 +10,8 @@ use Rattle.am_model.specs.declared.config.Config.{Config}
 use Rattle.am_model.specs.declared.group.GroupName.{GroupName}
 use Rattle.am_model.specs.Configured.{route_of}
 use Rattle.am_model.specs.look_back.Presence.{goes_to}
-use Rattle.am_rehearsal.specs.declared.event.Event.{Event}
-use Rattle.am_rehearsal.specs.declared.event.Event.TheVariants.{Begun, Sent}
+use Rattle.am_terms.specs.declared.event.Event.{Event}
+use Rattle.am_terms.specs.declared.event.Event.TheVariants.{Begun, Sent}
 use Rattle.am_timeline.specs.declared.filtered.Filter.{Filter}
 use Rattle.am_timeline.specs.Playback.{PlaybackData}
 use Rattle.am_timeline.specs.Undelivered.{inserted_in}

@@ -10,9 +10,9 @@ use Rattle.am_model.specs.look_back.Past.{notices_in}
 use Rattle.am_model.specs.Notice.{NoticeData}
 use Rattle.am_model.specs.Outcomes.{outcomes_in}
 use Rattle.am_model.specs.Ticket.{outcome_of}
-use Rattle.am_rehearsal.specs.declared.event.Event.{Event}
-use Rattle.am_rehearsal.specs.declared.event.Event.TheVariants.{Begun, Sent}
-use Rattle.am_rehearsal.specs.declared.event.PreviewedBegin.{PreviewedBegin}
+use Rattle.am_terms.specs.declared.event.Event.{Event}
+use Rattle.am_terms.specs.declared.event.Event.TheVariants.{Begun, Sent}
+use Rattle.am_terms.specs.declared.event.PreviewedBegin.{PreviewedBegin}
 
 -- a configuration, a history and what its begins were to do
 pub record LogbookData : Type 0 where

@@ -8,9 +8,9 @@ use Rattle.am_model.specs.declared.group.GroupName.{GroupName}
 use Rattle.am_model.specs.declared.record.Record.{Record}
 use Rattle.am_model.specs.Notice.{is_nothing}
 use Rattle.am_model.specs.State.{same_name}
-use Rattle.am_rehearsal.specs.declared.event.Event.{Event}
-use Rattle.am_rehearsal.specs.declared.event.Event.TheVariants.{Begun, Sent}
-use Rattle.am_rehearsal.specs.declared.event.PreviewedBegin.{PreviewedBegin}
+use Rattle.am_terms.specs.declared.event.Event.{Event}
+use Rattle.am_terms.specs.declared.event.Event.TheVariants.{Begun, Sent}
+use Rattle.am_terms.specs.declared.event.PreviewedBegin.{PreviewedBegin}
 use Rattle.am_timeline.specs.declared.runs.Fold.{Fold}
 use Rattle.am_timeline.specs.declared.runs.Run.{Run}
 use Rattle.am_timeline.specs.Playback.{PlaybackData, notices_at, sent_of}

@@ -7,8 +7,8 @@ use Rattle.std.specs.Str.{bytes_eq}
 use Rattle.am_model.specs.declared.config.Config.{Config}
 use Rattle.am_model.specs.declared.config.Receiver.{Receiver}
 use Rattle.am_model.specs.Configured.{route_of}
-use Rattle.am_rehearsal.specs.declared.event.Event.{Event}
-use Rattle.am_rehearsal.specs.declared.event.Event.TheVariants.{Begun, Sent}
+use Rattle.am_terms.specs.declared.event.Event.{Event}
+use Rattle.am_terms.specs.declared.event.Event.TheVariants.{Begun, Sent}
 use Rattle.am_timeline.specs.Shown.{text_shown}
 use Rattle.am_timeline.specs.Playback.{PlaybackData, SentData, is_delivered, sent_of}
 use Rattle.am_terms.specs.TimeFormatData.{TimeFormatData}

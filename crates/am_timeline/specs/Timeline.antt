@@ -19,9 +19,9 @@ use Rattle.am_model.specs.declared.reason.Reason.TheVariants.{NothingFiring, Not
 use Rattle.am_model.specs.Configured.{route_of, integration_text}
 use Rattle.am_model.specs.look_back.Reasons.{asks}
 use Rattle.am_model.specs.Notice.{NoticeData, is_nothing}
-use Rattle.am_rehearsal.specs.declared.event.Event.{Event}
-use Rattle.am_rehearsal.specs.declared.event.Event.TheVariants.{Begun, Sent}
-use Rattle.am_rehearsal.specs.declared.event.PreviewedBegin.{PreviewedBegin}
+use Rattle.am_terms.specs.declared.event.Event.{Event}
+use Rattle.am_terms.specs.declared.event.Event.TheVariants.{Begun, Sent}
+use Rattle.am_terms.specs.declared.event.PreviewedBegin.{PreviewedBegin}
 use Rattle.am_timeline.specs.Expiry.{expired}
 use Rattle.am_timeline.specs.Shown.{text_shown, set_shown, sets_shown}
 use Rattle.am_timeline.specs.Playback.{PlaybackData, SentData, notices_at, notice_for, sent_of}

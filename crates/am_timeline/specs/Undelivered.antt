@@ -26,7 +26,7 @@ use Rattle.am_model.specs.Notice.{NoticeData}
 use Rattle.am_model.specs.State.{same_name}
 use Rattle.am_model.specs.Outcomes.{outcomes_in}
 use Rattle.am_model.specs.Ticket.{outcome_of}
-use Rattle.am_rehearsal.specs.declared.event.PreviewedBegin.{PreviewedBegin}
+use Rattle.am_terms.specs.declared.event.PreviewedBegin.{PreviewedBegin}
 use Rattle.am_timeline.specs.declared.undelivered.muted_alerts.Mute.{Mute}
 use Rattle.am_timeline.specs.declared.undelivered.route_mutes.RouteMute.{RouteMute}
 use Rattle.am_timeline.specs.Expectation.{has_set}

@@ -12,12 +12,12 @@ use crate::groups::{push_group, push_group_receiver, push_target};
 use crate::line::{push_reason, push_time};
 use crate::muted::push_muted;
 use crate::playback::{Playback, notice_for, notices_at};
-use am_board::config::Config;
-use am_board::notice::Notice;
-use am_board::preview::{MutedAlert, Preview};
-use am_board::reason::Reason;
-use am_rehearsal::event::PreviewedBegin;
+use am_model::config::Config;
+use am_model::notice::Notice;
+use am_model::preview::{MutedAlert, Preview};
+use am_model::reason::Reason;
 use am_terms::clock::TimeFormat;
+use am_terms::event::PreviewedBegin;
 use std::alloc::AllocError;
 
 /// Adds the lines on a begin: the muted alerts, and each integration that isn't notified, with its

@@ -4,8 +4,8 @@ ghost use Rattle.am_timeline.specs.Changed.{begins_compared, is_change};
 
 use crate::playback::Playback;
 use crate::runs::{Fold, begins_compared};
-use am_rehearsal::event::Event;
 use am_terms::clock::TimeFormat;
+use am_terms::event::Event;
 use std::alloc::{AllocError, Global};
 
 /// Returns the events without the flushes that say the same as the flush before of their group, in their order.

@@ -13,8 +13,8 @@ use crate::expectation::content::is_in;
 use crate::playback::Playback;
 use crate::sent::{Sent, sent_of};
 use crate::table::is_for;
-use am_board::config::{Config, kind_at};
-use am_rehearsal::event::Event;
+use am_model::config::{Config, kind_at};
+use am_terms::event::Event;
 use am_terms::expectation::Expectation;
 use std::alloc::{AllocError, Global};
 

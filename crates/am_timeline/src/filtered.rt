@@ -20,10 +20,10 @@ use am_alerts::route::Route;
 use am_alerts::searchers::Searchers;
 use am_alerts::sequence::Sequence;
 use am_alerts::text::Text;
-use am_board::config::Config;
-use am_board::group::GroupName;
-use am_board::record::{Call, Record};
-use am_rehearsal::event::Event;
+use am_model::config::Config;
+use am_model::group::GroupName;
+use am_model::record::{Call, Record};
+use am_terms::event::Event;
 use std::alloc::{AllocError, Global};
 use std::collections::HashSet;
 

@@ -4,8 +4,8 @@ ghost use Rattle.am_model.specs.Configured.{integration_text};
 ghost use Rattle.am_timeline.specs.Timeline.{group_shown, target_shown, group_receiver_text};
 
 use crate::shown::{push_set, push_text};
-use am_board::config::Config;
-use am_board::group::GroupName;
+use am_model::config::Config;
+use am_model::group::GroupName;
 use std::alloc::AllocError;
 
 /// Adds a group, its receiver and one of the receiver's integrations.

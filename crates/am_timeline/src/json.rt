@@ -5,13 +5,13 @@ use crate::begun::{is_sent_nothing, nothing_left};
 use crate::line::{expiry_if_first, reason_words};
 use crate::playback::{Playback, notices_at};
 use crate::sent::{Sent, expiry_before, sent_of};
-use am_board::config::Config;
-use am_board::notice::Notice;
-use am_board::preview::Preview;
-use am_board::reason::Reason;
-use am_rehearsal::event::{Event, PreviewedBegin};
+use am_model::config::Config;
+use am_model::notice::Notice;
+use am_model::preview::Preview;
+use am_model::reason::Reason;
 use am_retry::Outcome;
 use am_terms::clock::TimeFormat;
+use am_terms::event::{Event, PreviewedBegin};
 use object::{Object, muted_list, sets_of};
 use std::alloc::{AllocError, Global};
 

@@ -3,7 +3,7 @@ ghost use Rattle.std.specs.Prelude.{◌≡◌, ◌++◌, OnOk, string_bytes};
 ghost use Rattle.am_timeline.specs.Timeline.{attempts_text, expired_text, expiry_if_first, time_text, reason_text, reason_words};
 ghost use Rattle.am_timeline.specs.Timeline.{repeat_text, retries_text, sent_reason_text, sent_words};
 
-use am_board::reason::Reason;
+use am_model::reason::Reason;
 use am_terms::clock::{TimeFormat, push_column, push_number};
 use std::alloc::AllocError;
 

@@ -6,9 +6,9 @@ ghost use Rattle.am_timeline.specs.Expiry.{expired};
 mod entries;
 mod log;
 
-use am_board::config::Config;
-use am_board::record::Record;
-use am_rehearsal::event::PreviewedBegin;
+use am_model::config::Config;
+use am_model::record::Record;
+use am_terms::event::PreviewedBegin;
 use entries::{FlushKey, expired_entries};
 use std::alloc::{AllocError, Global};
 use std::collections::HashMap;

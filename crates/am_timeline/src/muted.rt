@@ -6,7 +6,7 @@ ghost use Rattle.am_timeline.specs.Shown.{set_shown};
 
 use crate::shown::push_set;
 use am_alerts::labels::Labels;
-use am_board::preview::MutedAlert;
+use am_model::preview::MutedAlert;
 use am_mute::mute::MuteCause;
 use am_terms::clock::{TimeFormat, push_number};
 use std::alloc::AllocError;

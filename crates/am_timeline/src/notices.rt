@@ -5,8 +5,8 @@ ghost use Rattle.am_timeline.specs.Notices.{line_if_wanted, notice_of_event, not
 use crate::playback::Playback;
 use crate::sent::{Sent, sent_of};
 use crate::timeline::push_sent;
-use am_rehearsal::event::Event;
 use am_terms::clock::TimeFormat;
+use am_terms::event::Event;
 use std::alloc::{AllocError, Global};
 
 /// Returns the lines of the timeline on notices, in their order: on all, or without `failures` on the delivered ones.

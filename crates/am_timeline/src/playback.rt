@@ -5,10 +5,10 @@ ghost use Rattle.am_timeline.specs.Playback.{notice_for, notices_at};
 ghost use Rattle.am_model.specs.look_back.Past.{notices_in};
 
 use crate::logbook::Logbook;
-use am_board::config::Config;
-use am_board::notice::Notice;
-use am_board::record::{Record, Reply};
-use am_rehearsal::event::{Event, PreviewedBegin};
+use am_model::config::Config;
+use am_model::notice::Notice;
+use am_model::record::{Record, Reply};
+use am_terms::event::{Event, PreviewedBegin};
 use std::marker::Model;
 
 /// A rehearsal that ran: its configuration, history, previews and events.

@@ -4,11 +4,11 @@ ghost use Rattle.am_timeline.specs.Timeline.{expiry_before};
 ghost use Rattle.am_timeline.specs.Playback.{is_delivered, outcome_after, sent_by, sent_of};
 
 use crate::playback::{Playback, later_than, notice_for, notices_at};
-use am_board::notice::{Notice, Report};
-use am_board::record::Record;
+use am_model::notice::{Notice, Report};
 use am_model::outcome::{outcome_of, outcomes_in};
-use am_rehearsal::event::{Event, PreviewedBegin};
+use am_model::record::Record;
 use am_retry::Outcome;
+use am_terms::event::{Event, PreviewedBegin};
 use std::marker::Model;
 
 /// A notice whose sending ended.

@@ -9,8 +9,8 @@ use crate::frame::Frame;
 use crate::playback::Playback;
 use crate::runs::{Fold, Run, begins_folded};
 use crate::timeline::push_sent_by;
-use am_rehearsal::event::{Event, PreviewedBegin};
 use am_terms::clock::{TimeFormat, push_number};
+use am_terms::event::{Event, PreviewedBegin};
 use std::alloc::{AllocError, Global};
 
 /// Returns the short timeline of a rehearsal: the lines on all events, in their order, with one begin's for each run.

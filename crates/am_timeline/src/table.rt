@@ -8,9 +8,9 @@ ghost use Rattle.am_timeline.specs.Table.{table_text};
 use crate::playback::Playback;
 use crate::sent::{Sent, sent_of};
 use crate::shown::push_text;
-use am_board::config::{Config, Receiver};
-use am_rehearsal::event::Event;
+use am_model::config::{Config, Receiver};
 use am_terms::clock::{TimeFormat, push_number};
+use am_terms::event::Event;
 use std::alloc::{AllocError, Global};
 
 /// Returns an empty line, and a line for each receiver in the configuration's order.

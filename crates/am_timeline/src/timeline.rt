@@ -12,12 +12,12 @@ use crate::groups::push_target;
 use crate::line::{push_attempts, push_retries, push_sent_reason, push_time};
 use crate::playback::Playback;
 use crate::sent::{Sent, expiry_before, sent_of};
-use am_board::config::Config;
-use am_board::notice::Notice;
-use am_board::reason::Reason;
-use am_rehearsal::event::{Event, PreviewedBegin};
+use am_model::config::Config;
+use am_model::notice::Notice;
+use am_model::reason::Reason;
 use am_retry::Outcome;
 use am_terms::clock::TimeFormat;
+use am_terms::event::{Event, PreviewedBegin};
 use std::alloc::{AllocError, Global};
 
 /// Returns the timeline of a rehearsal: the lines on all events, in their order.

@@ -37,14 +37,24 @@ fn a_thousand_inserts_on<N: Name + Send + Sync, R: Threads + Wait + Abort + Sync
     requires { (blank ≡ N.plan) × (terms config blank.id ≡ N.terms) }
 {
     let (desk, mut passes) = open::<N>(rt, alloc, config, blank);
-    let one = take(rt, &mut passes);
-    let zero = take(rt, &mut passes);
-    let (mut zero, one) = insert_beside(rt, alloc, &desk, zero, one);
-    assert_eq!(rt; (zero.calls(), one.calls()), (INSERTS, INSERTS));
-    insert_last(rt, alloc, &desk, &mut zero);
-    put(rt, &mut passes, zero);
-    put(rt, &mut passes, one);
+    insert_all(rt, alloc, &desk, &mut passes);
     are_stamped(rt, &close(rt, desk, passes));
+}
+
+/// Inserts with two passes in threads of their own, and with one once more.
+fn insert_all<N: Name + Send + Sync, R: Threads + Wait + Abort + Sync>(
+    rt: &R,
+    alloc: Global,
+    desk: &Desk<N>,
+    passes: &mut Vec<Pass<N>>,
+) {
+    let one = take(rt, passes);
+    let zero = take(rt, passes);
+    let (mut zero, one) = insert_beside(rt, alloc, desk, zero, one);
+    assert_eq!(rt; (zero.calls(), one.calls()), (INSERTS, INSERTS));
+    insert_last(rt, alloc, desk, &mut zero);
+    put(rt, passes, zero);
+    put(rt, passes, one);
 }
 
 /// A desk of this configuration and blank, with its passes.

@@ -13,10 +13,10 @@ use crate::playback::Playback;
 use crate::sent::{Sent, sent_of};
 use crate::shown::push_text;
 use am_alerts::alert::Alert;
-use am_board::config::Config;
-use am_board::notice::Notice;
-use am_rehearsal::event::Event;
+use am_model::config::Config;
+use am_model::notice::Notice;
 use am_terms::clock::TimeFormat;
+use am_terms::event::Event;
 use am_terms::expectation::Expectation;
 use std::alloc::{AllocError, Global};
 

@@ -10,7 +10,7 @@ use crate::expectation_report::wanted::push_reason_part;
 use crate::line::sent_words;
 use crate::playback::Playback;
 use crate::sent::{Sent, expiry_before};
-use am_board::config::Config;
+use am_model::config::Config;
 use am_terms::clock::push_counted;
 use am_terms::expectation::{Content, Expectation};
 use std::alloc::{AllocError, Global};

@@ -6,7 +6,7 @@ use crate::expectation::content::is_in;
 use crate::expectation::{is_for_integration, is_for_receiver};
 use crate::playback::Playback;
 use crate::sent::{Sent, sent_of};
-use am_rehearsal::event::Event;
+use am_terms::event::Event;
 use am_terms::expectation::Expectation;
 use std::alloc::{AllocError, Global};
 

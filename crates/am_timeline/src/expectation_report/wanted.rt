@@ -11,7 +11,7 @@ use crate::table::push_count;
 use am_alerts::labels::Labels;
 use am_alerts::matcher::{Matcher, Operator};
 use am_alerts::sequence::Sequence;
-use am_board::config::{Config, kind_at};
+use am_model::config::{Config, kind_at};
 use am_terms::clock::{TimeFormat, push_number};
 use am_terms::expectation::{Amount, Content, Expectation, SentReason};
 use std::alloc::AllocError;

@@ -10,9 +10,9 @@ ghost use Rattle.am_timeline.specs.Expiry.{count_integrations, expired, expired_
 ghost use Rattle.am_timeline.specs.Log.{Follows, same_log_key};
 
 use crate::logbook::log::{Log, LogKey, add_record, empty_log, next_moment};
-use am_board::config::Config;
-use am_board::group::GroupName;
-use am_board::record::{Record, Reply};
+use am_model::config::Config;
+use am_model::group::GroupName;
+use am_model::record::{Record, Reply};
 use std::alloc::{AllocError, Global};
 use std::collections::HashMap;
 

@@ -12,10 +12,10 @@ ghost use Rattle.am_model.specs.declared.group.GroupName as named;
 ghost use Rattle.am_timeline.specs.Log.{Follows, finish_logs, has_success, is_logged, logs_by, same_log_key, same_note_key};
 
 use am_alerts::limits::MAX_MOMENT;
-use am_board::group::GroupName;
-use am_board::notice::Notice;
-use am_board::record::{Call, Record, Reply};
+use am_model::group::GroupName;
+use am_model::notice::Notice;
 use am_model::outcome::outcome_of;
+use am_model::record::{Call, Record, Reply};
 use am_retry::Outcome;
 use std::alloc::{AllocError, Global};
 use std::collections::{HashMap, HashSet};

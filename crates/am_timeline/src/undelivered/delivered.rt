@@ -6,9 +6,9 @@ ghost use Rattle.am_timeline.specs.Undelivered.{alerts_delivered, alerts_in, del
 
 use crate::playback::{later_than, notices_in};
 use crate::undelivered::alert_set::AlertSet;
-use am_board::notice::Notice;
-use am_board::record::Record;
+use am_model::notice::Notice;
 use am_model::outcome::{outcome_of, outcomes_in};
+use am_model::record::Record;
 use am_retry::Outcome;
 use std::alloc::{AllocError, Global};
 

@@ -9,8 +9,8 @@ ghost use Rattle.am_timeline.specs.Undelivered.{fired_for, insert_of, inserted_i
 use am_alerts::alert::Alert;
 use am_alerts::labels::Labels;
 use am_alerts::limits::MAX_MOMENT;
-use am_board::record::{Call, Record};
 use am_ghost::GhostList;
+use am_model::record::{Call, Record};
 use std::alloc::{AllocError, Global};
 use std::collections::HashMap;
 use std::marker::Model;

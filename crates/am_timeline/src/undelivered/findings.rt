@@ -11,7 +11,7 @@ use crate::undelivered::muted_alerts::{Mute, MutedAlerts};
 use crate::undelivered::route_mutes::RouteMutes;
 use am_alerts::alert::Alert;
 use am_alerts::labels::Labels;
-use am_board::config::Config;
+use am_model::config::Config;
 use std::alloc::{AllocError, Global};
 use std::marker::Model;
 

@@ -6,7 +6,7 @@ ghost use Rattle.am_timeline.specs.Undelivered.{with_first};
 
 use crate::undelivered::alert_set::AlertSet;
 use am_alerts::alert::Alert;
-use am_board::record::{Call, Record};
+use am_model::record::{Call, Record};
 use std::alloc::{AllocError, Global};
 
 /// Returns the known alerts of a history, the one that was inserted last at the end.

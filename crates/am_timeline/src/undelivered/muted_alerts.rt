@@ -9,10 +9,10 @@ ghost use Rattle.am_alerts.specs.declared.labels.Label.{Label};
 ghost use Rattle.am_timeline.specs.Undelivered.{last_mute, mute_in};
 
 use am_alerts::labels::Labels;
-use am_board::preview::MutedAlert;
 use am_ghost::GhostList;
+use am_model::preview::MutedAlert;
 use am_mute::mute::MuteCause;
-use am_rehearsal::event::PreviewedBegin;
+use am_terms::event::PreviewedBegin;
 use std::alloc::{AllocError, Global};
 use std::collections::HashMap;
 use std::marker::Model;
@@ -37,7 +37,7 @@ impl Model for MutedAlerts {
     ghost use Rattle.std.specs.HashMap.{get};
     ghost use Rattle.am_alerts.specs.Labels.{same_label_set};
     ghost use Rattle.am_alerts.specs.declared.labels.Label.{Label};
-    ghost use Rattle.am_rehearsal.specs.declared.event.PreviewedBegin as previewed;
+    ghost use Rattle.am_terms.specs.declared.event.PreviewedBegin as previewed;
     ghost use Rattle.am_timeline.specs.Undelivered.{last_mute};
 
     ghost Value = { List previewed.PreviewedBegin };

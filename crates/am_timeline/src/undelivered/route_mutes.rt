@@ -8,12 +8,12 @@ ghost use Rattle.am_timeline.specs.Undelivered.{alert_route_mute, last_route_mut
 ghost use Rattle.am_timeline.specs.Undelivered.{mute_end, mute_since, route_mute_of};
 
 use am_alerts::alert::Alert;
-use am_board::config::Config;
-use am_board::group::GroupName;
-use am_board::preview::Preview;
-use am_board::reason::Reason;
 use am_ghost::GhostList;
-use am_rehearsal::event::PreviewedBegin;
+use am_model::config::Config;
+use am_model::group::GroupName;
+use am_model::preview::Preview;
+use am_model::reason::Reason;
+use am_terms::event::PreviewedBegin;
 use std::alloc::{AllocError, Global};
 use std::collections::HashMap;
 use std::marker::Model;
@@ -40,7 +40,7 @@ impl Model for RouteMutes {
     ghost use Rattle.std.specs.HashMap.{get};
     ghost use Rattle.am_model.specs.State.{same_name};
     ghost use Rattle.am_model.specs.declared.group.GroupName as group_name;
-    ghost use Rattle.am_rehearsal.specs.declared.event.PreviewedBegin as previewed;
+    ghost use Rattle.am_terms.specs.declared.event.PreviewedBegin as previewed;
     ghost use Rattle.am_timeline.specs.Undelivered.{last_route_mute};
 
     ghost Value = { List previewed.PreviewedBegin };

@@ -1,7 +1,7 @@
 use Rattle.std.proofs.Common.{◌∙◌}
 use Rattle.serde_json.specs.Find.{get}
 use Rattle.serde_json.specs.View.{view}
-use Rattle.am_input.proofs.Decodings.{some_found}
+use Rattle.am_plans.proofs.Decodings.{some_found}
 use Rattle.am_input.proofs.form.has.Goals as goal
 
 pub returns : goal.returns

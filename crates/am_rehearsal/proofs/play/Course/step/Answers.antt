@@ -2,7 +2,7 @@ use Rattle.std.proofs.Common.{◌<◌, ◌≤◌, arith, length}
 use Rattle.std.proofs.lemmas.Result.{on_ok_weaker}
 use Rattle.am_rehearsal.specs.Courses.{scene_in, setting_in}
 use Rattle.am_rehearsal.specs.declared.next.Step.TheVariants.{Begin, End, Finish, Maintenance, Plan}
-use Rattle.am_rehearsal.specs.declared.rehearsal.TimedAction.{TimedAction}
+use Rattle.am_terms.specs.declared.rehearsal.TimedAction.{TimedAction}
 use Rattle.am_rehearsal.proofs.Stepping.{plan_done, steps_by, there_for, within_some}
 use Rattle.am_rehearsal.proofs.play.Course.step.Goals as goal
 

@@ -6,13 +6,13 @@ use Rattle.am_model.specs.State.{moment}
 use Rattle.am_model.specs.declared.record.Reply.{Reply}
 use Rattle.am_rehearsal.specs.EventOrder.{begin_indices}
 use Rattle.am_rehearsal.specs.Taking.{begun_where, why_not}
-use Rattle.am_rehearsal.specs.declared.event.Event.{Event}
+use Rattle.am_terms.specs.declared.event.Event.{Event}
 use Rattle.am_rehearsal.proofs.Calling.{begun_shown, open_cause, taken_by}
 use Rattle.am_model.specs.declared.record.Call.TheVariants.{Begin}
 use Rattle.am_model.specs.declared.record.Record.{Record}
 use Rattle.am_model.specs.Records.{entry}
 use Rattle.am_rehearsal.specs.Previews.{takes_group, preview_where}
-use Rattle.am_rehearsal.specs.declared.event.PreviewedBegin.{PreviewedBegin}
+use Rattle.am_terms.specs.declared.event.PreviewedBegin.{PreviewedBegin}
 use Rattle.am_rehearsal.specs.declared.limits.TheConstants.{BOARD_ID}
 use Rattle.am_rehearsal.proofs.Standing.{stands_told}
 use Rattle.am_rehearsal.proofs.Doing.{input_trace-same}

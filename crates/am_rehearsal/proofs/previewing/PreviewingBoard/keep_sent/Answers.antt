@@ -1,6 +1,6 @@
 use Rattle.std.proofs.Common.{ap, ◌∙◌, ◌++◌, ◌∷◌, [], List}
-use Rattle.am_rehearsal.specs.declared.event.Event.{Event}
-use Rattle.am_rehearsal.specs.declared.event.Event.TheVariants.{Sent}
+use Rattle.am_terms.specs.declared.event.Event.{Event}
+use Rattle.am_terms.specs.declared.event.Event.TheVariants.{Sent}
 use Rattle.am_rehearsal.proofs.Happening.{begun_same}
 use Rattle.am_rehearsal.proofs.previewing.PreviewingBoard.keep_sent.Goals as goal
 

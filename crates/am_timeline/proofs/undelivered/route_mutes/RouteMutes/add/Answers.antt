@@ -2,7 +2,7 @@ use Rattle.std.proofs.Common.{◌≡◌, ◌∙◌, ◌++◌, ◌∷◌, [], ap,
 use Rattle.std.specs.HashMap.{get}
 use Rattle.am_model.specs.State.{same_name}
 use Rattle.am_model.specs.declared.group.GroupName.{GroupName}
-use Rattle.am_rehearsal.specs.declared.event.PreviewedBegin.{PreviewedBegin}
+use Rattle.am_terms.specs.declared.event.PreviewedBegin.{PreviewedBegin}
 use Rattle.am_timeline.specs.declared.undelivered.route_mutes.RouteMute.{RouteMute}
 use Rattle.am_timeline.specs.Undelivered.{last_route_mute, route_mute_of}
 use Rattle.am_timeline.proofs.Tables.{route_mute-added, route_mute-none}

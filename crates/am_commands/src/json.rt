@@ -1,0 +1,28 @@
+//! `am-rehearse json`: prints files as the JSON that is read in them.
+use am_console::console::Console;
+use std::rt::Files;
+
+/// Prints the value of each file on a line, and returns the status: that of the first file that isn't read, if there is one.
+pub fn json<R: Files + Eprint + AllocGlobal>(rt: &R, console: &mut Console, files: &[&str]) -> u8 {
+    let mut status = 0;
+    let mut lines = String::new(rt.alloc());
+    for path in files {
+        let document = match console.read(rt, path) {
+            Ok(document) => document,
+            Err(fault) => {
+                status = if status == 0 { fault } else { status };
+                continue;
+            }
+        };
+        let Ok(line) = document.value.to_string(rt.alloc()) else {
+            return console.complain_of_memory(rt);
+        };
+        if writeln!(lines, "{line}").is_err() {
+            return console.complain_of_memory(rt);
+        }
+    }
+    match console.print(rt, lines.as_str()) {
+        0 => status,
+        unwritten => unwritten,
+    }
+}

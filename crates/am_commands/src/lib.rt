@@ -1,0 +1,17 @@
+//! The commands of `am-rehearse` that play nothing, and what `play` and `compare` share with them.
+//! `am_rehearse` calls them.
+#![tactic(auto)]
+
+pub mod check;
+mod config;
+pub mod faults;
+pub mod given;
+pub mod ignored;
+pub mod json;
+pub mod routes;
+pub mod story;
+pub mod system_zones;
+mod times;
+mod tree;
+mod warnings;
+mod zones;

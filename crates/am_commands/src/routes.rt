@@ -1,0 +1,180 @@
+//! `am-rehearse routes`: shows the routing tree, or the routes of a label set.
+ghost use Rattle.std.specs.Prelude.{◌≤◌};
+ghost use Rattle.am_alerts.specs.RoutingTree.{last_of};
+
+use crate::config::configured;
+use crate::times::WrittenRoutes;
+use crate::tree::{push_reached, tree_text};
+use am_alerts::labels::{LabelFault, Labels};
+use am_alerts::route::Routes;
+use am_console::console::{Console, DIFFERS, REJECTED};
+use std::alloc::{AllocError, Global};
+use std::rt::Files;
+
+/// What is asked of the routes of a file.
+#[derive(Clone, Copy)]
+pub struct RoutesRequest<'r, 'a> {
+    pub file: &'a str,
+    pub labels: &'r [&'a str],
+    pub verify: Option<&'a str>,
+}
+
+/// Prints the routes, and returns the status.
+pub fn routes<R: Files + Eprint + AllocGlobal>(
+    rt: &R,
+    console: &mut Console,
+    request: RoutesRequest<'_, '_>,
+) -> u8 {
+    match try_routes(rt, console, request) {
+        Ok(status) | Err(status) => status,
+    }
+}
+
+fn try_routes<R: Files + Eprint + AllocGlobal>(
+    rt: &R,
+    console: &mut Console,
+    request: RoutesRequest<'_, '_>,
+) -> Result<u8, u8> {
+    let document = console.read(rt, request.file)?;
+    let configured = configured(rt, console, &document)?;
+    let routes = &configured.config.routes;
+    let Ok(written) = WrittenRoutes::of(rt.alloc(), &document.value) else {
+        return Err(console.complain_of_memory(rt));
+    };
+    if !request.labels.is_empty() {
+        return print_reached(rt, console, routes, &written, request);
+    }
+    if request.verify.is_some() {
+        let _ = eprintln!(rt; "am-rehearse: --verify needs labels, such as severity=critical");
+        return Err(REJECTED);
+    }
+    print_tree(rt, console, routes, &written)
+}
+
+/// Prints the routing tree, and returns the status.
+fn print_tree<R: Eprint + AllocGlobal>(
+    rt: &R,
+    console: &mut Console,
+    routes: &Routes,
+    written: &WrittenRoutes<'_>,
+) -> Result<u8, u8> {
+    match tree_text(rt.alloc(), routes, written) {
+        Ok(text) => Ok(console.print(rt, text.as_str())),
+        Err(_) => Err(console.complain_of_memory(rt)),
+    }
+}
+
+/// Prints the routes that a label set reaches, verifies their receivers if that is asked for, and returns the status.
+fn print_reached<R: Eprint + AllocGlobal>(
+    rt: &R,
+    console: &mut Console,
+    routes: &Routes,
+    written: &WrittenRoutes<'_>,
+    request: RoutesRequest<'_, '_>,
+) -> Result<u8, u8> {
+    let labels = labels_of(rt, console, request.labels)?;
+    let Ok(reached) = reached_by(rt.alloc(), routes, written, &labels) else {
+        return Err(console.complain_of_memory(rt));
+    };
+    let printed = console.print(rt, reached.lines.as_str());
+    if printed != 0 {
+        return Ok(printed);
+    }
+    Ok(verified(rt, request.verify, reached.receivers.as_str()))
+}
+
+/// Returns the label set of words such as `severity=critical`. The error is the status.
+fn labels_of<R: Eprint + AllocGlobal>(
+    rt: &R,
+    console: &Console,
+    words: &[&str],
+) -> Result<Labels, u8> {
+    let mut pairs = Vec::new(rt.alloc());
+    for word in words {
+        let Some((name, value)) = word.split_once('=') else {
+            let _ = eprintln!(rt;
+                "am-rehearse: `{word}` is no label; write it as severity=critical"
+            );
+            return Err(REJECTED);
+        };
+        if pairs.push((name, without_quotes(value))).is_err() {
+            return Err(console.complain_of_memory(rt));
+        }
+    }
+    match Labels::read(rt.alloc(), pairs.as_slice()) {
+        Ok(labels) => Ok(labels),
+        Err(LabelFault::NoMemory) => Err(console.complain_of_memory(rt)),
+        Err(fault) => {
+            let _ = eprintln!(rt; "am-rehearse: these labels are no label set: {fault}");
+            Err(REJECTED)
+        }
+    }
+}
+
+/// Returns a value without the quotes round it, if there are some.
+fn without_quotes(value: &str) -> &str {
+    match value.strip_prefix("\"") {
+        None => value,
+        Some(inner) => inner.strip_suffix("\"").unwrap_or(value),
+    }
+}
+
+/// The routes that a label set reaches.
+#[derive(Drop)]
+struct Reached {
+    /// A line for each.
+    lines: String,
+    /// Their receivers, with commas between them.
+    receivers: String,
+}
+
+fn reached_by(
+    alloc: Global,
+    routes: &Routes,
+    written: &WrittenRoutes<'_>,
+    labels: &Labels,
+) -> Result<Reached, AllocError> {
+    let mut reached = Reached {
+        lines: String::new(alloc),
+        receivers: String::new(alloc),
+    };
+    let positions = routes.of(alloc, labels)?;
+    for position in &positions {
+        push_position(alloc, routes, *position, labels, &mut reached)?;
+        written.push_times(alloc, *position, &mut reached.lines)?;
+        reached.lines.push('\n')?;
+    }
+    Ok(reached)
+}
+
+/// Adds the route at a position, which the label set reaches, without its line's end.
+fn push_position(
+    alloc: Global,
+    routes: &Routes,
+    position: u32,
+    labels: &Labels,
+    reached: &mut Reached,
+) -> Result<(), AllocError>
+    requires { position ≤ last_of routes.now }
+{
+    let route = routes.route(position);
+    let group_labels = routes.group_labels(alloc, position, labels)?;
+    push_reached(route, &group_labels, &mut reached.lines)?;
+    let separator = if reached.receivers.is_empty() {
+        ""
+    } else {
+        ","
+    };
+    write!(reached.receivers, "{separator}{}", route.receiver)
+}
+
+/// Returns the status by what is verified, and says what differs.
+fn verified<R: Eprint>(rt: &R, verify: Option<&str>, receivers: &str) -> u8 {
+    match verify {
+        Some(wanted) if wanted != receivers => {
+            let _ = eprintln!(rt; "am-rehearse: the label set reaches {receivers}, not {wanted}");
+            DIFFERS
+        }
+        _ => 0,
+    }
+}

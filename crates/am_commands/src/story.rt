@@ -1,0 +1,171 @@
+//! `am-rehearse story`: makes a story of what Prometheus or Alertmanager answers.
+use am_alerts::duration::read_duration;
+use am_cli::fault::InputFault;
+use am_cli::faults::Refusal;
+use am_cli::reader::Reader;
+use am_command::request::StoryRequest;
+use am_console::console::{Console, Document, REJECTED};
+use am_story::alertmanager::{read_alerts, read_silences};
+use am_story::incident::{Incident, SeenSilence};
+use am_story::prometheus::read_prometheus;
+use serde_json::Value;
+use std::rt::Files;
+
+/// Prints the story, and returns the status.
+pub fn story<R: Files + Eprint + AllocGlobal>(
+    rt: &R,
+    console: &mut Console,
+    request: StoryRequest<'_>,
+) -> u8 {
+    match try_story(rt, console, request) {
+        Ok(()) => 0,
+        Err(status) => status,
+    }
+}
+
+fn try_story<R: Files + Eprint + AllocGlobal>(
+    rt: &R,
+    console: &mut Console,
+    request: StoryRequest<'_>,
+) -> Result<(), u8> {
+    let mut incident = match (request.prometheus, request.alertmanager) {
+        (Some(path), None) => {
+            let gap = gap_of(rt, request.gap)?;
+            prometheus(rt, console, path, gap)?
+        }
+        (None, Some(path)) => alertmanager(rt, console, path)?,
+        _ => {
+            let _ = eprintln!(rt;
+                "am-rehearse: give either --prometheus FILE or --alertmanager FILE"
+            );
+            return Err(REJECTED);
+        }
+    };
+    if incident.alerts.is_empty() {
+        let _ = eprintln!(rt; "am-rehearse: the answer has no alerts; the story is empty");
+    }
+    if let Some(path) = request.silences {
+        incident.silences = silences(rt, console, path)?;
+    }
+    print(rt, console, &incident)
+}
+
+/// Reads what Prometheus answered. The error is the status.
+fn prometheus<R: Files + Eprint + AllocGlobal>(
+    rt: &R,
+    console: &mut Console,
+    path: &str,
+    gap: Option<u64>,
+) -> Result<Incident, u8> {
+    let document = console.read(rt, path)?;
+    refuse_error(rt, console, &document, "Prometheus")?;
+    let read = read_prometheus(&Reader::top(rt.alloc(), &document.value), gap);
+    accepted(rt, console, &document, read)
+}
+
+/// Reads what Alertmanager answered when it was asked for its alerts. The error is the status.
+fn alertmanager<R: Files + Eprint + AllocGlobal>(
+    rt: &R,
+    console: &mut Console,
+    path: &str,
+) -> Result<Incident, u8> {
+    let document = console.read(rt, path)?;
+    refuse_error(rt, console, &document, "Alertmanager")?;
+    let read = read_alerts(&Reader::top(rt.alloc(), &document.value));
+    accepted(rt, console, &document, read)
+}
+
+/// Complains of an answer that is an error of this server, and says which. The error is the status.
+fn refuse_error<R: Eprint + AllocGlobal>(
+    rt: &R,
+    console: &Console,
+    document: &Document<'_>,
+    server: &str,
+) -> Result<(), u8> {
+    match error_in(&document.value) {
+        None => Ok(()),
+        Some((pointer, said)) => Err(complain_of_error(
+            rt, console, document, pointer, server, said,
+        )),
+    }
+}
+
+/// Returns where an answer says an error, and which, if it is one: `status` is `error`, or there are a `code` and a `message`.
+fn error_in(answer: &Value) -> Option<(&'static str, &str)> {
+    if answer.get("status").and_then(Value::as_str) == Some("error") {
+        return match answer.get("error").and_then(Value::as_str) {
+            Some(said) => Some(("/error", said)),
+            None => Some(("/status", "it doesn't say which")),
+        };
+    }
+    answer.get("code")?;
+    Some(("/message", answer.get("message")?.as_str()?))
+}
+
+/// Complains of an error that a server says at this place of its answer, and returns the status.
+fn complain_of_error<R: Eprint + AllocGlobal>(
+    rt: &R,
+    console: &Console,
+    document: &Document<'_>,
+    pointer: &str,
+    server: &str,
+    said: &str,
+) -> u8 {
+    match format!(in rt.alloc(); "{server} answered with an error: {said}") {
+        Ok(words) => console.complain_in_words(rt, document, pointer, words.as_str()),
+        Err(_) => console.complain_of_memory(rt),
+    }
+}
+
+/// Reads what Alertmanager answered when it was asked for its silences. The error is the status.
+fn silences<R: Files + Eprint + AllocGlobal>(
+    rt: &R,
+    console: &mut Console,
+    path: &str,
+) -> Result<Vec<SeenSilence>, u8> {
+    let document = console.read(rt, path)?;
+    let read = read_silences(&Reader::top(rt.alloc(), &document.value));
+    accepted(rt, console, &document, read)
+}
+
+/// Returns what was read of a document, or complains of its fault. The error is the status.
+fn accepted<R: Eprint + AllocGlobal, T>(
+    rt: &R,
+    console: &Console,
+    document: &Document<'_>,
+    read: Result<T, InputFault>,
+) -> Result<T, u8> {
+    match read {
+        Ok(read) => Ok(read),
+        Err(fault) => Err(console.complain_of_refusal(rt, document, Refusal::One(fault))),
+    }
+}
+
+/// Prints an incident as a story. The error is the status.
+fn print<R: Files + Eprint + AllocGlobal>(
+    rt: &R,
+    console: &mut Console,
+    incident: &Incident,
+) -> Result<(), u8> {
+    let Ok(text) = incident.story(rt.alloc()) else {
+        return Err(console.complain_of_memory(rt));
+    };
+    match console.print(rt, text.as_str()) {
+        0 => Ok(()),
+        status => Err(status),
+    }
+}
+
+/// Returns the gap that the command line gives.
+fn gap_of<R: Eprint>(rt: &R, gap: Option<&str>) -> Result<Option<u64>, u8> {
+    let Some(text) = gap else {
+        return Ok(None);
+    };
+    match read_duration(text) {
+        Ok(gap) => Ok(Some(gap)),
+        Err(_) => {
+            let _ = eprintln!(rt; "am-rehearse: --gap: `{text}` is no duration; write 90s or 5m");
+            Err(REJECTED)
+        }
+    }
+}

@@ -1,5 +1,0 @@
-use Rattle.am_console.proofs.commands.times.WrittenRoutes.+add_below.Given as goal
-
--- the levels that may still be
-abbrev pub decreases-add_below : goal.decreases-add_below
-decreases-add_below l = l.levels

@@ -1,8 +1,0 @@
-use Rattle.std.proofs.Common.{◌≡◌, drop}
-use Rattle.am_input.specs.Expected.{first_insert}
-use Rattle.am_input.proofs.expectation.span.first_insert.Given as goal
-
--- none of the actions so far does
-abbrev pub invariant-loop-plan : goal.invariant-loop-plan
-invariant-loop-plan l =
-    first_insert l.last l.resolves l.matchers l.plans ≡ first_insert l.last l.resolves l.matchers (drop l.plan-index l.plans)

@@ -1,0 +1,260 @@
+//! The expectations of a rehearsal, and how they are read. `input` calls it.
+//!
+//! An expectation without `to` reaches to the end of the rehearsal, and not to the ends of the
+//! notices in flight then.
+ghost use Rattle.std.specs.Prelude.{◌≡◌, ◌≤◌, IfOk, OnOk, Some, codes, length, true};
+ghost use Rattle.serde_json.specs.Find.{as_str, get_member};
+ghost use Rattle.serde_json.specs.View.{members_view, view};
+ghost use Rattle.am_plans.specs.Expected.{AreExpectedIn, IsExpectedIn, IsExpectedOf, IsKnownIn, has_alerts, last_end, member_if, until_in};
+
+pub(crate) mod alerts;
+mod amount;
+pub(crate) mod content;
+mod receivers;
+pub(crate) mod span;
+mod target;
+
+use alerts::check_alerts;
+use am_alerts::text::Text;
+use am_cli::duration::duration;
+use am_cli::fault::{FaultKind, InputFault};
+use am_cli::faults::Faults;
+use am_cli::reader::{Object, Reader};
+use am_model::config::Config;
+use am_terms::expectation::Expectation;
+use am_terms::rehearsal::TimedAction;
+use amount::read_amount;
+use content::read_content;
+use receivers::check_target;
+use serde_json::Value;
+use span::read_span;
+use target::read_target;
+
+/// How many expectations a story may have.
+///
+/// Each is compared with every alert and every notice, so their number bounds the time.
+pub const MAX_EXPECTATIONS: usize = 1_024;
+
+/// The fields of an expectation.
+const MEMBERS: [&str; 19] = [
+    "name",
+    "at",
+    "from",
+    "to",
+    "within",
+    "of",
+    "when",
+    "receiver",
+    "integration",
+    "has",
+    "has_resolved",
+    "exactly",
+    "firing",
+    "resolved",
+    "reason",
+    "none",
+    "never",
+    "count",
+    "at_most",
+];
+
+/// What is expected of a rehearsal that ends at `until`, under a configuration and with these planned actions.
+///
+/// An expectation that no rehearsal of the story could meet, or that each would, is refused: of a receiver or an
+/// integration that isn't there, of alerts that never fire so, or of a span that begins after the end. The end is that of
+/// the story, or `until` if that is later.
+pub fn read_expectations(
+    top: &Object<'_, '_>,
+    config: &Config,
+    until: u64,
+    plans: &[TimedAction],
+) -> Result<Vec<Expectation>, InputFault>
+    ensures { IfOk result (λ expectations. AreExpectedIn top.now.dialect config.now until
+        (last_end until (members_view top.now.members)) plans.now
+        (get_member (codes "expect") (members_view top.now.members)) expectations.items) }
+{
+    let last = last_end(top, until);
+    match top.optional("expect") {
+        None => Ok(Vec::new(top.alloc())),
+        Some(member) => read_list(&member, config, until, last, plans),
+    }
+}
+
+/// The end of a story: its own, or `until` if that is later.
+fn last_end(top: &Object<'_, '_>, until: u64) -> u64
+    ensures { result ≡ last_end until (members_view top.now.members) }
+{
+    match own_end(top) {
+        None => until,
+        Some(own) => until.max(own),
+    }
+}
+
+/// The end that a story says, if it says one.
+fn own_end(top: &Object<'_, '_>) -> Option<u64>
+    ensures { result ≡ until_in (members_view top.now.members) }
+{
+    match top.optional("until") {
+        None => None,
+        Some(member) => duration(&member).ok(),
+    }
+}
+
+fn read_list(
+    member: &Reader<'_, '_>,
+    config: &Config,
+    until: u64,
+    last: u64,
+    plans: &[TimedAction],
+) -> Result<Vec<Expectation>, InputFault>
+    ensures { IfOk result (λ expectations.
+        AreExpectedIn member.now.dialect config.now until last plans.now (Some (view member.now.value)) expectations.items) }
+{
+    let mut expectations = Vec::new(member.alloc());
+    let values = member.array()?;
+    refuse_many(member, values)?;
+    for (index, value) in values.iter().enumerate() {
+        let item = member.item(index, value);
+        expectations.push(read_known(&item, config, until, last, plans)?)?;
+    }
+    Ok(expectations)
+}
+
+/// Refuses more expectations than a story may have.
+fn refuse_many(member: &Reader<'_, '_>, values: &[Value]) -> Result<(), InputFault>
+    ensures { OnOk result (length values.now ≤ MAX_EXPECTATIONS) }
+{
+    if values.len() > MAX_EXPECTATIONS {
+        return Err(member.refuse(FaultKind::BadValue));
+    }
+    Ok(())
+}
+
+/// Keeps the fault of each expectation of a rehearsal that ends at `until`: of what it says, of its target, or of its
+/// alerts. One that counts from an alert is passed over where the planned actions aren't known.
+pub fn expectation_faults(
+    faults: &mut Faults,
+    top: &Object<'_, '_>,
+    config: Option<&Config>,
+    until: u64,
+    plans: Option<&[TimedAction]>,
+) -> Result<(), InputFault> {
+    let Some(member) = top.optional("expect") else {
+        return Ok(());
+    };
+    let Some(values) = faults.kept(member.array())? else {
+        return Ok(());
+    };
+    if faults.kept(refuse_many(&member, values))?.is_none() {
+        return Ok(());
+    }
+    let last = last_end(top, until);
+    for (index, value) in values.iter().enumerate() {
+        if plans.is_none() && value.get("within").is_some() {
+            continue;
+        }
+        let reader = member.item(index, value);
+        let fault = fault_of(&reader, config, until, last, plans);
+        faults.kept(fault)?;
+    }
+    Ok(())
+}
+
+/// The first fault of an expectation; none of its target where the configuration isn't known, and of its alerts where the
+/// planned actions aren't.
+fn fault_of(
+    reader: &Reader<'_, '_>,
+    config: Option<&Config>,
+    until: u64,
+    last: u64,
+    plans: Option<&[TimedAction]>,
+) -> Result<(), InputFault> {
+    let expectation = read_expectation(reader, until, last, plans.unwrap_or(&[]))?;
+    if let Some(config) = config {
+        check_target(reader.alloc(), config, &expectation, reader.place())?;
+    }
+    match plans {
+        None => Ok(()),
+        Some(plans) => check_content(reader, last, plans, &expectation),
+    }
+}
+
+/// An expectation whose target and whose alerts are there.
+fn read_known(
+    reader: &Reader<'_, '_>,
+    config: &Config,
+    until: u64,
+    last: u64,
+    plans: &[TimedAction],
+) -> Result<Expectation, InputFault>
+    ensures { IfOk result (IsKnownIn reader.now.dialect config.now until last plans.now (view reader.now.value)) }
+{
+    let expectation = read_expectation(reader, until, last, plans)?;
+    check_target(reader.alloc(), config, &expectation, reader.place())?;
+    check_content(reader, last, plans, &expectation)?;
+    Ok(expectation)
+}
+
+fn check_content(
+    reader: &Reader<'_, '_>,
+    last: u64,
+    plans: &[TimedAction],
+    expectation: &Expectation,
+) -> Result<(), InputFault>
+    ensures { OnOk result (has_alerts last plans.now expectation.now.content ≡ true) }
+{
+    let item = reader.object()?;
+    check_alerts(&item, last, plans, &expectation.content, reader.place())
+}
+
+/// What is expected of a span, up to `until` where no end is said, for a receiver and an integration,
+/// where these are said.
+fn read_expectation(
+    reader: &Reader<'_, '_>,
+    until: u64,
+    last: u64,
+    plans: &[TimedAction],
+) -> Result<Expectation, InputFault>
+    ensures { IfOk result (IsExpectedIn reader.now.dialect until last plans.now (view reader.now.value)) }
+{
+    let item = reader.object()?;
+    item.only(&MEMBERS)?;
+    Ok(read_members(&item, until, last, plans)?)
+}
+
+fn read_members(
+    item: &Object<'_, '_>,
+    until: u64,
+    last: u64,
+    plans: &[TimedAction],
+) -> Result<Expectation, InputFault>
+    ensures { IfOk result (IsExpectedOf item.now.dialect until last plans.now (members_view item.now.members)) }
+{
+    let name = read_name(item, "name")?;
+    let (from, to) = read_span(item, until, last, plans)?;
+    let receiver = read_name(item, "receiver")?;
+    let (kind, integration) = read_target(item)?;
+    let content = read_content(item)?;
+    let amount = read_amount(item)?;
+    Ok(Expectation {
+        name,
+        from,
+        to,
+        receiver,
+        kind,
+        integration,
+        content,
+        amount,
+    })
+}
+
+/// A text, if the member of this name is there.
+fn read_name(item: &Object<'_, '_>, member: &str) -> Result<Option<Text>, InputFault>
+    ensures { IfOk result (λ name.
+        member_if as_str (get_member member.now (members_view item.now.members)) ≡ Some name) }
+{
+    match item.optional(member) {
+        None => Ok(None),
+        Some(member) => Ok(Some(Text::new(item.alloc(), member.text()?)?)),
+    }
+}

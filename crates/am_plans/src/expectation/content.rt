@@ -1,0 +1,135 @@
+//! What an expectation wants a notice to say. `expectation` calls it.
+ghost use Rattle.std.specs.Prelude.{◌≡◌, IfOk, OnOk, Some, codes};
+ghost use Rattle.serde_json.specs.Find.{get_member};
+ghost use Rattle.serde_json.specs.View.{members_view, view};
+ghost use Rattle.am_cli.specs.Decoding.{IsList};
+ghost use Rattle.am_cli.specs.Configured.{DecodesToLabels, DecodesToMatcher};
+ghost use Rattle.am_plans.specs.Expected.{AreFiringIn, AreMatchersIn, AreResolvedIn, AreSetsIn, HasContentIn, member_if, reason_in};
+ghost use Rattle.am_plans.specs.Expected.{SaysExactly, said_or_of};
+
+use crate::expectation::span::{read_when, refuse_beside};
+use am_alerts::labels::Labels;
+use am_alerts::limits::MAX_MATCHERS;
+use am_alerts::matcher::Matcher;
+use am_alerts::sequence::Sequence;
+use am_cli::fault::{FaultKind, InputFault};
+use am_cli::labels::read_labels;
+use am_cli::reader::{Object, Reader};
+use am_terms::expectation::{Content, SentReason, reason_named};
+
+/// What a notice has to say. `has` or `has_resolved`, as `when` says, is `of` where it isn't said; `exactly` says
+/// both sets, of which that of the resolved alerts is empty.
+pub(crate) fn read_content(item: &Object<'_, '_>) -> Result<Content, InputFault>
+    ensures { IfOk result (HasContentIn item.now.dialect (members_view item.now.members)) }
+{
+    let resolves = read_when(item)?;
+    let has = read_has(item, "has", !resolves)?;
+    let has_resolved = read_has(item, "has_resolved", resolves)?;
+    check_exactly(item)?;
+    let firing = read_firing(item)?;
+    let resolved = read_resolved(item)?;
+    let reason = read_reason(item)?;
+    Ok(Content {
+        has,
+        has_resolved,
+        firing,
+        resolved,
+        reason,
+    })
+}
+
+/// Refuses `exactly` beside `firing` or `resolved`.
+fn check_exactly(item: &Object<'_, '_>) -> Result<(), InputFault>
+    ensures { OnOk result (SaysExactly (members_view item.now.members)) }
+{
+    let Some(exactly) = item.optional("exactly") else {
+        return Ok(());
+    };
+    refuse_beside(item, &exactly, "firing")?;
+    refuse_beside(item, &exactly, "resolved")
+}
+
+/// The matchers of a member, or else those of `of` if they stand for it.
+fn read_has(
+    item: &Object<'_, '_>,
+    name: &str,
+    or_of: bool,
+) -> Result<Option<Sequence<Matcher>>, InputFault>
+    ensures { IfOk result (AreMatchersIn item.now.dialect (said_or_of or_of name.now (members_view item.now.members))) }
+{
+    if let Some(member) = item.optional(name) {
+        return Ok(Some(read_matchers(&member)?));
+    }
+    if !or_of {
+        return Ok(None);
+    }
+    match item.optional("of") {
+        None => Ok(None),
+        Some(member) => Ok(Some(read_matchers(&member)?)),
+    }
+}
+
+/// Matchers, 1 to 32.
+pub(crate) fn read_matchers(member: &Reader<'_, '_>) -> Result<Sequence<Matcher>, InputFault>
+    ensures { IfOk result (IsList (DecodesToMatcher member.now.dialect) (view member.now.value)) }
+{
+    let matchers = member.list_up_to::<Matcher>(MAX_MATCHERS)?;
+    if matchers.is_empty() {
+        return Err(member.refuse(FaultKind::BadValue));
+    }
+    Ok(Sequence::from(matchers))
+}
+
+/// The label sets that fire.
+fn read_firing(item: &Object<'_, '_>) -> Result<Option<Sequence<Labels>>, InputFault>
+    ensures { IfOk result (AreFiringIn item.now.dialect (members_view item.now.members)) }
+{
+    match item.optional("exactly") {
+        None => read_sets(item, "firing"),
+        Some(_) => read_sets(item, "exactly"),
+    }
+}
+
+/// The label sets that are resolved.
+fn read_resolved(item: &Object<'_, '_>) -> Result<Option<Sequence<Labels>>, InputFault>
+    ensures { IfOk result (AreResolvedIn item.now.dialect (members_view item.now.members)) }
+{
+    match item.optional("exactly") {
+        None => read_sets(item, "resolved"),
+        Some(_) => Ok(Some(Sequence::empty(item.alloc()))),
+    }
+}
+
+fn read_sets(item: &Object<'_, '_>, name: &str) -> Result<Option<Sequence<Labels>>, InputFault>
+    ensures { IfOk result (AreSetsIn item.now.dialect (get_member name.now (members_view item.now.members))) }
+{
+    match item.optional(name) {
+        None => Ok(None),
+        Some(member) => Ok(Some(Sequence::from(list_sets(&member)?))),
+    }
+}
+
+fn list_sets(member: &Reader<'_, '_>) -> Result<Vec<Labels>, InputFault>
+    ensures { IfOk result (λ sets. IsList (DecodesToLabels member.now.dialect) (view member.now.value) sets.items) }
+{
+    let mut sets = Vec::new(member.alloc());
+    let values = member.array()?;
+    for (index, value) in values.iter().enumerate() {
+        sets.push(read_labels(&member.item(index, value))?)?;
+    }
+    Ok(sets)
+}
+
+/// The reason for which a notice is sent.
+fn read_reason(item: &Object<'_, '_>) -> Result<Option<SentReason>, InputFault>
+    ensures { IfOk result (λ reason.
+        member_if reason_in (get_member (codes "reason") (members_view item.now.members)) ≡ Some reason) }
+{
+    let Some(member) = item.optional("reason") else {
+        return Ok(None);
+    };
+    match reason_named(member.text()?) {
+        None => Err(member.refuse(FaultKind::BadValue)),
+        Some(reason) => Ok(Some(reason)),
+    }
+}

@@ -1,0 +1,87 @@
+//! Whether a configuration has the receiver and the integration of an expectation. `expectation` calls it.
+ghost use Rattle.std.specs.Prelude.{◌≡◌, OnOk, true};
+ghost use Rattle.std.specs.List.{list_any};
+ghost use Rattle.std.specs.Str.{bytes_eq};
+ghost use Rattle.am_plans.specs.Expected.{has_integration, has_kind, has_target, is_named, is_target};
+
+use am_cli::fault::{FaultKind, InputFault};
+use am_cli::place::JsonPointer;
+use am_model::config::{Config, Integration, Receiver};
+use am_terms::expectation::Expectation;
+use std::alloc::Global;
+
+/// Refuses a receiver that the configuration hasn't, and an integration that the receiver hasn't; where no receiver is
+/// named, one that none has.
+pub(crate) fn check_target(
+    alloc: Global,
+    config: &Config,
+    expectation: &Expectation,
+    place: &JsonPointer<'_>,
+) -> Result<(), InputFault>
+    ensures { OnOk result (has_target config.now expectation.now ≡ true) }
+{
+    if has_target(config, expectation) {
+        return Ok(());
+    }
+    let wrong = wrong_member(config, expectation);
+    Err(place.member(wrong).refuse(alloc, FaultKind::BadValue))
+}
+
+/// The member for which there is no target: the receiver, if there is none of its name, or else the integration.
+fn wrong_member(config: &Config, expectation: &Expectation) -> &'static str {
+    match &expectation.receiver {
+        Some(name) if config.receiver(name.as_str()).is_none() => "receiver",
+        _ => "integration",
+    }
+}
+
+/// Whether a receiver of the configuration has what an expectation names.
+fn has_target(config: &Config, expectation: &Expectation) -> bool
+    ensures { result ≡ has_target config.now expectation.now }
+{
+    config
+        .receivers
+        .as_slice()
+        .iter()
+        .any(|receiver| is_target(expectation, receiver))
+}
+
+fn is_target(expectation: &Expectation, receiver: &Receiver) -> bool
+    ensures { result ≡ is_target expectation.now receiver.now }
+{
+    is_named(expectation, receiver) && has_integration(expectation, receiver)
+}
+
+/// Whether a receiver has the name that an expectation says, if it says one.
+fn is_named(expectation: &Expectation, receiver: &Receiver) -> bool
+    ensures { result ≡ is_named expectation.now.receiver receiver.now }
+{
+    match &expectation.receiver {
+        None => true,
+        Some(name) => receiver.name.as_str() == name.as_str(),
+    }
+}
+
+/// Whether a receiver has an integration of the kind and at the position that an expectation says, where it says these.
+fn has_integration(expectation: &Expectation, receiver: &Receiver) -> bool
+    ensures { result ≡ has_integration expectation.now.kind expectation.now.integration receiver.now.integrations }
+{
+    let integrations = receiver.integrations.as_slice();
+    match (&expectation.kind, expectation.integration) {
+        (None, None) => true,
+        (None, Some(position)) => (position as usize) < integrations.len(),
+        (Some(kind), None) => has_kind(integrations, kind.as_str()),
+        (Some(kind), Some(position)) => match integrations.get(position as usize) {
+            None => false,
+            Some(integration) => integration.kind.as_str() == kind.as_str(),
+        },
+    }
+}
+
+fn has_kind(integrations: &[Integration], kind: &str) -> bool
+    ensures { result ≡ has_kind kind.now integrations.now }
+{
+    integrations
+        .iter()
+        .any(|integration| integration.kind.as_str() == kind)
+}

@@ -1,0 +1,16 @@
+//! Reads what happens in a story, and what is expected of it, as JSON values: alerts and silences as planned actions,
+//! outages, expectations. `am_input` calls it for the fields of a story.
+//!
+//! It doesn't read the configuration, so it is proved beside `am_config`.
+#![tactic(auto)]
+
+pub mod alert;
+pub mod causes;
+pub mod expectation;
+pub mod law;
+pub mod origin;
+pub mod outage;
+pub mod planned;
+pub mod silence;
+mod span;
+pub mod target;

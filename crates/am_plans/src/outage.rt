@@ -1,0 +1,89 @@
+//! The outages of a rehearsal, and how they are read. `input` calls it.
+ghost use Rattle.std.specs.Prelude.{◌≡◌, [], IfOk, codes, map};
+ghost use Rattle.serde_json.specs.View.{members_view};
+ghost use Rattle.am_cli.specs.Decoding.{HasOr, IsAnswer, IsList};
+ghost use Rattle.am_plans.specs.Decoding.{DecodesToOutage};
+
+use crate::span::Span;
+use crate::target::{check, position};
+use am_cli::duration::duration_or;
+use am_cli::fault::InputFault;
+use am_cli::place::JsonPointer;
+use am_cli::reader::{FromJson, Object, Reader};
+use am_model::config::Config;
+use am_retry::Answer;
+use am_terms::rehearsal::Outage;
+use std::alloc::{AllocError, Global};
+
+/// The answers of a receiver's integrations in a span.
+#[derive(Drop)]
+pub struct OutageItem {
+    pub outage: Outage,
+}
+
+impl<'v> FromJson<'v> for OutageItem {
+    ghost decodes_to = { λ dialect value item. DecodesToOutage value item.outage };
+
+    fn read(reader: &Reader<'v, '_>) -> Result<OutageItem, InputFault> {
+        let outage = reader.object()?;
+        outage.only(&["receiver", "integration", "from", "to", "answer", "takes"])?;
+        let receiver = outage.required_text("receiver")?;
+        let integration = position(&outage)?;
+        let Span { from, to } = Span::of(&outage)?;
+        let answer = read_answer(&outage)?;
+        let takes = duration_or(&outage, "takes", 0)?;
+        Ok(OutageItem {
+            outage: Outage {
+                receiver,
+                integration,
+                from,
+                to,
+                answer,
+                takes,
+            },
+        })
+    }
+}
+
+/// What is answered; `again`, where it isn't said.
+fn read_answer(outage: &Object<'_, '_>) -> Result<Answer, InputFault>
+    ensures { IfOk result (HasOr IsAnswer Answer.Again (codes "answer") (members_view outage.now.members)) }
+{
+    match outage.optional("answer") {
+        None => Ok(Answer::Again),
+        Some(member) => Answer::read(&member),
+    }
+}
+
+/// Reads the outages of a story, whose receivers and integrations the configuration has.
+pub fn read_outages(top: &Object<'_, '_>, config: &Config) -> Result<Vec<Outage>, InputFault>
+    ensures { IfOk result (λ outages.
+        HasOr (IsList DecodesToOutage) [] (codes "outages") (members_view top.now.members) outages.items) }
+{
+    let items = top.list_or_none::<OutageItem>("outages")?;
+    let outages = outages_of(top.alloc(), items)?;
+    check_outages(top.alloc(), config, outages.as_slice())?;
+    Ok(outages)
+}
+
+/// Refuses the first outage whose receiver or integration the configuration hasn't.
+fn check_outages(alloc: Global, config: &Config, outages: &[Outage]) -> Result<(), InputFault> {
+    for (index, outage) in outages.iter().enumerate() {
+        let place = JsonPointer::Root;
+        check(
+            alloc,
+            config,
+            outage.receiver.as_str(),
+            outage.integration,
+            place.member("outages").item(index),
+        )?;
+    }
+    Ok(())
+}
+
+/// The outages of items.
+fn outages_of(alloc: Global, items: Vec<OutageItem>) -> Result<Vec<Outage>, AllocError>
+    ensures { IfOk result (λ outages. outages.items ≡ map (λ i. i.outage) items.items) }
+{
+    items.into_iter().map(|item| item.outage).collect(alloc)
+}

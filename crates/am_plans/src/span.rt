@@ -1,0 +1,55 @@
+//! Spans of time, and how they are read. Alerts, silences and outages call it.
+ghost use Rattle.std.specs.Prelude.{◌<◌, IfOk, IfSome, codes};
+ghost use Rattle.serde_json.specs.View.{members_view};
+ghost use Rattle.am_cli.specs.Decoding.{HasIf, IsDuration};
+
+use am_cli::duration::{duration, duration_or};
+use am_cli::fault::{FaultKind, InputFault};
+use am_cli::reader::{FromJson, Object, Reader};
+
+/// From a moment on, and before another, if there is another (milliseconds from the start).
+#[derive(Clone, Copy, Debug)]
+pub struct Span {
+    pub from: u64,
+    pub to: Option<u64>,
+}
+
+impl Span {
+    ghost use Rattle.am_plans.specs.Decoding.{DecodesToSpan};
+
+    /// Reads the members `from`, the start where it isn't there, and `to` of an object. It isn't empty.
+    pub fn of(object: &Object<'_, '_>) -> Result<Span, InputFault>
+        ensures { IfOk result (DecodesToSpan (members_view object.now.members)) }
+    {
+        let from = duration_or(object, "from", 0)?;
+        let to = read_end(object, from)?;
+        Ok(Span { from, to })
+    }
+}
+
+/// The end of a span that begins at `from`, if it has one: a later moment.
+fn read_end(object: &Object<'_, '_>, from: u64) -> Result<Option<u64>, InputFault>
+    ensures to { IfOk result (HasIf IsDuration (codes "to") (members_view object.now.members)) }
+    ensures later { IfOk result (λ to. IfSome to (λ to. from < to)) }
+{
+    let Some(member) = object.optional("to") else {
+        return Ok(None);
+    };
+    let to = duration(&member)?;
+    if to <= from {
+        return Err(member.refuse(FaultKind::BadValue));
+    }
+    Ok(Some(to))
+}
+
+impl<'v> FromJson<'v> for Span {
+    ghost use Rattle.am_plans.specs.Decoding.{IsSpan};
+
+    ghost decodes_to = { λ dialect value span. IsSpan value span };
+
+    fn read(reader: &Reader<'v, '_>) -> Result<Span, InputFault> {
+        let span = reader.object()?;
+        span.only(&["from", "to"])?;
+        Ok(Span::of(&span)?)
+    }
+}

@@ -1,0 +1,47 @@
+//! The receiver and the integration that an outage or an expectation names, and how they are read.
+ghost use Rattle.std.specs.Prelude.{◌≡◌, IfOk, Some, codes};
+ghost use Rattle.serde_json.specs.Find.{get_member};
+ghost use Rattle.serde_json.specs.View.{members_view};
+ghost use Rattle.am_cli.specs.Read.{number_in};
+ghost use Rattle.am_plans.specs.Expected.{member_if};
+
+use am_cli::fault::{FaultKind, InputFault};
+use am_cli::place::JsonPointer;
+use am_cli::reader::Object;
+use am_model::config::{Config, MAX_INTEGRATIONS};
+use std::alloc::Global;
+
+/// The position of an integration in its receiver, which is the member `integration`, if it is there.
+pub fn position(object: &Object<'_, '_>) -> Result<Option<u32>, InputFault>
+    ensures { IfOk result (λ position.
+        member_if number_in (get_member (codes "integration") (members_view object.now.members)) ≡ Some position) }
+{
+    match object.optional("integration") {
+        None => Ok(None),
+        Some(member) => Ok(Some(member.number_up_to(MAX_INTEGRATIONS as u64)? as u32)),
+    }
+}
+
+/// Refuses a receiver that the configuration hasn't, and a position that the receiver hasn't, at
+/// their members of what stands at this place.
+pub fn check(
+    alloc: Global,
+    config: &Config,
+    receiver: &str,
+    position: Option<u32>,
+    place: JsonPointer<'_>,
+) -> Result<(), InputFault> {
+    let Some(receiver) = config.receiver(receiver) else {
+        return Err(place.member("receiver").refuse(alloc, FaultKind::BadValue));
+    };
+    match position {
+        Some(position) if position as usize >= receiver.integrations.len() => {
+            Err(
+                place
+                    .member("integration")
+                    .refuse(alloc, FaultKind::BadValue),
+            )
+        }
+        _ => Ok(()),
+    }
+}

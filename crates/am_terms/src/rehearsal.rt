@@ -1,0 +1,63 @@
+//! What a rehearsal is made of. `am_input` reads one of a story, and `am_rehearsal` plays it.
+ghost use Rattle.std.specs.Prelude.{◌≤◌};
+ghost use Rattle.am_terms.specs.declared.rehearsal.TheConstants.{MAX_UNTIL};
+
+use am_alerts::alert::Alert;
+use am_alerts::text::Text;
+use am_model::config::Config;
+use am_mute::silence::Silence;
+use am_retry::Answer;
+
+/// The latest end of a rehearsal: 366 days, in milliseconds.
+///
+/// So an outage without an end is tried a bounded number of times.
+pub const MAX_UNTIL: u64 = 31_622_400_000;
+
+/// A configuration, what happens to it, and how its integrations answer.
+#[derive(Drop)]
+pub struct Rehearsal {
+    pub config: Config,
+    /// The last time at which something happens, except the ends of notices in flight; at most
+    /// `MAX_UNTIL`.
+    pub until: u64,
+    /// The time between two maintenances, in milliseconds; not zero.
+    pub maintain: u64,
+    /// The planned actions, in the order of their times.
+    pub plans: Vec<TimedAction>,
+    /// The outages. If two cover an attempt, the first one answers.
+    pub outages: Vec<Outage>,
+    ghost ends: { until ≤ MAX_UNTIL },
+    ghost goes_on: { 1 ≤ maintain },
+}
+
+/// An action and its time.
+#[derive(Debug, Drop)]
+pub struct TimedAction {
+    pub at: u64,
+    pub act: Action,
+}
+
+/// An alert or a silence that a rehearsal puts into its board.
+#[derive(Debug, Drop)]
+pub enum Action {
+    /// An alert is inserted, for the first time or again, as when it is resolved.
+    Insert(Alert),
+    /// A silence is set.
+    Silence(Silence),
+}
+
+/// How an integration answers the attempts of a span.
+#[derive(Debug, Drop)]
+pub struct Outage {
+    /// The name of the integration's receiver.
+    pub receiver: Text,
+    /// Its position in the receiver; none means every integration.
+    pub integration: Option<u32>,
+    /// The first time that it covers.
+    pub from: u64,
+    /// The first time that it no longer covers; none means that it has no end.
+    pub to: Option<u64>,
+    pub answer: Answer,
+    /// How long an attempt takes, in milliseconds.
+    pub takes: u64,
+}

@@ -1,13 +1,13 @@
 //! `Axis`: the place of each time, and the round times along it. The modules that draw call it.
 ghost use Rattle.std.specs.Prelude.{◌≤◌, ◌^◌};
 
-use crate::escape::push_escaped;
 use crate::pen::{LEFT, WIDTH, push_place};
 use crate::scene::Scene;
 use crate::ticks::Ticks;
 use am_model::record::Call;
 use am_terms::clock::TimeFormat;
 use am_terms::event::Event;
+use am_timeline::escape::push_escaped;
 use std::alloc::{AllocError, Global};
 
 /// The milliseconds of a day.

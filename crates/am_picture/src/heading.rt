@@ -1,9 +1,9 @@
 //! The head of a page: its title, what it is drawn with, and how much it shows. `page` calls it.
 use crate::axis::Axis;
-use crate::escape::push_escaped;
 use crate::lanes::Totals;
 use crate::style::STYLE;
 use am_terms::clock::TimeFormat;
+use am_timeline::escape::push_escaped;
 use std::alloc::AllocError;
 
 /// The front of a page. Its policy lets a browser take nothing from elsewhere and run no script.

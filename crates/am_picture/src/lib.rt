@@ -3,7 +3,7 @@
 //! `page` gathers what is drawn (`lanes`), and then writes the page from top to bottom. Time runs
 //! from left to right. Each group has a lane: its alerts as bars (`bars`), its flushes as ticks
 //! (`flushes`), and a row of notices for each integration (`marks`). Every text that isn't the
-//! page's own goes through `escape`, and texts on events are lines of the timeline. What is drawn
+//! page's own goes through `escape` of `am_timeline`, and texts on events are lines of the timeline. What is drawn
 //! of a group is bounded, except for its notices: each has a mark of its own.
 //!
 //! Times are in milliseconds from the start, places on the page in tenths of a pixel.
@@ -11,13 +11,10 @@
 
 mod axis;
 mod bars;
-pub mod escape;
 mod flushes;
 mod heading;
-pub mod junit;
 mod lane;
 mod lanes;
-pub mod law;
 mod legend;
 mod marks;
 mod names;

@@ -1,9 +1,9 @@
 //! Names of alerts, groups and integrations. The modules that draw call it.
-use crate::escape::{push_cut, push_escaped};
 use crate::pen::push_count;
 use am_alerts::labels::Labels;
 use am_model::config::Config;
 use am_model::group::GroupName;
+use am_timeline::escape::{push_cut, push_escaped};
 use std::alloc::{AllocError, Global};
 
 /// How many characters of a row's name are shown.

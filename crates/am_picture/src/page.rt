@@ -1,7 +1,6 @@
 //! The page of a rehearsal. `am_rehearse` prints it.
 use crate::axis::{Axis, push_axis};
 use crate::bars::{ROW, others_height, push_others, push_rows};
-use crate::escape::push_escaped;
 use crate::flushes::{FLUSHES, push_flushes};
 use crate::heading::push_head;
 use crate::lane::Lane;
@@ -12,12 +11,12 @@ use crate::names::push_group;
 use crate::pen::{below, push_count};
 use crate::scene::Scene;
 use am_terms::clock::TimeFormat;
+use am_timeline::escape::push_escaped;
 use am_timeline::table::table_text;
-use am_timeline::undelivered::undelivered_text;
 use std::alloc::{AllocError, Global};
 
 /// Returns a rehearsal that ran as a page of HTML that is XML too. It has no script, and nothing
-/// comes from elsewhere.
+/// comes from elsewhere. `undelivered` is the text on the alerts that no delivered notice has.
 ///
 /// The page has a lane for each group: its alerts, its flushes, and for each integration the
 /// notices. Exactly one element has the class `n` for each line of `notices_text`, and one the class
@@ -32,11 +31,12 @@ pub fn page<C: TimeFormat>(
     scene: &Scene,
     clock: &C,
     title: &str,
+    undelivered: &str,
 ) -> Result<String, AllocError> {
     let mut out = String::new(alloc);
     push_picture(alloc, scene, clock, title, &mut out)?;
     push_receivers(alloc, scene, clock, &mut out)?;
-    push_undelivered(alloc, scene, clock, &mut out)?;
+    push_undelivered(undelivered, &mut out)?;
     out.push_str("</body></html>\n")?;
     Ok(out)
 }
@@ -141,18 +141,12 @@ fn push_receivers<C: TimeFormat>(
 }
 
 /// Adds the alerts that no delivered notice has.
-fn push_undelivered<C: TimeFormat>(
-    alloc: Global,
-    scene: &Scene,
-    clock: &C,
-    out: &mut String,
-) -> Result<(), AllocError> {
-    let text = undelivered_text(alloc, &scene.playback(), clock)?;
+fn push_undelivered(text: &str, out: &mut String) -> Result<(), AllocError> {
     let heading = "Alerts that no delivered notification has";
     if text.is_empty() {
         return push_text(heading, "none", out);
     }
-    push_text(heading, text.as_str(), out)
+    push_text(heading, text, out)
 }
 
 /// Adds a text below a heading.

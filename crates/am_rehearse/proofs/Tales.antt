@@ -14,7 +14,7 @@ use Rattle.am_terms.specs.declared.rehearsal.Rehearsal.{Rehearsal}
 use Rattle.am_rehearse.specs.declared.wanted.Wanted.{Wanted}
 use Rattle.am_terms.specs.declared.expectation.Expectation.{Expectation}
 use Rattle.am_terms.specs.UtcDates.{StartData}
-use Rattle.am_timeline.specs.Expectation.{is_met}
+use Rattle.am_judge.specs.Expectation.{is_met}
 use Rattle.am_timeline.specs.Playback.{PlaybackData}
 use Rattle.am_terms.specs.TimeFormatData.{TimeFormatData}
 use Rattle.am_input.specs.Request.{IsRequestIn, times_from}

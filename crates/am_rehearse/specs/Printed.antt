@@ -19,15 +19,15 @@ use Rattle.am_timeline.specs.Changed.{changed}
 use Rattle.am_timeline.specs.Filtered.{filtered}
 use Rattle.am_terms.specs.declared.expectation.Expectation.{Expectation}
 use Rattle.am_terms.specs.UtcDates.{StartData}
-use Rattle.am_timeline.specs.Expectation.{is_met}
-use Rattle.am_timeline.specs.ExpectationReport.{expectations_text}
+use Rattle.am_judge.specs.Expectation.{is_met}
+use Rattle.am_judge.specs.ExpectationReport.{expectations_text}
 use Rattle.am_timeline.specs.Notices.{notices_text}
 use Rattle.am_timeline.specs.Playback.{PlaybackData}
 use Rattle.am_timeline.specs.Runs.{short_timeline_text}
 use Rattle.am_timeline.specs.Table.{table_text}
 use Rattle.am_timeline.specs.Timeline.{timeline_text}
 use Rattle.am_terms.specs.TimeFormatData.{TimeFormatData}
-use Rattle.am_timeline.specs.Undelivered.{undelivered_text}
+use Rattle.am_undelivered.specs.Undelivered.{undelivered_text}
 use Rattle.am_input.specs.Request.{IsRequestIn, times_from}
 use Rattle.am_input.specs.declared.input.Output.{Output}
 use Rattle.am_input.specs.declared.input.Changes.{Changes}

@@ -13,13 +13,13 @@ ghost use Rattle.am_rehearse.specs.Faults.{Refuses, status_of};
 ghost use Rattle.am_model.specs.Replay.{IsLegal};
 ghost use Rattle.am_rehearse.specs.Printed.{WritesOutput, IsPrinted, IsOutputOf, IsOutputOfRun, IsOutputFor, expectations_section, summary};
 ghost use Rattle.am_timeline.specs.Changed.{changed};
-ghost use Rattle.am_picture.specs.Junit.{junit_text};
-ghost use Rattle.am_timeline.specs.Expectation.{is_met, unmet_from};
+ghost use Rattle.am_judge.specs.Junit.{junit_text};
+ghost use Rattle.am_judge.specs.Expectation.{is_met, unmet_from};
 ghost use Rattle.am_timeline.specs.Filtered.{names_nothing};
 ghost use Rattle.am_timeline.specs.Runs.{short_timeline_text};
 ghost use Rattle.am_timeline.specs.Table.{table_text};
 ghost use Rattle.am_timeline.specs.Timeline.{timeline_text};
-ghost use Rattle.am_timeline.specs.Undelivered.{undelivered_text};
+ghost use Rattle.am_undelivered.specs.Undelivered.{undelivered_text};
 
 use crate::fault::RehearseFault;
 use crate::wanted::Wanted;
@@ -30,7 +30,9 @@ use am_cli::transfer::{MAX_INPUT, read_all, write_all};
 use am_config::dropped::IgnoredSettings;
 use am_input::input::{Changes, Input, Output, read_input};
 use am_input::zone_files::ZoneFiles;
-use am_picture::junit::junit_text;
+use am_judge::expectation::{is_met, unmet_expectations};
+use am_judge::expectation_report::expectations_text;
+use am_judge::junit::junit_text;
 use am_picture::page::page;
 use am_picture::scene::Scene;
 use am_plans::origin::Origin;
@@ -42,8 +44,6 @@ use am_terms::expectation::Expectation;
 use am_terms::rehearsal::Rehearsal;
 use am_terms::watch::Watch;
 use am_timeline::changed::changed_events;
-use am_timeline::expectation::{is_met, unmet_expectations};
-use am_timeline::expectation_report::expectations_text;
 use am_timeline::filtered::filtered_events;
 use am_timeline::json::json_text;
 use am_timeline::logbook::Logbook;
@@ -52,7 +52,7 @@ use am_timeline::playback::Playback;
 use am_timeline::short_timeline::short_timeline_text;
 use am_timeline::table::table_text;
 use am_timeline::timeline::timeline_text;
-use am_timeline::undelivered::undelivered_text;
+use am_undelivered::report::undelivered_text;
 use am_yaml::document::read_document;
 use std::alloc::{AllocError, Global};
 
@@ -401,7 +401,8 @@ fn picture<C: TimeFormat>(
         log: playback.logbook(),
         events: playback.events(),
     };
-    page(alloc, &scene, clock, "Rehearsal")
+    let undelivered = undelivered_text(alloc, playback, clock)?;
+    page(alloc, &scene, clock, "Rehearsal", undelivered.as_str())
 }
 
 /// Whether every expectation is met.

@@ -15,7 +15,7 @@ use Rattle.am_model.specs.look_back.Entry.{alert_in}
 use Rattle.am_model.specs.State.{same_name}
 use Rattle.am_model.proofs.states.Alike.{same_name_equiv}
 use Rattle.am_timeline.specs.Filtered.{brings, has_match}
-use Rattle.am_timeline.specs.Undelivered.{insert_of, inserted_in}
+use Rattle.am_timeline.specs.Filtered.{insert_of, inserted_in}
 
 -- a test of one more
 or_cond : (here there : Bool) → cond here true there ≡ (there || here)

@@ -1,13 +1,15 @@
 -- what is shown of a text from one of its characters on
 pub mod Showing
+-- escaped texts as content of elements
+pub mod Content
+-- what is escaped of a text from one of its characters on
+pub mod Escaping
+-- a text to which two more are added, one after the other
+pub mod Appended
 -- the worked rows: the definitions, run on them
 pub mod Rows
 -- the first elements of a list, the last of them first
 pub mod Reversed
--- the known alerts of a past, found from its end: each insert whose label set wasn't found before
-pub mod Known
--- what tables by label set or by group hold after one more alert or begin
-pub mod Tables
 -- runs of like flushes, by a table of the next flush of each group
 pub mod Folds
 -- the groups of the alerts that matchers match, found one alert and one route at a time

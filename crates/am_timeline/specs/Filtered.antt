@@ -1,6 +1,6 @@
 -- Filtered: the events of a rehearsal that concern a receiver, a route or some alerts.
-use Rattle.std.specs.Prelude.{◌≡◌, ℕ, Bool, true, false, ◌&&◌, ◌||◌, ◌==◌, List, length, filter, Option, is_none, slice_get}
-use Rattle.std.specs.List.{list_any}
+use Rattle.std.specs.Prelude.{◌≡◌, ℕ, Bool, true, false, ◌&&◌, ◌||◌, ◌==◌, List, [], ◌∷◌, length, filter, Option, Some, None, is_none, slice_get}
+use Rattle.std.specs.List.{flat_map, list_any}
 use Rattle.std.specs.Option.{option_map_or}
 use Rattle.std.specs.Str.{bytes_eq}
 use Rattle.am_alerts.specs.AlertData.{AlertData}
@@ -8,13 +8,23 @@ use Rattle.am_alerts.specs.Matcher.{match_all}
 use Rattle.am_alerts.specs.declared.matcher.MatcherParts.{MatcherParts}
 use Rattle.am_model.specs.declared.config.Config.{Config}
 use Rattle.am_model.specs.declared.group.GroupName.{GroupName}
+use Rattle.am_model.specs.declared.record.Record.{Record}
 use Rattle.am_model.specs.Configured.{route_of}
+use Rattle.am_model.specs.look_back.Entry.{alert_in}
 use Rattle.am_model.specs.look_back.Presence.{goes_to}
 use Rattle.am_terms.specs.declared.event.Event.{Event}
 use Rattle.am_terms.specs.declared.event.Event.TheVariants.{Begun, Sent}
 use Rattle.am_timeline.specs.declared.filtered.Filter.{Filter}
 use Rattle.am_timeline.specs.Playback.{PlaybackData}
-use Rattle.am_timeline.specs.Undelivered.{inserted_in}
+
+-- the alert that a call inserts, if it does
+abbrev pub insert_of : Option AlertData → List AlertData
+insert_of None = []
+insert_of (Some a) = a ∷ []
+
+-- the alerts of all inserts of a history
+abbrev pub inserted_in : List Record → List AlertData
+inserted_in history = flat_map (λ r. insert_of (alert_in r.call)) history
 
 -- whether a filter names nothing
 abbrev pub names_nothing : Filter → Bool

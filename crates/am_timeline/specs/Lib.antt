@@ -16,15 +16,11 @@ pub mod Runs
 pub mod Notices
 -- what each receiver got, a line for each
 pub mod Table
--- what is expected of a rehearsal, and whether it is met
-pub mod Expectation
--- the alerts that no delivered notice has, for how long they fired, and why
-pub mod Undelivered
 -- the events of a rehearsal that concern a receiver, a route or some alerts
 pub mod Filtered
 -- the events of a rehearsal, without the flushes that say the same as the flush before of their group
 pub mod Changed
--- the text on each expectation
-pub mod ExpectationReport
+-- texts as content of XML and HTML elements
+pub mod Escaped
 -- texts that were computed by hand
 pub mod Rows

@@ -1,6 +1,10 @@
 -- Playback: a rehearsal that ran, and the notices that were sent in it.
 use Rattle.std.specs.Prelude.{ℕ, ◌+◌, Bool, true, false, ◌==◌, List, [], drop, find, Option, None, slice_get}
+use Rattle.std.specs.List.{list_any}
 use Rattle.std.specs.Option.{option_and_then, option_map, option_map_or}
+use Rattle.am_alerts.specs.AlertData.{AlertData}
+use Rattle.am_alerts.specs.Labels.{same_label_set}
+use Rattle.am_alerts.specs.declared.labels.Label.{Label}
 use Rattle.am_retry.specs.declared.outcome.Outcome.{Outcome}
 use Rattle.am_retry.specs.declared.outcome.Outcome.TheVariants.{Delivered, Refused, Expired, Starved}
 use Rattle.am_model.specs.declared.config.Config.{Config}
@@ -13,6 +17,10 @@ use Rattle.am_model.specs.Ticket.{outcome_of}
 use Rattle.am_terms.specs.declared.event.Event.{Event}
 use Rattle.am_terms.specs.declared.event.Event.TheVariants.{Begun, Sent}
 use Rattle.am_terms.specs.declared.event.PreviewedBegin.{PreviewedBegin}
+
+-- whether one of these alerts has a label set
+abbrev pub has_set : List AlertData → List Label → Bool
+has_set alerts labels = list_any (λ a. same_label_set a.labels labels) alerts
 
 -- a configuration, a history and what its begins were to do
 pub record LogbookData : Type 0 where

@@ -9,7 +9,7 @@ use am_alerts::alert::Alert;
 use std::alloc::AllocError;
 
 /// Adds the alerts that fire, or that are resolved, behind a word; nothing where there is none.
-pub(crate) fn push_alerts(word: &str, alerts: &[Alert], out: &mut String) -> Result<(), AllocError>
+pub fn push_alerts(word: &str, alerts: &[Alert], out: &mut String) -> Result<(), AllocError>
     ensures { OnOk result (string_bytes out.new ≡ string_bytes out.old ++ alerts_text word.now alerts.now) }
 {
     match alerts {

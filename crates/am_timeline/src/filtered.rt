@@ -10,7 +10,7 @@ ghost use Rattle.am_model.specs.State.{same_name};
 ghost use Rattle.am_model.specs.declared.group.GroupName as named;
 ghost use Rattle.am_timeline.specs.Filtered.{FindsMatches, brings, concerns, has_match, is_named, is_of, is_wanted, is_wanted_at};
 ghost use Rattle.am_timeline.specs.Filtered.{names_nothing};
-ghost use Rattle.am_timeline.specs.Undelivered.{insert_of, inserted_in};
+ghost use Rattle.am_timeline.specs.Filtered.{insert_of, inserted_in};
 
 use crate::playback::Playback;
 use am_alerts::alert::Alert;

@@ -49,7 +49,7 @@ pub(crate) fn push_group(
 }
 
 /// Adds an integration of a group's receiver.
-pub(crate) fn push_integration(
+pub fn push_integration(
     config: &Config,
     group: &GroupName,
     position: usize,

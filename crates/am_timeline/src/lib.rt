@@ -1,5 +1,5 @@
-//! The texts of a rehearsal that ran: the timeline, its notices, the table of receivers, the report
-//! on expectations, and the same as JSON. `am_rehearse` calls it.
+//! The texts of a rehearsal that ran: the timeline, its notices, the table of receivers, and the same as
+//! JSON. `am_rehearse` calls it. `am_judge`, `am_undelivered` and `am_picture` build theirs of its pieces.
 //!
 //! Each text is one of the history, of what the begins were to do and of what happened, in its
 //! order. A line on a notice takes its content from the begin's record, and its outcome from the
@@ -9,26 +9,24 @@
 //! character other than line feeds.
 #![tactic(auto)]
 
-mod alerts;
+pub mod alerts;
 mod begun;
 pub mod changed;
 pub mod comparison;
-pub mod expectation;
-pub mod expectation_report;
+pub mod escape;
 pub mod filtered;
 mod frame;
-mod groups;
+pub mod groups;
 pub mod json;
 pub mod law;
-mod line;
+pub mod line;
 pub mod logbook;
-mod muted;
+pub mod muted;
 pub mod notices;
 pub mod playback;
 mod runs;
-mod sent;
+pub mod sent;
 pub mod short_timeline;
-mod shown;
+pub mod shown;
 pub mod table;
 pub mod timeline;
-pub mod undelivered;

@@ -102,7 +102,7 @@ fn push_expired<C: TimeFormat>(clock: &C, at: u64, out: &mut String) -> Result<(
 }
 
 /// Returns why a notice was sent, in words without a time, where the log entry had expired at this time, if it had.
-pub(crate) fn sent_words(expiry: Option<u64>, reason: &Reason) -> &'static str
+pub fn sent_words(expiry: Option<u64>, reason: &Reason) -> &'static str
     ensures { result.now ≡ sent_words expiry reason.now }
 {
     match expiry_if_first(expiry, reason) {

@@ -56,7 +56,7 @@ fn push_muted_alert<C: TimeFormat>(
 }
 
 /// Adds why an alert is muted.
-pub(crate) fn push_cause<C: TimeFormat>(
+pub fn push_cause<C: TimeFormat>(
     clock: &C,
     cause: &MuteCause,
     out: &mut String,

@@ -75,6 +75,27 @@ impl<'s> Playback<'s> {
         self.log
     }
 
+    /// Returns the configuration.
+    pub fn config(&self) -> &'s Config
+        ensures { result.now ≡ self.now.config }
+    {
+        self.config
+    }
+
+    /// Returns the history.
+    pub fn history(&self) -> &'s [Record]
+        ensures { result.now ≡ self.now.history }
+    {
+        self.history
+    }
+
+    /// Returns what the begins were to do.
+    pub fn begins(&self) -> &'s [PreviewedBegin]
+        ensures { result.now ≡ self.now.begins }
+    {
+        self.begins
+    }
+
     /// Returns the events.
     pub fn events(&self) -> &'s [Event]
         ensures { result.now ≡ self.now.events }
@@ -102,7 +123,7 @@ pub(crate) fn notices_at(history: &[Record], place: usize) -> &[Notice]
 }
 
 /// Returns the notices of a flush that was begun.
-pub(crate) fn notices_in(reply: &Reply) -> &[Notice]
+pub fn notices_in(reply: &Reply) -> &[Notice]
     ensures { result.now ≡ notices_in reply.now }
 {
     match reply {

@@ -13,13 +13,14 @@ use std::marker::Model;
 
 /// A notice whose sending ended.
 #[derive(Drop)]
-pub(crate) struct Sent<'s> {
+pub struct Sent<'s> {
     /// The begin of its flush.
-    pub(crate) begin: &'s PreviewedBegin,
-    pub(crate) notice: &'s Notice,
+    pub begin: &'s PreviewedBegin,
+    pub notice: &'s Notice,
     /// What it came to, as the finish of its flush says.
-    pub(crate) outcome: Outcome,
-    pub(crate) report: Report,
+    pub outcome: Outcome,
+    /// How its sending ended.
+    pub report: Report,
 }
 
 impl<'s> Model for Sent<'s> {
@@ -38,7 +39,7 @@ impl<'s> Model for Sent<'s> {
 
 impl<'s> Sent<'s> {
     /// Returns whether it was delivered.
-    pub(crate) fn is_delivered(&self) -> bool
+    pub fn is_delivered(&self) -> bool
         ensures { result ≡ is_delivered self.now.outcome }
     {
         match self.outcome {
@@ -49,7 +50,7 @@ impl<'s> Sent<'s> {
 }
 
 /// Returns the notice whose sending this event ended, if there is one.
-pub(crate) fn sent_of<'s>(playback: &Playback<'s>, event: &Event) -> Option<Sent<'s>>
+pub fn sent_of<'s>(playback: &Playback<'s>, event: &Event) -> Option<Sent<'s>>
     ensures { result ≡ sent_of playback.now event.now }
 {
     match event {
@@ -90,7 +91,7 @@ fn outcome_after(history: &[Record], place: usize, notice: &Notice) -> Option<Ou
 }
 
 /// Returns when the log entry expired whose lack a notice found, in milliseconds, if it had.
-pub(crate) fn expiry_before(playback: &Playback, sent: &Sent) -> Option<u64>
+pub fn expiry_before(playback: &Playback, sent: &Sent) -> Option<u64>
     ensures { result ≡ expiry_before playback.now sent.now }
 {
     let notice = sent.notice;

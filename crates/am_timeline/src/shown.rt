@@ -9,7 +9,7 @@ use am_alerts::labels::Labels;
 use std::alloc::AllocError;
 
 /// Adds a label set.
-pub(crate) fn push_set(labels: &Labels, out: &mut String) -> Result<(), AllocError>
+pub fn push_set(labels: &Labels, out: &mut String) -> Result<(), AllocError>
     ensures { OnOk result (string_bytes out.new ≡ string_bytes out.old ++ set_shown labels.now) }
 {
     out.push_str("{")?;
@@ -41,7 +41,7 @@ fn push_label(label: &(&str, &str), out: &mut String) -> Result<(), AllocError>
 
 /// Adds a text: `\`, `"` and a line feed as `\\`, `\"` and `\n`, each other control character as its
 /// number, like `\u{1b}`.
-pub(crate) fn push_text(text: &str, out: &mut String) -> Result<(), AllocError>
+pub fn push_text(text: &str, out: &mut String) -> Result<(), AllocError>
     ensures { OnOk result (string_bytes out.new ≡ string_bytes out.old ++ text_shown text.now) }
 {
     for c in text.chars() {
@@ -71,7 +71,7 @@ fn push_control(number: u8, out: &mut String) -> Result<(), AllocError>
 }
 
 /// Adds a number in hexadecimal digits.
-pub(crate) fn push_hex(number: u8, out: &mut String) -> Result<(), AllocError>
+pub fn push_hex(number: u8, out: &mut String) -> Result<(), AllocError>
     ensures { OnOk result (string_bytes out.new ≡ string_bytes out.old ++ hex_text number) }
 {
     if number >= 16 {

@@ -80,7 +80,7 @@ fn push_counts(playback: &Playback, name: &str, out: &mut String) -> Result<(), 
 }
 
 /// Adds how many of something there are.
-pub(crate) fn push_count(count: u64, word: &str, out: &mut String) -> Result<(), AllocError>
+pub fn push_count(count: u64, word: &str, out: &mut String) -> Result<(), AllocError>
     ensures { OnOk result (string_bytes out.new ≡ string_bytes out.old ++ count_text count word.now) }
 {
     push_number(count, out)?;
@@ -136,7 +136,7 @@ fn fails(playback: &Playback, name: &str, event: &Event) -> bool
 }
 
 /// Returns whether a notice was for the receiver of this name.
-pub(crate) fn is_for(config: &Config, name: &str, sent: &Sent) -> bool
+pub fn is_for(config: &Config, name: &str, sent: &Sent) -> bool
     ensures { result ≡ is_for config.now name.now sent.now }
 {
     let notice = sent.notice;

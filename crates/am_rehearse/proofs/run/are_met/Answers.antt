@@ -2,7 +2,7 @@ use Rattle.std.proofs.Common.{◌≡◌, ◌∙◌, ◌∷◌, ◌+◌, ◌<◌,
 use Rattle.std.specs.List.{list_all}
 use Rattle.std.proofs.lemmas.List.{drop_more}
 use Rattle.am_terms.specs.declared.expectation.Expectation.{Expectation}
-use Rattle.am_timeline.specs.Expectation.{is_met}
+use Rattle.am_judge.specs.Expectation.{is_met}
 use Rattle.am_timeline.specs.Playback.{PlaybackData}
 use Rattle.am_rehearse.proofs.run.are_met.Goals as goal
 

@@ -1,6 +1,6 @@
 use Rattle.std.proofs.Common.{◌≡◌, drop}
 use Rattle.std.specs.List.{list_all}
-use Rattle.am_timeline.specs.Expectation.{is_met}
+use Rattle.am_judge.specs.Expectation.{is_met}
 use Rattle.am_rehearse.proofs.run.are_met.Given as goal
 
 -- all so far are met

@@ -3,7 +3,7 @@ use Rattle.std.specs.HashSet.{contains}
 use Rattle.am_model.specs.declared.group.GroupName.{GroupName}
 use Rattle.am_model.specs.State.{same_name}
 use Rattle.am_timeline.specs.Filtered.{has_match}
-use Rattle.am_timeline.specs.Undelivered.{inserted_in}
+use Rattle.am_timeline.specs.Filtered.{inserted_in}
 use Rattle.am_timeline.proofs.filtered.all_groups.Given as goal
 
 -- the groups of the inserts so far were added

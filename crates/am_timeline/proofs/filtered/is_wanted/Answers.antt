@@ -2,7 +2,7 @@ use Rattle.std.proofs.Common.{◌≡◌, ◌∙◌, ◌==◌, ◌&&◌, ◌||◌
 use Rattle.std.specs.HashSet.{contains}
 use Rattle.am_model.specs.State.{same_name}
 use Rattle.am_timeline.specs.Filtered.{has_match, is_of}
-use Rattle.am_timeline.specs.Undelivered.{inserted_in}
+use Rattle.am_timeline.specs.Filtered.{inserted_in}
 use Rattle.am_timeline.proofs.Filters.{found-is}
 use Rattle.am_timeline.proofs.filtered.is_wanted.Goals as goal
 

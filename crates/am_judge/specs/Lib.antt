@@ -1,0 +1,6 @@
+-- what is expected of a rehearsal, and whether it is met
+pub mod Expectation
+-- the text on each expectation
+pub mod ExpectationReport
+-- the report on expectations as a test suite of JUnit
+pub mod Junit

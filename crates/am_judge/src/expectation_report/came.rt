@@ -1,0 +1,245 @@
+//! The notices that came, as text. `expectation_report` calls it.
+ghost use Rattle.std.specs.Prelude.{◌≡◌, ◌++◌, IfOk, OnOk, string_bytes};
+ghost use Rattle.std.specs.List.{flat_map};
+ghost use Rattle.am_judge.specs.ExpectationReport.{came_front, came_line, getter_text, got_alerts_text, got_by, got_if_shown, got_text};
+ghost use Rattle.am_judge.specs.ExpectationReport.{is_shown, nearest_text, none_text, resolved_word, unfitting_text};
+
+use crate::expectation::{count_fitting, fits, has_in_scope, is_in_scope};
+use crate::expectation_report::differences::push_differences;
+use crate::expectation_report::nearest::nearest_of;
+use am_alerts::alert::Alert;
+use am_model::config::Config;
+use am_model::notice::Notice;
+use am_terms::clock::TimeFormat;
+use am_terms::event::Event;
+use am_terms::expectation::Expectation;
+use am_timeline::alerts::push_alerts;
+use am_timeline::groups::push_integration;
+use am_timeline::playback::Playback;
+use am_timeline::sent::{Sent, sent_of};
+use am_timeline::shown::push_text;
+use std::alloc::{AllocError, Global};
+
+/// Adds the notices that came: those that fit, or else those in scope, or else the nearest.
+pub(crate) fn push_got<C: TimeFormat>(
+    alloc: Global,
+    playback: &Playback,
+    clock: &C,
+    expectation: &Expectation,
+    out: &mut String,
+) -> Result<(), AllocError>
+    ensures { OnOk result (string_bytes out.new ≡ string_bytes out.old
+        ++ got_text playback.now (C.times clock.now) expectation.now) }
+{
+    if count_fitting(alloc, playback, expectation)? == 0 {
+        return push_unfitting(alloc, playback, clock, expectation, out);
+    }
+    push_all_got(alloc, true, playback, clock, expectation, out)
+}
+
+/// Adds those in scope, or else the nearest.
+fn push_unfitting<C: TimeFormat>(
+    alloc: Global,
+    playback: &Playback,
+    clock: &C,
+    expectation: &Expectation,
+    out: &mut String,
+) -> Result<(), AllocError>
+    ensures { OnOk result (string_bytes out.new ≡ string_bytes out.old
+        ++ unfitting_text playback.now (C.times clock.now) expectation.now) }
+{
+    if has_in_scope(playback, expectation) {
+        return push_all_got(alloc, false, playback, clock, expectation, out);
+    }
+    push_none(alloc, playback, clock, expectation, out)
+}
+
+/// Adds that none came in scope, and the nearest.
+#[tactic(auto, unfolding(crate::specs::ExpectationReport::none_text))]
+fn push_none<C: TimeFormat>(
+    alloc: Global,
+    playback: &Playback,
+    clock: &C,
+    expectation: &Expectation,
+    out: &mut String,
+) -> Result<(), AllocError>
+    ensures { OnOk result (string_bytes out.new ≡ string_bytes out.old
+        ++ none_text playback.now (C.times clock.now) expectation.now) }
+{
+    out.push_str("  got       none\n")?;
+    push_nearest(alloc, playback, clock, expectation, out)
+}
+
+fn push_all_got<C: TimeFormat>(
+    alloc: Global,
+    some_fit: bool,
+    playback: &Playback,
+    clock: &C,
+    expectation: &Expectation,
+    out: &mut String,
+) -> Result<(), AllocError>
+    ensures { OnOk result (string_bytes out.new ≡ string_bytes out.old
+        ++ flat_map (got_by some_fit playback.now (C.times clock.now) expectation.now) playback.now.events) }
+{
+    let events = playback.events();
+    for event in events {
+        push_got_by(alloc, some_fit, playback, clock, expectation, event, out)?;
+    }
+    Ok(())
+}
+
+/// Adds the notice that is shown whose sending ended by this, if there is one.
+fn push_got_by<C: TimeFormat>(
+    alloc: Global,
+    some_fit: bool,
+    playback: &Playback,
+    clock: &C,
+    expectation: &Expectation,
+    event: &Event,
+    out: &mut String,
+) -> Result<(), AllocError>
+    ensures { OnOk result (string_bytes out.new ≡ string_bytes out.old
+        ++ got_by some_fit playback.now (C.times clock.now) expectation.now event.now) }
+{
+    match sent_of(playback, event) {
+        None => Ok(()),
+        Some(sent) => push_if_shown(alloc, some_fit, playback, clock, expectation, &sent, out),
+    }
+}
+
+fn push_if_shown<C: TimeFormat>(
+    alloc: Global,
+    some_fit: bool,
+    playback: &Playback,
+    clock: &C,
+    expectation: &Expectation,
+    sent: &Sent,
+    out: &mut String,
+) -> Result<(), AllocError>
+    ensures { OnOk result (string_bytes out.new ≡ string_bytes out.old
+        ++ got_if_shown some_fit playback.now (C.times clock.now) expectation.now sent.now) }
+{
+    if is_shown(alloc, some_fit, playback, expectation, sent)? {
+        return push_line(
+            alloc,
+            "  got       ",
+            playback,
+            clock,
+            expectation,
+            sent,
+            out,
+        );
+    }
+    Ok(())
+}
+
+/// Whether a notice is shown: one that fits, or one in scope where none fits.
+fn is_shown(
+    alloc: Global,
+    some_fit: bool,
+    playback: &Playback,
+    expectation: &Expectation,
+    sent: &Sent,
+) -> Result<bool, AllocError>
+    ensures { IfOk result (λ shown. shown ≡ is_shown some_fit playback.now expectation.now sent.now) }
+{
+    if some_fit {
+        return fits(alloc, playback, expectation, sent);
+    }
+    Ok(is_in_scope(playback.config(), expectation, sent))
+}
+
+/// Adds the nearest notice, and how it differs; nothing where none was delivered to the receiver.
+#[tactic(auto, unfolding(crate::specs::ExpectationReport::nearest_text))]
+fn push_nearest<C: TimeFormat>(
+    alloc: Global,
+    playback: &Playback,
+    clock: &C,
+    expectation: &Expectation,
+    out: &mut String,
+) -> Result<(), AllocError>
+    ensures { OnOk result (string_bytes out.new ≡ string_bytes out.old
+        ++ nearest_text playback.now (C.times clock.now) expectation.now) }
+{
+    match nearest_of(alloc, playback, expectation)? {
+        None => Ok(()),
+        Some(sent) => push_line(
+            alloc,
+            "  nearest   ",
+            playback,
+            clock,
+            expectation,
+            &sent,
+            out,
+        ),
+    }
+}
+
+/// Adds a notice behind a word, and how it differs from what is expected.
+#[tactic(auto, unfolding(crate::specs::ExpectationReport::came_line))]
+fn push_line<C: TimeFormat>(
+    alloc: Global,
+    word: &str,
+    playback: &Playback,
+    clock: &C,
+    expectation: &Expectation,
+    sent: &Sent,
+    out: &mut String,
+) -> Result<(), AllocError>
+    ensures { OnOk result (string_bytes out.new ≡ string_bytes out.old
+        ++ came_line word.now playback.now (C.times clock.now) expectation.now sent.now) }
+{
+    push_front(word, playback.config(), clock, sent, out)?;
+    out.push_str(": ")?;
+    push_got_alerts(sent.notice, out)?;
+    push_differences(alloc, playback, expectation, sent, out)?;
+    out.push_str("\n")
+}
+
+/// Adds when a notice came and to whom, behind a word.
+#[tactic(auto, unfolding(crate::specs::ExpectationReport::came_front))]
+fn push_front<C: TimeFormat>(
+    word: &str,
+    config: &Config,
+    clock: &C,
+    sent: &Sent,
+    out: &mut String,
+) -> Result<(), AllocError>
+    ensures { OnOk result (string_bytes out.new ≡ string_bytes out.old
+        ++ came_front word.now config.now (C.times clock.now) sent.now) }
+{
+    out.push_str(word)?;
+    clock.push_moment(sent.report.ended, out)?;
+    push_getter(config, sent.notice, out)
+}
+
+/// Adds who got a notice.
+#[tactic(auto, unfolding(crate::specs::ExpectationReport::getter_text))]
+fn push_getter(config: &Config, notice: &Notice, out: &mut String) -> Result<(), AllocError>
+    ensures { OnOk result (string_bytes out.new ≡ string_bytes out.old ++ getter_text config.now notice.now) }
+{
+    out.push_str(" -> ")?;
+    push_text(config.route_of(&notice.group).receiver.as_str(), out)?;
+    out.push_str(" ")?;
+    push_integration(config, &notice.group, notice.integration as usize, out)
+}
+
+/// Adds what a notice told.
+#[tactic(auto, unfolding(crate::specs::ExpectationReport::got_alerts_text))]
+fn push_got_alerts(notice: &Notice, out: &mut String) -> Result<(), AllocError>
+    ensures { OnOk result (string_bytes out.new ≡ string_bytes out.old ++ got_alerts_text notice.now) }
+{
+    let firing = notice.firing.as_slice();
+    push_alerts("firing ", firing, out)?;
+    push_alerts(resolved_word(firing), notice.resolved.as_slice(), out)
+}
+
+/// The word before the resolved alerts, behind those that fire.
+fn resolved_word(firing: &[Alert]) -> &'static str
+    ensures { result.now ≡ resolved_word firing.now }
+{
+    match firing {
+        [] => "resolved ",
+        [_, ..] => "; resolved ",
+    }
+}

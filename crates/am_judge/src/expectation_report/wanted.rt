@@ -1,0 +1,295 @@
+//! What is expected, as text. `expectation_report` calls it.
+ghost use Rattle.std.specs.Prelude.{◌≡◌, ◌++◌, OnOk, codes, option_copied, string_bytes};
+ghost use Rattle.std.specs.List.{flat_map, join_by};
+ghost use Rattle.am_judge.specs.ExpectationReport.{about_text, amount_text, exact_text, expected_line, has_text, kind_of, kind_text};
+ghost use Rattle.am_judge.specs.ExpectationReport.{listed_text, matcher_shown, matchers_text, notices_wanted, operator_shown};
+ghost use Rattle.am_judge.specs.ExpectationReport.{reason_part, sets_text, span_text, wanted_reason_text, wanted_text};
+ghost use Rattle.am_timeline.specs.Shown.{set_shown};
+
+use am_alerts::labels::Labels;
+use am_alerts::matcher::{Matcher, Operator};
+use am_alerts::sequence::Sequence;
+use am_model::config::{Config, kind_at};
+use am_terms::clock::{TimeFormat, push_number};
+use am_terms::expectation::{Amount, Content, Expectation, SentReason};
+use am_timeline::shown::{push_set, push_text};
+use am_timeline::table::push_count;
+use std::alloc::AllocError;
+
+/// Adds the line on what is expected.
+#[tactic(auto, unfolding(crate::specs::ExpectationReport::expected_line))]
+pub(crate) fn push_expected<C: TimeFormat>(
+    config: &Config,
+    clock: &C,
+    expectation: &Expectation,
+    out: &mut String,
+) -> Result<(), AllocError>
+    ensures { OnOk result (string_bytes out.new ≡ string_bytes out.old
+        ++ expected_line config.now (C.times clock.now) expectation.now) }
+{
+    out.push_str("  expected  ")?;
+    push_span(clock, expectation, out)?;
+    push_about(config, expectation, out)?;
+    out.push_str(": ")?;
+    push_notices(expectation, out)?;
+    out.push_str("\n")
+}
+
+/// Adds how many notices are expected, and what they have to say.
+#[tactic(auto, unfolding(crate::specs::ExpectationReport::notices_wanted))]
+fn push_notices(expectation: &Expectation, out: &mut String) -> Result<(), AllocError>
+    ensures { OnOk result (string_bytes out.new ≡ string_bytes out.old ++ notices_wanted expectation.now) }
+{
+    push_amount(expectation.amount, out)?;
+    push_wanted(&expectation.content, out)
+}
+
+fn push_span<C: TimeFormat>(
+    clock: &C,
+    expectation: &Expectation,
+    out: &mut String,
+) -> Result<(), AllocError>
+    ensures { OnOk result (string_bytes out.new
+        ≡ string_bytes out.old ++ span_text (C.times clock.now) expectation.now) }
+{
+    clock.push_moment(expectation.from, out)?;
+    out.push_str(" to ")?;
+    clock.push_moment(expectation.to, out)
+}
+
+/// Adds whom an expectation is about.
+fn push_about(
+    config: &Config,
+    expectation: &Expectation,
+    out: &mut String,
+) -> Result<(), AllocError>
+    ensures { OnOk result (string_bytes out.new ≡ string_bytes out.old
+        ++ about_text config.now expectation.now.receiver expectation.now.kind expectation.now.integration) }
+{
+    match (
+        &expectation.receiver,
+        &expectation.kind,
+        expectation.integration,
+    ) {
+        (None, None, None) => Ok(()),
+        (None, None, Some(position)) => {
+            out.push_str(" -> any/")?;
+            push_number(u64::from(position), out)
+        }
+        (None, Some(kind), position) => {
+            out.push_str(" -> any ")?;
+            push_kind(kind.as_str(), position, out)
+        }
+        (Some(name), None, None) => {
+            out.push_str(" -> ")?;
+            push_text(name.as_str(), out)
+        }
+        (Some(name), None, Some(position)) => {
+            out.push_str(" -> ")?;
+            push_text(name.as_str(), out)?;
+            out.push_str(" ")?;
+            out.push_str(kind_of(config, name.as_str(), position))?;
+            out.push_str("/")?;
+            push_number(u64::from(position), out)
+        }
+        (Some(name), Some(kind), position) => {
+            out.push_str(" -> ")?;
+            push_text(name.as_str(), out)?;
+            out.push_str(" ")?;
+            push_kind(kind.as_str(), position, out)
+        }
+    }
+}
+
+/// Adds a kind, and the position if it is said.
+fn push_kind(kind: &str, position: Option<u32>, out: &mut String) -> Result<(), AllocError>
+    ensures { OnOk result (string_bytes out.new ≡ string_bytes out.old ++ kind_text kind.now position) }
+{
+    push_text(kind, out)?;
+    match position {
+        None => Ok(()),
+        Some(position) => {
+            out.push_str("/")?;
+            push_number(u64::from(position), out)
+        }
+    }
+}
+
+/// The kind of an integration of the receiver of this name.
+fn kind_of<'c>(config: &'c Config, name: &str, position: u32) -> &'c str
+    ensures { result.now ≡ kind_of config.now name.now position }
+{
+    match config.receiver(name) {
+        None => "",
+        Some(receiver) => kind_at(receiver.integrations.as_slice(), position as usize),
+    }
+}
+
+/// Adds how many notices are wanted.
+fn push_amount(amount: Amount, out: &mut String) -> Result<(), AllocError>
+    ensures { OnOk result (string_bytes out.new ≡ string_bytes out.old ++ amount_text amount) }
+{
+    match amount {
+        Amount::AtLeastOne => out.push_str("a notice"),
+        Amount::Exactly(count) => push_count(count, " notice", out),
+        Amount::AtMost(0) => out.push_str("no notice"),
+        Amount::AtMost(most) => {
+            out.push_str("at most ")?;
+            push_count(most, " notice", out)
+        }
+    }
+}
+
+/// Adds what a notice has to say.
+#[tactic(auto, unfolding(crate::specs::ExpectationReport::wanted_text))]
+fn push_wanted(wanted: &Content, out: &mut String) -> Result<(), AllocError>
+    ensures { OnOk result (string_bytes out.new ≡ string_bytes out.old ++ wanted_text wanted.now) }
+{
+    push_has(wanted, out)?;
+    push_exact(wanted, out)?;
+    push_reason(wanted.reason, out)
+}
+
+/// Adds which alerts a notice has to have among others.
+#[tactic(auto, unfolding(crate::specs::ExpectationReport::has_text))]
+fn push_has(wanted: &Content, out: &mut String) -> Result<(), AllocError>
+    ensures { OnOk result (string_bytes out.new ≡ string_bytes out.old ++ has_text wanted.now) }
+{
+    push_matchers("; has ", wanted.has.as_ref(), out)?;
+    push_matchers("; has resolved ", wanted.has_resolved.as_ref(), out)
+}
+
+/// Adds which alerts a notice has to have and no others.
+#[tactic(auto, unfolding(crate::specs::ExpectationReport::exact_text))]
+fn push_exact(wanted: &Content, out: &mut String) -> Result<(), AllocError>
+    ensures { OnOk result (string_bytes out.new ≡ string_bytes out.old ++ exact_text wanted.now) }
+{
+    push_sets("; firing ", wanted.firing.as_ref(), out)?;
+    push_sets("; resolved ", wanted.resolved.as_ref(), out)
+}
+
+/// Adds matchers behind a word; nothing where none are said.
+fn push_matchers(
+    word: &str,
+    matchers: Option<&Sequence<Matcher>>,
+    out: &mut String,
+) -> Result<(), AllocError>
+    ensures { OnOk result (string_bytes out.new
+        ≡ string_bytes out.old ++ matchers_text word.now (option_copied matchers.entry)) }
+{
+    match matchers {
+        None => Ok(()),
+        Some(matchers) => {
+            out.push_str(word)?;
+            push_joined(matchers.as_slice(), out)
+        }
+    }
+}
+
+fn push_joined(matchers: &[Matcher], out: &mut String) -> Result<(), AllocError>
+    ensures { OnOk result (string_bytes out.new
+        ≡ string_bytes out.old ++ join_by matcher_shown (codes ", ") matchers.now) }
+{
+    match matchers {
+        [] => Ok(()),
+        [first, rest @ ..] => {
+            push_matcher(first, out)?;
+            push_more_matchers(rest, out)
+        }
+    }
+}
+
+fn push_more_matchers(matchers: &[Matcher], out: &mut String) -> Result<(), AllocError>
+    ensures { OnOk result (string_bytes out.new
+        ≡ string_bytes out.old ++ flat_map (λ m. codes ", " ++ matcher_shown m) matchers.now) }
+{
+    for matcher in matchers {
+        out.push_str(", ")?;
+        push_matcher(matcher, out)?;
+    }
+    Ok(())
+}
+
+#[tactic(auto, unfolding(crate::specs::ExpectationReport::matcher_shown))]
+fn push_matcher(matcher: &Matcher, out: &mut String) -> Result<(), AllocError>
+    ensures { OnOk result (string_bytes out.new ≡ string_bytes out.old ++ matcher_shown matcher.now) }
+{
+    let parts = matcher.parts();
+    out.push_str(parts.name.as_str())?;
+    out.push_str(operator_shown(parts.op))?;
+    out.push_str("\"")?;
+    push_text(parts.value.as_str(), out)?;
+    out.push_str("\"")
+}
+
+fn operator_shown(op: Operator) -> &'static str
+    ensures { result.now ≡ operator_shown op }
+{
+    match op {
+        Operator::Equal => "=",
+        Operator::NotEqual => "!=",
+        Operator::Like => "=~",
+        Operator::NotLike => "!~",
+    }
+}
+
+/// Adds label sets behind a word; nothing where none are said.
+fn push_sets(
+    word: &str,
+    sets: Option<&Sequence<Labels>>,
+    out: &mut String,
+) -> Result<(), AllocError>
+    ensures { OnOk result (string_bytes out.new
+        ≡ string_bytes out.old ++ sets_text word.now (option_copied sets.entry)) }
+{
+    match sets {
+        None => Ok(()),
+        Some(sets) => {
+            out.push_str(word)?;
+            push_listed(sets.as_slice(), out)
+        }
+    }
+}
+
+/// Adds label sets; `none` where there are none.
+fn push_listed(sets: &[Labels], out: &mut String) -> Result<(), AllocError>
+    ensures { OnOk result (string_bytes out.new ≡ string_bytes out.old ++ listed_text sets.now) }
+{
+    match sets {
+        [] => out.push_str("none"),
+        [first, rest @ ..] => {
+            push_set(first, out)?;
+            push_more_sets(rest, out)
+        }
+    }
+}
+
+fn push_more_sets(sets: &[Labels], out: &mut String) -> Result<(), AllocError>
+    ensures { OnOk result (string_bytes out.new
+        ≡ string_bytes out.old ++ flat_map (λ labels. codes ", " ++ set_shown labels) sets.now) }
+{
+    for labels in sets {
+        out.push_str(", ")?;
+        push_set(labels, out)?;
+    }
+    Ok(())
+}
+
+/// Adds a reason; nothing where none is said.
+fn push_reason(reason: Option<SentReason>, out: &mut String) -> Result<(), AllocError>
+    ensures { OnOk result (string_bytes out.new ≡ string_bytes out.old ++ wanted_reason_text reason) }
+{
+    match reason {
+        None => Ok(()),
+        Some(reason) => push_reason_part(reason.words(), out),
+    }
+}
+
+/// Adds the words of a reason behind another.
+#[tactic(auto, unfolding(crate::specs::ExpectationReport::reason_part))]
+pub(crate) fn push_reason_part(words: &str, out: &mut String) -> Result<(), AllocError>
+    ensures { OnOk result (string_bytes out.new ≡ string_bytes out.old ++ reason_part words.now) }
+{
+    out.push_str("; reason ")?;
+    out.push_str(words)
+}

@@ -1,0 +1,175 @@
+//! The report on expectations for CI, as JUnit's XML. `am_rehearse` writes it.
+ghost use Rattle.std.specs.Prelude.{◌≡◌, ◌++◌, IfOk, OnOk, option_copied, string_bytes};
+ghost use Rattle.am_judge.specs.Junit.{case_name, case_text, cases_text, failure_text, failure_with, failures_text, junit_text};
+ghost use Rattle.am_judge.specs.Junit.{name_escaped, outcome_text, suite_counts, suite_head};
+ghost use Rattle.am_judge.specs.ExpectationReport.{answer_text};
+
+use crate::expectation::{is_met, unmet_expectations};
+use crate::expectation_report::push_answer;
+use am_alerts::text::Text;
+use am_terms::clock::{TimeFormat, push_number};
+use am_terms::expectation::Expectation;
+use am_timeline::escape::push_escaped;
+use am_timeline::playback::Playback;
+use std::alloc::{AllocError, Global};
+
+/// Returns a test suite with a test case for each expectation, in their order.
+///
+/// One that isn't met is a failure: what was expected, and the notices that came. Cost: three times that of
+/// `expectations_text`.
+pub fn junit_text<C: TimeFormat>(
+    alloc: Global,
+    playback: &Playback,
+    clock: &C,
+    expectations: &[Expectation],
+) -> Result<String, AllocError>
+    ensures { IfOk result (λ text. string_bytes text ≡ junit_text playback.now (C.times clock.now) expectations.now) }
+{
+    let mut out = String::new(alloc);
+    let unmet = unmet_expectations(alloc, playback, expectations)?;
+    push_head(expectations.len(), unmet.len(), &mut out)?;
+    push_cases(alloc, playback, clock, expectations, &mut out)?;
+    out.push_str("</testsuite>\n")?;
+    Ok(out)
+}
+
+/// Adds the start of a suite, with the number of its cases and of those that fail.
+fn push_head(cases: usize, failures: usize, out: &mut String) -> Result<(), AllocError>
+    ensures { OnOk result (string_bytes out.new ≡ string_bytes out.old ++ suite_head cases failures) }
+{
+    out.push_str(
+        "<?xml version=\"1.0\" encoding=\"UTF-8\"?>\n<testsuite name=\"am-rehearse\" tests=\"",
+    )?;
+    push_counts(cases, failures, out)
+}
+
+fn push_counts(cases: usize, failures: usize, out: &mut String) -> Result<(), AllocError>
+    ensures { OnOk result (string_bytes out.new ≡ string_bytes out.old ++ suite_counts cases failures) }
+{
+    push_number(cases as u64, out)?;
+    push_failures(failures, out)
+}
+
+fn push_failures(failures: usize, out: &mut String) -> Result<(), AllocError>
+    ensures { OnOk result (string_bytes out.new ≡ string_bytes out.old ++ failures_text failures) }
+{
+    out.push_str("\" failures=\"")?;
+    push_number(failures as u64, out)?;
+    out.push_str("\">\n")?;
+    Ok(())
+}
+
+fn push_cases<C: TimeFormat>(
+    alloc: Global,
+    playback: &Playback,
+    clock: &C,
+    expectations: &[Expectation],
+    out: &mut String,
+) -> Result<(), AllocError>
+    ensures { OnOk result (string_bytes out.new
+        ≡ string_bytes out.old ++ cases_text playback.now (C.times clock.now) 0 expectations.now) }
+{
+    for (number, expectation) in expectations.iter().enumerate() {
+        push_case(alloc, playback, clock, number, expectation, out)?;
+    }
+    Ok(())
+}
+
+#[tactic(auto, unfolding(crate::specs::Junit::case_text))]
+fn push_case<C: TimeFormat>(
+    alloc: Global,
+    playback: &Playback,
+    clock: &C,
+    number: usize,
+    expectation: &Expectation,
+    out: &mut String,
+) -> Result<(), AllocError>
+    ensures { OnOk result (string_bytes out.new
+        ≡ string_bytes out.old ++ case_text playback.now (C.times clock.now) number expectation.now) }
+{
+    out.push_str("<testcase classname=\"expect\" name=\"")?;
+    push_case_name(number, expectation, out)?;
+    out.push_str("\"")?;
+    push_outcome(alloc, playback, clock, expectation, out)
+}
+
+/// Adds the number of an expectation, and its name if it has one.
+#[tactic(auto, unfolding(crate::specs::Junit::case_name))]
+fn push_case_name(
+    number: usize,
+    expectation: &Expectation,
+    out: &mut String,
+) -> Result<(), AllocError>
+    ensures { OnOk result (string_bytes out.new ≡ string_bytes out.old ++ case_name number expectation.now) }
+{
+    out.push_str("expect ")?;
+    push_number(number as u64, out)?;
+    push_name(expectation.name.as_ref(), out)
+}
+
+fn push_name(name: Option<&Text>, out: &mut String) -> Result<(), AllocError>
+    ensures { OnOk result (string_bytes out.new ≡ string_bytes out.old ++ name_escaped (option_copied name.entry)) }
+{
+    match name {
+        None => Ok(()),
+        Some(name) => {
+            out.push_str(": ")?;
+            push_escaped(name.as_str(), out)
+        }
+    }
+}
+
+/// Adds the end of a case, with its failure if the expectation isn't met.
+fn push_outcome<C: TimeFormat>(
+    alloc: Global,
+    playback: &Playback,
+    clock: &C,
+    expectation: &Expectation,
+    out: &mut String,
+) -> Result<(), AllocError>
+    ensures { OnOk result (string_bytes out.new
+        ≡ string_bytes out.old ++ outcome_text playback.now (C.times clock.now) expectation.now) }
+{
+    if is_met(alloc, playback, expectation)? {
+        return out.push_str("/>\n");
+    }
+    push_failure(alloc, playback, clock, expectation, out)
+}
+
+#[tactic(auto, unfolding(crate::specs::Junit::failure_text))]
+fn push_failure<C: TimeFormat>(
+    alloc: Global,
+    playback: &Playback,
+    clock: &C,
+    expectation: &Expectation,
+    out: &mut String,
+) -> Result<(), AllocError>
+    ensures { OnOk result (string_bytes out.new
+        ≡ string_bytes out.old ++ failure_text playback.now (C.times clock.now) expectation.now) }
+{
+    let answer = answer_of(alloc, playback, clock, expectation)?;
+    push_failure_with(answer.as_str(), out)
+}
+
+fn push_failure_with(text: &str, out: &mut String) -> Result<(), AllocError>
+    ensures { OnOk result (string_bytes out.new ≡ string_bytes out.old ++ failure_with text.now) }
+{
+    out.push_str("><failure message=\"not met\">\n")?;
+    push_escaped(text, out)?;
+    out.push_str("</failure></testcase>\n")?;
+    Ok(())
+}
+
+/// Returns what was expected, and the notices that came.
+fn answer_of<C: TimeFormat>(
+    alloc: Global,
+    playback: &Playback,
+    clock: &C,
+    expectation: &Expectation,
+) -> Result<String, AllocError>
+    ensures { IfOk result (λ text. string_bytes text ≡ answer_text playback.now (C.times clock.now) expectation.now) }
+{
+    let mut answer = String::new(alloc);
+    push_answer(alloc, playback, clock, expectation, &mut answer)?;
+    Ok(answer)
+}

@@ -1,9 +1,0 @@
-use Rattle.std.proofs.Common.{◌≡◌, None, drop}
-use Rattle.am_timeline.specs.ExpectationReport.{nearest_with}
-use Rattle.am_timeline.proofs.expectation_report.nearest.nearest.Given as goal
-
--- the nearest so far, with the other notices, gives the nearest of all
-abbrev pub invariant-loop-event : goal.invariant-loop-event
-invariant-loop-event l =
-    nearest_with l.alike l.playback l.expectation l.best (drop l.event-index l.playback.events)
-    ≡ nearest_with l.alike l.playback l.expectation None l.playback.events

@@ -1,4 +1,4 @@
-//! `SystemZones`: the files of time zones of the system, for what `am_input` reads. `main` has them.
+//! `SystemZones`: the files of time zones of the system, for what `am_input` reads. The commands make it.
 ghost use Rattle.std.specs.Prelude.{◌≤◌, ◌<◌, length};
 
 use am_cli::device::Source;

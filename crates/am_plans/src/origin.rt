@@ -1,4 +1,4 @@
-//! The pointer of a planned action. `run` reports it if a limit leaves no capacity for the action.
+//! The pointer of a planned action. `am_rehearse` reports it if a limit leaves no capacity for the action.
 use am_cli::fault::{FaultKind, InputFault};
 use am_cli::place::JsonPointer;
 use std::alloc::Global;

@@ -1,4 +1,4 @@
-//! The outages of a rehearsal, and how they are read. `input` calls it.
+//! The outages of a rehearsal, and how they are read. `am_input` calls it.
 ghost use Rattle.std.specs.Prelude.{◌≡◌, [], IfOk, codes, map};
 ghost use Rattle.serde_json.specs.View.{members_view};
 ghost use Rattle.am_cli.specs.Decoding.{HasOr, IsAnswer, IsList};

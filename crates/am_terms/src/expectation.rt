@@ -1,4 +1,4 @@
-//! What is expected of a rehearsal. `am_input` reads it of a story, and `am_timeline` judges it.
+//! What is expected of a rehearsal. `am_plans` reads it of a story, and `am_judge` judges it.
 ghost use Rattle.std.specs.Prelude.{◌≡◌};
 ghost use Rattle.am_terms.specs.Expectation.{allows, reason_named, wanted_words};
 

@@ -20,7 +20,7 @@ use Rattle.am_model.specs.declared.record.Record.{Record}
 use Rattle.am_model.specs.Configured.{integrations_named}
 use Rattle.am_model.specs.Insert.{name_in}
 use Rattle.am_model.specs.Lists.{without}
-use Rattle.am_model.specs.look_back.Entry.{alert_in, known_in}
+use Rattle.am_model.specs.look_back.Entry.{known_in}
 use Rattle.am_model.specs.look_back.Past.{notices_in, past_of}
 use Rattle.am_model.specs.Notice.{NoticeData}
 use Rattle.am_model.specs.State.{same_name}

@@ -1,4 +1,4 @@
-//! `Findings`: what looking back on a rehearsal finds of its alerts. `undelivered` calls it.
+//! `Findings`: what looking back on a rehearsal finds of its alerts. `report` calls it.
 ghost use Rattle.std.specs.Prelude.{◌≡◌, ◌≤◌, IfOk, option_copied};
 ghost use Rattle.am_timeline.specs.Playback.{has_set};
 ghost use Rattle.am_undelivered.specs.Undelivered.{alert_route_mute, findings_of, fired_for, last_mute};

@@ -1,4 +1,4 @@
-//! The known alerts of a history: the last insert of each label set. `undelivered` calls it.
+//! The known alerts of a history: the last insert of each label set. `report` calls it.
 ghost use Rattle.std.specs.Prelude.{◌≡◌, IfOk, OnOk, Some, reverse};
 ghost use Rattle.am_model.specs.look_back.Entry.{alert_in, known_in};
 ghost use Rattle.am_model.specs.look_back.Past.{past_of};

@@ -1,5 +1,5 @@
 -- Runs: flushes of one group that follow each other, send nothing and have the same lines. The timeline has one line for all of them.
-use Rattle.std.specs.Prelude.{ℕ, ◌+◌, Bool, not, ◌&&◌, ◌==◌, List, [], ◌∷◌, ◌++◌, length, codes, decimal, map, Option, Some, None}
+use Rattle.std.specs.Prelude.{ℕ, ◌+◌, Bool, true, false, not, ◌&&◌, ◌==◌, List, [], ◌∷◌, ◌++◌, length, codes, decimal, map, Option, Some, None}
 use Rattle.std.specs.Prelude.{slice_get, if◌then◌else◌}
 use Rattle.std.specs.List.{flat_map, list_all}
 use Rattle.std.specs.Option.{option_map_or}
@@ -36,10 +36,19 @@ abbrev pub quiet_text : PlaybackData → TimeFormatData → PreviewedBegin → L
 quiet_text playback times begin =
     if sends_nothing playback.history begin then begun_lines playback times start_frame begin else []
 
+-- the lines by which a begin is compared: its own; nothing where it sends something, unless all have lines
+abbrev pub lines_by : Bool → PlaybackData → TimeFormatData → PreviewedBegin → List ℕ
+lines_by all playback times begin =
+    if all then begun_lines playback times start_frame begin else quiet_text playback times begin
+
 -- the flush of a begin
-abbrev pub flush_of : PlaybackData → TimeFormatData → PreviewedBegin → FlushData
-flush_of playback times begin =
-    record { group = begin.preview.group; moment = begin.preview.moment; lines = quiet_text playback times begin }
+abbrev pub flush_by : Bool → PlaybackData → TimeFormatData → PreviewedBegin → FlushData
+flush_by all playback times begin =
+    record { group = begin.preview.group; moment = begin.preview.moment; lines = lines_by all playback times begin }
+
+-- the flush of each begin
+abbrev pub flushes_by : Bool → PlaybackData → TimeFormatData → List FlushData
+flushes_by all playback times = map (flush_by all playback times) playback.begins
 
 -- whether there are lines, and those are the same
 abbrev pub are_same_lines : List ℕ → List ℕ → Bool
@@ -113,25 +122,43 @@ folded_event_lines playback times folds (Sent begin report) =
 
 -- what becomes of each begin
 abbrev pub begins_folded : PlaybackData → TimeFormatData → List Fold
-begins_folded playback times = folds_of [] (map (flush_of playback times) playback.begins)
+begins_folded playback times = folds_of [] (flushes_by false playback times)
 
 -- short timeline: the lines on all events, with one begin's for each run
 abbrev pub short_timeline_text : PlaybackData → TimeFormatData → List ℕ
 short_timeline_text playback times = flat_map (folded_event_lines playback times (begins_folded playback times)) playback.events
 
--- the first of these flushes that is of a group, and the run that it begins
-abbrev pub next_of : GroupName → List FlushData → Option (FlushData × Run)
+-- of the first of these flushes that is of a group the lines, and the run that it begins
+abbrev pub next_of : GroupName → List FlushData → Option (List ℕ × Run)
 next_of group [] = None
-next_of group (f ∷ later) = if same_name f.group group then Some (f, run_of f later) else next_of group later
+next_of group (f ∷ later) = if same_name f.group group then Some (f.lines, run_of f later) else next_of group later
 
--- the run of a flush, by the next flush of its group and its run
-abbrev pub run_by : FlushData → Option (FlushData × Run) → Run
-run_by f None = record { count = 1; until = f.moment }
-run_by f (Some next) =
-    if are_same_lines f.lines next.0.lines then record { count = next.1.count + 1; until = next.1.until }
-    else record { count = 1; until = f.moment }
+-- the run of a flush at a moment with these lines, by those of the next flush of its group and its run
+abbrev pub run_by : ℕ → List ℕ → Option (List ℕ × Run) → Run
+run_by moment lines None = record { count = 1; until = moment }
+run_by moment lines (Some next) =
+    if are_same_lines lines next.0 then record { count = next.1.count + 1; until = next.1.until }
+    else record { count = 1; until = moment }
 
 -- the run of each of these flushes
 abbrev pub runs_of : List FlushData → List Run
 runs_of [] = []
 runs_of (f ∷ later) = run_of f later ∷ runs_of later
+
+-- the group of a begin
+abbrev pub group_of : PreviewedBegin → GroupName
+group_of begin = begin.preview.group
+
+-- of flushes, the last of them first, the run of the first that is of a group
+abbrev pub run_before : GroupName → List (GroupName × Run) → Option Run
+run_before group [] = None
+run_before group (b ∷ before) = if same_name b.0 group then Some b.1 else run_before group before
+
+-- what becomes of flushes of these groups with these runs, if those are before them, the last of them first: one begins its run if the run
+-- of the one before it in its group has no more than that one
+abbrev pub with_runs : List (GroupName × Run) → List GroupName → List Run → List Fold
+with_runs before [] runs = []
+with_runs before (g ∷ groups) [] = []
+with_runs before (g ∷ groups) (r ∷ runs) =
+    record { is_first = option_map_or (λ b. b.count == 1) (run_before g before) true; run = r }
+    ∷ with_runs ((g, r) ∷ before) groups runs

@@ -1,17 +1,18 @@
 //! Runs: flushes of one group that follow each other, send nothing and have the same lines. `short_timeline` prints one
 //! line for all of them.
 //!
-//! Cost: the lines of all begins. A table has for each group the flush next to the one that is looked at.
-ghost use Rattle.std.specs.Prelude.{◌≡◌, ◌<◌, [], IfOk, OnOk, Some, if◌then◌else◌, map, option_copied, reverse, string_bytes};
+//! Begins are looked at from the last one back. A table has the next flush of each group, so that the lines of no more than one
+//! flush of each group are in memory. Cost: the lines of all begins.
+ghost use Rattle.std.specs.Prelude.{◌≡◌, ◌<◌, ◌==◌, [], true, IfOk, OnOk, Some, if◌then◌else◌, length, map, option_copied, reverse, string_bytes};
 ghost use Rattle.std.specs.HashMap.{get};
 ghost use Rattle.std.specs.List.{list_all};
 ghost use Rattle.std.specs.Option.{option_map_or};
 ghost use Rattle.am_model.specs.Notice.{is_nothing};
 ghost use Rattle.am_model.specs.State.{same_name};
 ghost use Rattle.am_model.specs.declared.group.GroupName as named;
-ghost use Rattle.am_timeline.specs.Changed.{begins_compared, told_flush};
-ghost use Rattle.am_timeline.specs.Runs.{are_same_lines, begins_folded, flush_of, folds_of, quiet_text, run_by, runs_of, sends_nothing};
-ghost use Rattle.am_timeline.specs.Runs.{start_frame};
+ghost use Rattle.am_timeline.specs.Changed.{begins_compared};
+ghost use Rattle.am_timeline.specs.Runs.{are_same_lines, begins_folded, flushes_by, folds_of, group_of, lines_by, quiet_text, run_by, runs_of};
+ghost use Rattle.am_timeline.specs.Runs.{sends_nothing, start_frame, with_runs};
 ghost use Rattle.am_timeline.specs.Timeline.{begun_lines};
 
 use crate::begun::push_begun;
@@ -19,6 +20,7 @@ use crate::frame::Frame;
 use crate::playback::{Playback, notices_at};
 use am_model::group::GroupName;
 use am_model::notice::Notice;
+use am_model::preview::Preview;
 use am_terms::clock::TimeFormat;
 use am_terms::event::PreviewedBegin;
 use std::alloc::{AllocError, Global};
@@ -41,44 +43,20 @@ pub(crate) struct Fold {
     pub(crate) run: Run,
 }
 
-/// A flush that was begun.
+/// Of the next flush of a group the lines by which it is compared, and its run.
 #[derive(Drop)]
-struct Flush<'s> {
-    group: &'s GroupName,
-    /// When it began, in milliseconds.
-    moment: u64,
-    /// The lines by which it is compared.
+struct Next {
     lines: String,
-}
-
-impl<'s> Model for Flush<'s> {
-    ghost use Rattle.std.specs.Prelude.{string_bytes};
-    ghost use Rattle.am_timeline.specs.Runs.{FlushData};
-
-    ghost Value = { FlushData };
-
-    ghost view = { λ f.
-        record {
-          group = f.group.now;
-          moment = f.moment;
-          lines = string_bytes f.lines;
-        } };
-}
-
-/// The next flush of a group, and its run.
-#[derive(Drop)]
-struct Next<'f, 's> {
-    flush: &'f Flush<'s>,
     run: Run,
 }
 
-impl<'f, 's> Model for Next<'f, 's> {
-    ghost use Rattle.am_timeline.specs.Runs.{FlushData};
+impl Model for Next {
+    ghost use Rattle.std.specs.Prelude.{ℕ, List, string_bytes};
     ghost use Rattle.am_timeline.specs.declared.runs.Run as runs;
 
-    ghost Value = { FlushData × runs.Run };
+    ghost Value = { List ℕ × runs.Run };
 
-    ghost view = { λ n. (n.flush.now, n.run) };
+    ghost view = { λ n. (string_bytes n.lines, n.run) };
 }
 
 /// Returns what becomes of each begin.
@@ -89,8 +67,7 @@ pub(crate) fn begins_folded<C: TimeFormat>(
 ) -> Result<Vec<Fold>, AllocError>
     ensures { IfOk result (λ folds. folds.items ≡ begins_folded playback.now (C.times clock.now)) }
 {
-    let flushes = flushes_of(alloc, playback, clock)?;
-    folded(alloc, flushes.as_slice())
+    folded(alloc, playback, clock, false)
 }
 
 /// Returns what becomes of each begin, whatever it sends: it begins its run if it has other lines than the flush before of its
@@ -102,39 +79,75 @@ pub(crate) fn begins_compared<C: TimeFormat>(
 ) -> Result<Vec<Fold>, AllocError>
     ensures { IfOk result (λ folds. folds.items ≡ begins_compared playback.now (C.times clock.now)) }
 {
-    let flushes = told_flushes(alloc, playback, clock)?;
-    folded(alloc, flushes.as_slice())
+    folded(alloc, playback, clock, true)
 }
 
-/// Returns the flush of each begin, with its lines.
-fn told_flushes<'s, C: TimeFormat>(
+/// Returns what becomes of each begin, by the lines that it has; of one that sends something, only if `all` have lines.
+fn folded<C: TimeFormat>(
     alloc: Global,
-    playback: &Playback<'s>,
+    playback: &Playback,
     clock: &C,
-) -> Result<Vec<Flush<'s>>, AllocError>
-    ensures { IfOk result (λ flushes. flushes.items ≡ map (told_flush playback.now (C.times clock.now)) playback.now.begins) }
+    all: bool,
+) -> Result<Vec<Fold>, AllocError>
+    ensures { IfOk result (λ folds. folds.items
+        ≡ folds_of [] (flushes_by all playback.now (C.times clock.now))) }
 {
-    let mut flushes = Vec::new(alloc);
-    for begin in playback.begins {
-        flushes.push(told_flush(alloc, playback, clock, begin)?)?;
+    let runs = runs_of(alloc, playback, clock, all)?;
+    with_runs(alloc, playback.begins(), runs.as_slice())
+}
+
+/// Returns the run of each begin.
+fn runs_of<C: TimeFormat>(
+    alloc: Global,
+    playback: &Playback,
+    clock: &C,
+    all: bool,
+) -> Result<Vec<Run>, AllocError>
+    ensures { IfOk result (λ runs. runs.items
+        ≡ runs_of (flushes_by all playback.now (C.times clock.now))) }
+{
+    let mut runs = last_first(alloc, playback, clock, all)?;
+    runs.reverse();
+    Ok(runs)
+}
+
+/// Returns the run of each begin, that of the last one first.
+fn last_first<C: TimeFormat>(
+    alloc: Global,
+    playback: &Playback,
+    clock: &C,
+    all: bool,
+) -> Result<Vec<Run>, AllocError>
+    ensures { IfOk result (λ runs. runs.items
+        ≡ reverse (runs_of (flushes_by all playback.now (C.times clock.now)))) }
+{
+    let begins = playback.begins();
+    let mut table = HashMap::new(alloc);
+    let mut runs = Vec::new(alloc);
+    for place in (0..begins.len()).rev() {
+        let begin = &begins[place];
+        let lines = lines_by(alloc, playback, clock, all, begin)?;
+        let run = add(alloc, &begin.preview, lines, begins.len(), &mut table)?;
+        runs.push(run)?;
     }
-    Ok(flushes)
+    Ok(runs)
 }
 
-fn told_flush<'s, C: TimeFormat>(
+/// Returns the lines by which a begin is compared.
+fn lines_by<C: TimeFormat>(
     alloc: Global,
-    playback: &Playback<'s>,
+    playback: &Playback,
     clock: &C,
-    begin: &'s PreviewedBegin,
-) -> Result<Flush<'s>, AllocError>
-    ensures { IfOk result (λ flush. flush ≡ told_flush playback.now (C.times clock.now) begin.now) }
+    all: bool,
+    begin: &PreviewedBegin,
+) -> Result<String, AllocError>
+    ensures { IfOk result (λ text. string_bytes text ≡ lines_by all playback.now (C.times clock.now) begin.now) }
 {
-    let lines = text_at_start(alloc, playback, clock, begin)?;
-    Ok(Flush {
-        group: &begin.preview.group,
-        moment: begin.preview.moment,
-        lines,
-    })
+    if all {
+        text_at_start(alloc, playback, clock, begin)
+    } else {
+        quiet_text(alloc, playback, clock, begin)
+    }
 }
 
 /// Returns the lines of a begin, as if it were at the rehearsal's start.
@@ -153,37 +166,6 @@ fn text_at_start<C: TimeFormat>(
     };
     push_begun(playback, clock, &frame, begin, &mut out)?;
     Ok(out)
-}
-
-/// Returns the flush of each begin.
-fn flushes_of<'s, C: TimeFormat>(
-    alloc: Global,
-    playback: &Playback<'s>,
-    clock: &C,
-) -> Result<Vec<Flush<'s>>, AllocError>
-    ensures { IfOk result (λ flushes. flushes.items ≡ map (flush_of playback.now (C.times clock.now)) playback.now.begins) }
-{
-    let mut flushes = Vec::new(alloc);
-    for begin in playback.begins {
-        flushes.push(flush_of(alloc, playback, clock, begin)?)?;
-    }
-    Ok(flushes)
-}
-
-fn flush_of<'s, C: TimeFormat>(
-    alloc: Global,
-    playback: &Playback<'s>,
-    clock: &C,
-    begin: &'s PreviewedBegin,
-) -> Result<Flush<'s>, AllocError>
-    ensures { IfOk result (λ flush. flush ≡ flush_of playback.now (C.times clock.now) begin.now) }
-{
-    let lines = quiet_text(alloc, playback, clock, begin)?;
-    Ok(Flush {
-        group: &begin.preview.group,
-        moment: begin.preview.moment,
-        lines,
-    })
 }
 
 /// Returns the lines of a begin that sends nothing, as if it were at the rehearsal's start; nothing where it sends something.
@@ -208,106 +190,55 @@ fn sends_nothing(notices: &[Notice]) -> bool
     notices.iter().all(|notice| notice.nothing())
 }
 
-/// Returns what becomes of each of these flushes.
-fn folded(alloc: Global, flushes: &[Flush<'_>]) -> Result<Vec<Fold>, AllocError>
-    ensures { IfOk result (λ folds. folds.items ≡ folds_of [] flushes.now) }
-{
-    let runs = runs_of(alloc, flushes)?;
-    with_runs(alloc, flushes, runs.as_slice())
-}
-
-/// Returns the run of each of these flushes.
-fn runs_of(alloc: Global, flushes: &[Flush<'_>]) -> Result<Vec<Run>, AllocError>
-    ensures { IfOk result (λ runs. runs.items ≡ runs_of flushes.now) }
-{
-    let mut runs = last_first(alloc, flushes)?;
-    runs.reverse();
-    Ok(runs)
-}
-
-/// The run of each of these flushes, that of the last one first.
-fn last_first(alloc: Global, flushes: &[Flush<'_>]) -> Result<Vec<Run>, AllocError>
-    ensures { IfOk result (λ runs. runs.items ≡ reverse (runs_of flushes.now)) }
-{
-    let mut table = HashMap::new(alloc);
-    let mut runs = Vec::new(alloc);
-    for place in (0..flushes.len()).rev() {
-        let run = add(alloc, &flushes[place], flushes.len(), &mut table)?;
-        runs.push(run)?;
-    }
-    Ok(runs)
-}
-
-/// What becomes of each of these flushes, with their runs: a flush begins its run if the one before it in its group has
-/// other lines.
-fn with_runs(alloc: Global, flushes: &[Flush<'_>], runs: &[Run]) -> Result<Vec<Fold>, AllocError>
-    requires { runs.now ≡ runs_of flushes.now }
-    ensures { IfOk result (λ folds. folds.items ≡ folds_of [] flushes.now) }
-{
-    let mut table = HashMap::new(alloc);
-    let mut folds = Vec::new(alloc);
-    for place in 0..flushes.len() {
-        let before = add(alloc, &flushes[place], flushes.len(), &mut table)?;
-        folds.push(Fold {
-            is_first: before.count == 1,
-            run: runs[place],
-        })?;
-    }
-    Ok(folds)
-}
-
-/// Adds a flush to a table of the next flush of each group, and returns its run. There are at most `limit` flushes in all.
-fn add<'f, 's>(
+/// Adds a flush with these lines to a table of the next flush of each group, and returns its run. There are at most `limit`
+/// flushes in all.
+fn add(
     alloc: Global,
-    flush: &'f Flush<'s>,
+    preview: &Preview,
+    lines: String,
     limit: usize,
-    table: &mut HashMap<GroupName, Next<'f, 's>>,
+    table: &mut HashMap<GroupName, Next>,
 ) -> Result<Run, AllocError>
-    requires fits { option_map_or (λ n. n.1.count) (get same_name table.old flush.now.group) 0 < limit }
-    ensures run { IfOk result (λ run. run ≡ run_by flush.now (get same_name table.old flush.now.group)) }
+    requires fits { option_map_or (λ n. n.1.count) (get same_name table.old preview.now.group) 0 < limit }
+    ensures run { IfOk result (λ run. run
+        ≡ run_by preview.now.moment (string_bytes lines) (get same_name table.old preview.now.group)) }
     ensures table { OnOk result ((name : named.GroupName) → get same_name table.new name
-        ≡ (if same_name flush.now.group name then Some (flush.now, run_by flush.now (get same_name table.old flush.now.group))
+        ≡ (if same_name preview.now.group name
+        then Some (string_bytes lines, run_by preview.now.moment (string_bytes lines) (get same_name table.old preview.now.group))
         else get same_name table.old name)) }
 {
-    let run = flush.run_by(limit, table.get(flush.group));
-    let group = flush.group.copy(alloc)?;
-    table.insert(group, Next { flush, run })?;
+    let run = run_by(
+        preview.moment,
+        lines.as_str(),
+        limit,
+        table.get(&preview.group),
+    );
+    let group = preview.group.copy(alloc)?;
+    table.insert(group, Next { lines, run })?;
     Ok(run)
 }
 
-impl<'s> Flush<'s> {
-    /// Returns the run of this flush, by the next one of its group.
-    fn run_by(&self, limit: usize, next: Option<&Next<'_, '_>>) -> Run
-        requires { option_map_or (λ n. n.1.count) (option_copied next) 0 < limit }
-        ensures { result ≡ run_by self.now (option_copied next.entry) }
-    {
-        match next {
-            None => self.alone(),
-            Some(next) => self.run_before(limit, next),
+/// Returns the run of a flush at a time, in milliseconds, with these lines, by the next one of its group.
+fn run_by(moment: u64, lines: &str, limit: usize, next: Option<&Next>) -> Run
+    requires { option_map_or (λ n. n.1.count) (option_copied next) 0 < limit }
+    ensures { result ≡ run_by moment lines.now (option_copied next.entry) }
+{
+    let alone = Run {
+        count: 1,
+        until: moment,
+    };
+    match next {
+        None => alone,
+        Some(next) => {
+            if are_same_lines(lines, next.lines.as_str()) {
+                Run {
+                    count: next.run.count + 1,
+                    until: next.run.until,
+                }
+            } else {
+                alone
+            }
         }
-    }
-
-    fn alone(&self) -> Run
-        ensures { result ≡ record { count = 1; until = self.now.moment } }
-    {
-        Run {
-            count: 1,
-            until: self.moment,
-        }
-    }
-
-    fn run_before(&self, limit: usize, next: &Next<'_, '_>) -> Run
-        requires { next.now.1.count < limit }
-        ensures { result ≡ run_by self.now (Some next.now) }
-    {
-        let following = next.flush;
-        if are_same_lines(self.lines.as_str(), following.lines.as_str()) {
-            return Run {
-                count: next.run.count + 1,
-                until: next.run.until,
-            };
-        }
-        self.alone()
     }
 }
 
@@ -316,4 +247,36 @@ fn are_same_lines(some: &str, others: &str) -> bool
     ensures { result ≡ are_same_lines some.now others.now }
 {
     some.len() != 0 && some == others
+}
+
+/// Returns what becomes of each of these begins, which have these runs: one begins its run if the one before it in its group has
+/// a run of one.
+fn with_runs(
+    alloc: Global,
+    begins: &[PreviewedBegin],
+    runs: &[Run],
+) -> Result<Vec<Fold>, AllocError>
+    requires { length begins.now ≡ length runs.now }
+    ensures { IfOk result (λ folds. folds.items ≡ with_runs [] (map group_of begins.now) runs.now) }
+{
+    let mut last = HashMap::new(alloc);
+    let mut folds = Vec::new(alloc);
+    for place in 0..begins.len() {
+        let group = &begins[place].preview.group;
+        let run = runs[place];
+        let is_first = is_alone(last.get(group));
+        last.insert(group.copy(alloc)?, run)?;
+        folds.push(Fold { is_first, run })?;
+    }
+    Ok(folds)
+}
+
+/// Returns whether no flush is like the last one of a group, if it has one.
+fn is_alone(last: Option<&Run>) -> bool
+    ensures { result ≡ option_map_or (λ r. r.count == 1) (option_copied last.entry) true }
+{
+    match last {
+        None => true,
+        Some(run) => run.count == 1,
+    }
 }

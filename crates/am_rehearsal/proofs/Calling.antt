@@ -1,5 +1,5 @@
 -- A board after a call.
-use Rattle.std.proofs.Common.{◌≡◌, ℕ, List, [], ◌∷◌, Option, Some, None, refl, sym, ap, ◌∙◌, subst, inl, inr, if◌then◌else◌}
+use Rattle.std.proofs.Common.{◌≡◌, ℕ, List, [], ◌∷◌, Option, Some, None, refl, sym, ap, ◌∙◌, subst, inl, inr, ◌⊎◌, if◌then◌else◌}
 use Rattle.std.specs.Prelude.{is_none, slice_get}
 use Rattle.std.specs.Option.{option_map, option_map_or}
 use Rattle.am_board.specs.History.{BoardData, IsFresh, IsReplyAt, calls_at, reply_of, state_at, with_record}
@@ -106,15 +106,22 @@ taken_by old new events since at (answer.Flush ticket) taken own fresh begins =
 pub own_is : (begun : Answer) (ticket own : TicketData) → begun ≡ answer.Flush ticket → own ≡ ticket → IsOwn begun (Flush own)
 own_is begun ticket own is same = subst (λ (a : Answer). IsOwn a (Flush own)) (sym is) (ap (λ (t : TicketData). Flush t) same)
 
--- as many flushes are open as may be only where that is the first cause
-pub open_cause : (cause : Option Fault) (told : Fault) → told ≡ TooManyOpen → IsAnswer cause told → cause ≡ Some TooManyOpen
-open_cause None told is answer = absurd (cc (is, answer))
-open_cause (Some NoMemory) told is answer = absurd (cc (is, answer))
-open_cause (Some TooManyNames) told is answer = absurd (cc (is, answer))
-open_cause (Some TooManyGroups) told is answer = elim answer [ inl other ↦ absurd (cc (is, other)) | inr memory ↦ absurd (cc (is, memory)) ]
-open_cause (Some TooManySilences) told is answer = absurd (cc (is, answer))
-open_cause (Some TooManyOpen) told is answer = refl
-open_cause (Some HistoryFull) told is answer = absurd (cc (is, answer))
+-- a board's fault is that of memory, or the first cause
+pub answered : (cause : Option Fault) (told : Fault) → IsAnswer cause told → (told ≡ NoMemory) ⊎ (cause ≡ Some told)
+answered None told answer = inl answer
+answered (Some NoMemory) told answer = inl answer
+answered (Some TooManyNames) told answer = inr (ap (λ (f : Fault). Some f) (sym answer))
+answered (Some TooManyGroups) told answer =
+    elim answer [ inl other ↦ inr (ap (λ (f : Fault). Some f) (sym other)) | inr memory ↦ inl memory ]
+answered (Some TooManySilences) told answer = inr (ap (λ (f : Fault). Some f) (sym answer))
+answered (Some TooManyOpen) told answer =
+    elim answer [ inl other ↦ inr (ap (λ (f : Fault). Some f) (sym other)) | inr memory ↦ inl memory ]
+answered (Some HistoryFull) told answer = inr (ap (λ (f : Fault). Some f) (sym answer))
+
+-- where as many flushes are open as may be, that is the cause
+pub open_cause : (cause : Option Fault) (told : Fault) → told ≡ TooManyOpen → (told ≡ NoMemory) ⊎ (cause ≡ Some told) → cause ≡ Some TooManyOpen
+open_cause cause told is why =
+    elim why [ inl memory ↦ absurd (cc (is, memory)) | inr because ↦ because ∙ ap (λ (f : Fault). Some f) is ]
 
 -- a note is refused for its cause, but for want of memory
 pub note_caused : (cause : Option NoteFault) (told : NoteFault) → (told ≡ note.NoMemory → ⊥) → IsNoteAnswer cause told → cause ≡ Some told

@@ -1,5 +1,5 @@
 -- What comes next: what it is about is there, and where nothing comes, nothing is in flight.
-use Rattle.std.proofs.Common.{◌≡◌, ℕ, ◌+◌, ◌<◌, ◌≤◌, zero, suc, max, Bool, true, false, nat_le, nat_lt, IfSome, length, List, [], ◌∷◌, Option, Some, None, get_or, refl, subst, sym, ap, ◌∙◌, arith, add-zero, if◌then◌else◌, ◌&&◌}
+use Rattle.std.proofs.Common.{◌≡◌, ℕ, ◌+◌, ◌<◌, ◌≤◌, zero, suc, max, Bool, true, false, nat_le, nat_lt, IfSome, IsTrue, length, List, [], ◌∷◌, Option, Some, None, get_or, refl, subst, sym, ap, ◌∙◌, arith, add-zero, if◌then◌else◌, not, ◌&&◌, ◌||◌}
 use Rattle.std.specs.Prelude.{is_some, slice_get}
 use Rattle.std.specs.Option.{IsSomeAnd}
 use Rattle.std.proofs.lemmas.Bool.{false≢true, leb-true}
@@ -85,13 +85,22 @@ module _ (r : Setting) (c : Scene) where
       in_time_keeps (IsThere r c) r.until p.at step.Plan
       (λ within. subst (λ (l : List TimedAction). IsSomeAnd (slice_get l 0) (λ q. q.at ≤ r.until)) (sym is) within)
 
-  begin_there : (due : Option ℕ) → IfSome (begin_due r.until c.clock due) (IsThere r c)
-  begin_there None = tt
-  begin_there (Some due) = in_time_keeps (IsThere r c) r.until (max due c.clock) step.Begin (λ within. within)
+  -- whether a begin may come
+  abbrev MayBegin : Type 0
+  MayBegin = IsTrue (c.begins || not c.blocked)
 
-  unblocked_there : (b : Bool) → IfSome (if b then None else begin_due r.until c.clock (next_due (state_at c.board))) (IsThere r c)
-  unblocked_there true = tt
-  unblocked_there false = begin_there (next_due (state_at c.board))
+  begin_there : (due : Option ℕ) → MayBegin → IfSome (begin_due r.until c.clock due) (IsThere r c)
+  begin_there None may = tt
+  begin_there (Some due) may = in_time_keeps (IsThere r c) r.until (max due c.clock) step.Begin (λ within. (within, may))
+
+  free_begins : (begins : Bool) → IsTrue (begins || not false)
+  free_begins true = refl
+  free_begins false = refl
+
+  unblocked_there : (b : Bool) → c.blocked ≡ b → IfSome (if b then None else begin_due r.until c.clock (next_due (state_at c.board))) (IsThere r c)
+  unblocked_there true is = tt
+  unblocked_there false is =
+      begin_there (next_due (state_at c.board)) (subst (λ (b : Bool). IsTrue (c.begins || not b)) (sym is) (free_begins c.begins))
 
   but_begins_there : IfSome (next_but_begins r c) (IsThere r c)
   but_begins_there =
@@ -103,17 +112,17 @@ module _ (r : Setting) (c : Scene) where
       (in_time_keeps (IsThere r c) r.until c.maintenance step.Maintenance (λ within. tt)))
 
   of_all_there : IfSome (next_of_all r c) (IsThere r c)
-  of_all_there = earlier_keeps (IsThere r c) (next_but_begins r c) (next_begin r c) but_begins_there (unblocked_there c.blocked)
+  of_all_there = earlier_keeps (IsThere r c) (next_but_begins r c) (next_begin r c) but_begins_there (unblocked_there c.blocked refl)
 
   some_there : IfSome (next r c) (IsThere r c)
   unfolding next
-  some_there = by c.begins (nat_le c.clock r.until) refl
+  some_there = by c.begins (nat_le c.clock r.until) refl refl
     where
-      by : (b t : Bool) → nat_le c.clock r.until ≡ t → IfSome (if b && t then Some (next_at c.clock step.Begin) else next_of_all r c) (IsThere r c)
-      by true true is = leb-true c.clock r.until is
-      by true false is = of_all_there
-      by false true is = of_all_there
-      by false false is = of_all_there
+      by : (b t : Bool) → c.begins ≡ b → nat_le c.clock r.until ≡ t → IfSome (if b && t then Some (next_at c.clock step.Begin) else next_of_all r c) (IsThere r c)
+      by true true begins is = (leb-true c.clock r.until is, ap (λ (b : Bool). b || not c.blocked) begins)
+      by true false begins is = of_all_there
+      by false true begins is = of_all_there
+      by false false begins is = of_all_there
 
   -- what the next step is about is there
   pub next_there : (n : Next) → next r c ≡ Some n → IsThere r c n

@@ -74,7 +74,7 @@ begun_same : (b : BoardData) (at : ℕ) (told : Reply) → input_trace (with_rec
 begun_same b at told = input_trace-same b (with_record b (entry 0 (call.Begin at) told)) (entry 0 (call.Begin at) told, refl, refl)
 
 -- what follows whatever the value is
-from_some : {X : Type 0} (o : Option X) (P : X → Type 0) (Q : Type 0) → ((x : X) → P x → Q) → IsSomeAnd o P → Q
+pub from_some : {X : Type 0} (o : Option X) (P : X → Type 0) (Q : Type 0) → ((x : X) → P x → Q) → IsSomeAnd o P → Q
 from_some None P Q follows h = absurd h
 from_some (Some x) P Q follows h = follows x h
 
@@ -162,6 +162,13 @@ module _ (r : Setting) where
   steps_keep : (k : ℕ) (c d : Scene) → LeadsIn r k c d → all_inputs d ≡ all_inputs c
   steps_keep zero c d same = ap all_inputs (sym same)
   steps_keep (suc k) c d led = step_keeps led.0 d led.2 ∙ steps_keep k c led.0 led.1
+
+  -- the configuration stays
+  pub config_kept : (k : ℕ) (c d : Scene) → LeadsIn r k c d → d.board.config ≡ c.board.config
+  config_kept k c d led =
+      config_of-input_trace d.board (input_trace d.board) refl
+      ∙ ap (λ (i : InputTrace). i.config) (steps_keep k c d led)
+      ∙ sym (config_of-input_trace c.board (input_trace c.board) refl)
 
   -- where no plan is left up to the end, none is to be done
   none_planned : (ps : List TimedAction) → next_plan r.until ps ≡ None → planned r.until ps ≡ []

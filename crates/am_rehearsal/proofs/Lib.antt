@@ -8,16 +8,22 @@ pub mod Coming
 pub mod Delivered
 -- what a board does over each call
 pub mod Doing
+-- a rehearsal ends: how many steps lead on at most
+pub mod Ending
 -- one more end of a ticket's notices
 pub mod Ends
 -- what events with one more tell of the begins
 pub mod Happening
+-- why what comes next isn't done
+pub mod Hindering
 -- what each step keeps: the configuration, and what is done and left of the plans
 pub mod Keeping
 -- a rehearsal has one play
 pub mod OnePlay
 -- the scene with which a rehearsal starts
 pub mod Opened
+-- the plans that are left are the last of those that were planned
+pub mod PlansLeft
 -- scenes by their parts
 pub mod Scenes
 -- what is told of a board stands over each call

@@ -4,8 +4,10 @@ pub mod Previews
 pub mod Planned
 -- what the events of a rehearsal say of its begins
 pub mod EventOrder
--- why a rehearsal doesn't run to its end
+-- the faults of a board, as those of a rehearsal
 pub mod Faults
+-- why a rehearsal isn't played to its end
+pub mod WhyNot
 -- how attempts of a notice are answered
 pub mod Answers
 -- what is known of a rehearsal between two steps

@@ -10,18 +10,22 @@
 //! soon as it is begun, and their reports wait until the clock comes to their ends. When as many
 //! flushes are open as the limit allows, groups stay due, and no begin is tried until a flush is
 //! finished.
-ghost use Rattle.std.specs.Prelude.{◌≡◌, ◌<◌, ◌≤◌, ◌++◌, IfOk, OnOk, None, Some, if◌then◌else◌, length, slice_get, vec_len, vec_capacity};
+ghost use Rattle.std.specs.Prelude.{◌≡◌, ◌≢◌, ◌<◌, ◌≤◌, ◌+◌, ◌-◌, ◌++◌, IfErr, IfOk, OnOk, None, Some, if◌then◌else◌};
+ghost use Rattle.std.specs.Prelude.{length, slice_get, vec_len, vec_capacity};
 ghost use Rattle.std.specs.List.{range_with_len};
 ghost use Rattle.std.specs.Option.{IsSomeAnd};
 ghost use Rattle.am_alerts.specs.declared.limits.TheConstants.{MAX_MOMENT};
-ghost use Rattle.am_rehearsal.specs.Courses.{scene_in, setting_in};
+ghost use Rattle.am_model.specs.Config.{config_fault};
+ghost use Rattle.am_rehearsal.specs.Courses.{scene_in, setting_in, IsAllowed, IsHindered, IsOwnFault, IsPlanFault, IsStopped};
 ghost use Rattle.am_rehearsal.specs.EventOrder.{begin_indices};
+ghost use Rattle.am_rehearsal.specs.Faults.{fault_of_call};
 ghost use Rattle.am_rehearsal.specs.Next.{begins_on, next, next_but_begins, next_begin, next_plan};
 ghost use Rattle.am_rehearsal.specs.Planned.{inputs_in, planned};
 ghost use Rattle.am_rehearsal.specs.Play.{setting_of, PlaysTo, Reaches};
 ghost use Rattle.am_rehearsal.specs.Previews.{previews_of};
 ghost use Rattle.am_rehearsal.specs.Scene.{opening_scene, setting_with};
 ghost use Rattle.am_rehearsal.specs.Steps.{after_plan, is_success, sent_events, with_note, with_report, IsDone, IsSendingAdded, Steps};
+ghost use Rattle.am_rehearsal.specs.WhyNot.{action_cause, own_cause, IsWhyNot};
 ghost use Rattle.am_rehearsal.specs.declared.limits.TheConstants.{BOARD_ID};
 ghost use Rattle.am_terms.specs.declared.rehearsal.TheConstants.{MAX_UNTIL};
 ghost use Rattle.am_rehearsal.specs.declared.next.Step.TheVariants as step;
@@ -72,14 +76,15 @@ pub enum PlayFault {
 /// are those that the history before it gives. Clause `begun`: the events have each begin that took
 /// a group, once and in order. Clause `played`: board and events are those to which the rehearsal
 /// plays (`PlaysTo`), step by step. `law::rehearsals_have_one_play`: there is only one such pair. The
-/// board has the id `BOARD_ID`.
+/// board has the id `BOARD_ID`. Clause `refused`: a fault other than `NoMemory` comes only where it is
+/// the cause (`IsWhyNot`).
 ///
 /// # Errors
 ///
 /// The first of these on the way:
 /// - `BadConfig`: no board takes the configuration.
-/// - `PlanFull`: a limit leaves no capacity for a planned action.
-/// - `Full`: the history has no capacity for a begin or a maintenance.
+/// - `PlanFull`: the planned action at this position comes next, and the board refuses it at a limit.
+/// - `Full`: a begin or a maintenance comes next, and the history has no capacity for it.
 /// - `NoMemory`.
 ///
 /// Cost: its board calls, with a preview for each begin, and at each event the notices in flight.
@@ -97,6 +102,7 @@ pub fn play<W: Watch>(
         begin_indices played.events.items ≡ range_with_len 0 (vec_len played.begins)) }
     ensures played { IfOk result (λ played.
         PlaysTo (setting_of rehearsal) rehearsal.config rehearsal.plans.items played.board played.events.items) }
+    ensures refused { IfErr result (IsWhyNot (setting_of rehearsal) rehearsal.config rehearsal.plans.items) }
 {
     let Rehearsal {
         config,
@@ -151,6 +157,9 @@ impl<'o> Course<'o> {
         ensures setting { IfOk result (λ course. setting_in course ≡ setting_with until maintain outages.now) }
         ensures scene { IfOk result (λ course.
             scene_in course ≡ opening_scene (setting_with until maintain outages.now) config plans.items) }
+        ensures counted { IfOk result (λ course. course.count ≡ length plans.items) }
+        ensures faultless { OnOk result (config_fault config ≡ None) }
+        ensures refused { IfErr result (λ fault. (fault ≡ PlayFault.BadConfig) × (config_fault config ≢ None)) }
     {
         Ok(Course {
             alloc,
@@ -169,19 +178,22 @@ impl<'o> Course<'o> {
     }
 
     /// Plays to the end.
+    ///
+    /// It ends: a step adds a record, of which the board takes only so many, or it ends what a record began.
     fn run<W: Watch>(&mut self, watch: &mut W) -> Result<(), PlayFault>
-        requires { self.old.until ≤ MAX_UNTIL }
+        requires until { self.old.until ≤ MAX_UNTIL }
+        requires faultless { config_fault self.old.board.board.config ≡ None }
         ensures reached { OnOk result (Reaches (setting_in self.old) (scene_in self.old) (scene_in self.new)) }
         ensures over { OnOk result (next (setting_in self.old) (scene_in self.new) ≡ None) }
+        ensures stopped { IfErr result (IsStopped (setting_in self.old) self.old.count (scene_in self.old)) }
     {
-        for _ in 0..u64::MAX {
+        loop {
             watch.note(self.clock);
             match self.next() {
                 None => return Ok(()),
                 Some(next) => self.step(next)?,
             }
         }
-        Err(PlayFault::Full)
     }
 
     /// Returns the next step, if there is one.
@@ -246,7 +258,10 @@ impl<'o> Course<'o> {
         requires until { self.old.until ≤ MAX_UNTIL }
         requires comes { next (setting_in self.old) (scene_in self.old) ≡ Some coming }
         ensures same { setting_in self.new ≡ setting_in self.old }
+        ensures counted { self.new.count ≡ self.old.count }
         ensures done { OnOk result (Steps (setting_in self.old) (scene_in self.old) (scene_in self.new)) }
+        ensures allowed { OnOk result (IsAllowed (scene_in self.old) coming coming.what) }
+        ensures hindered { IfErr result (IsHindered self.old.count (scene_in self.old) coming) }
     {
         match coming.what {
             Step::End(position, index) => self.end(position, index),
@@ -267,7 +282,9 @@ impl<'o> Course<'o> {
     fn end(&mut self, position: usize, index: usize) -> Result<(), PlayFault>
         requires { IsSomeAnd (slice_get self.old.sendings.items position) (λ s. index < length s.ends) }
         ensures same { setting_in self.new ≡ setting_in self.old }
+        ensures counted { self.new.count ≡ self.old.count }
         ensures done { OnOk result (IsDone (setting_in self.old) (scene_in self.old) 0 (scene_in self.new) (step.End position index)) }
+        ensures memory { IfErr result (λ fault. fault ≡ PlayFault.NoMemory) }
     {
         let sending = &mut self.sendings[position];
         let end = sending.take_end(index);
@@ -280,6 +297,7 @@ impl<'o> Course<'o> {
     fn finish(&mut self, position: usize)
         requires { position < vec_len self.old.sendings }
         ensures same { setting_in self.new ≡ setting_in self.old }
+        ensures counted { self.new.count ≡ self.old.count }
         ensures done { IsDone (setting_in self.old) (scene_in self.old) 0 (scene_in self.new) (step.Finish position) }
         ensures left { vec_len self.new.sendings < vec_len self.old.sendings }
     {
@@ -296,23 +314,32 @@ impl<'o> Course<'o> {
     /// Does what was planned, which is planned no more.
     fn act(&mut self, plan: TimedAction) -> Result<(), PlayFault>
         ensures same { setting_in self.new ≡ setting_in self.old }
+        ensures counted { self.new.count ≡ self.old.count }
         ensures done { OnOk result (scene_in self.new ≡ after_plan (scene_in self.old) plan self.old.plans.items) }
+        ensures allowed { OnOk result (action_cause self.old.board.board plan.act ≡ None) }
+        ensures hindered { IfErr result
+            (IsPlanFault (action_cause self.old.board.board plan.act) (self.old.count - (length self.old.plans.items + 1))) }
     {
         let TimedAction { at, act } = plan;
         self.clock = at;
         match self.board.act(self.alloc, at, act) {
             Ok(()) => Ok(()),
-            Err(Fault::NoMemory) => Err(PlayFault::NoMemory),
-            Err(_) => {
-                let index = self.count.saturating_sub(self.plans.len() + 1);
-                Err(PlayFault::PlanFull(index))
-            }
+            Err(fault) => match fault {
+                Fault::NoMemory => Err(PlayFault::NoMemory),
+                _ => {
+                    let index = self.count.saturating_sub(self.plans.len() + 1);
+                    Err(PlayFault::PlanFull(index))
+                }
+            },
         }
     }
 
     fn make_maintenance(&mut self, at: u64) -> Result<(), PlayFault>
         ensures same { setting_in self.new ≡ setting_in self.old }
+        ensures counted { self.new.count ≡ self.old.count }
         ensures done { OnOk result (IsDone (setting_in self.old) (scene_in self.old) at (scene_in self.new) step.Maintenance) }
+        ensures allowed { OnOk result (own_cause self.old.board.board at step.Maintenance ≡ None) }
+        ensures hindered { IfErr result (IsOwnFault (own_cause self.old.board.board at step.Maintenance)) }
     {
         self.clock = at;
         self.next_maintenance = at.saturating_add(self.maintain);
@@ -326,7 +353,9 @@ impl<'o> Course<'o> {
     fn begin(&mut self, at: u64) -> Result<(), PlayFault>
         requires { at ≤ MAX_MOMENT }
         ensures same { setting_in self.new ≡ setting_in self.old }
+        ensures counted { self.new.count ≡ self.old.count }
         ensures done { OnOk result (IsDone (setting_in self.old) (scene_in self.old) at (scene_in self.new) step.Begin) }
+        ensures hindered { IfErr result (IsOwnFault (own_cause self.old.board.board at step.Begin)) }
     {
         self.sendings.reserve(1)?;
         self.clock = at;
@@ -344,13 +373,15 @@ impl<'o> Course<'o> {
                 self.is_beginning = true;
                 self.send(begin, own, at)
             }
-            // The groups that are left stay due.
-            Err(Fault::TooManyOpen) => {
-                self.is_beginning = false;
-                self.is_blocked = true;
-                Ok(())
-            }
-            Err(fault) => Err(full_or_memory(fault)),
+            Err(fault) => match fault {
+                // The groups that are left stay due.
+                Fault::TooManyOpen => {
+                    self.is_beginning = false;
+                    self.is_blocked = true;
+                    Ok(())
+                }
+                _ => Err(full_or_memory(fault)),
+            },
         }
     }
 
@@ -359,7 +390,9 @@ impl<'o> Course<'o> {
         requires moment { at ≤ MAX_MOMENT }
         requires room { vec_len self.old.sendings < vec_capacity self.old.sendings }
         ensures same { setting_in self.new ≡ setting_in self.old }
+        ensures counted { self.new.count ≡ self.old.count }
         ensures sent { OnOk result (IsSendingAdded (setting_in self.old) at own begin (scene_in self.old) (scene_in self.new)) }
+        ensures memory { IfErr result (λ fault. fault ≡ PlayFault.NoMemory) }
     {
         let ticket = own.ticket();
         let receiver = &self.board.config().route_of(ticket.group()).receiver;
@@ -467,7 +500,9 @@ fn is_success(report: Option<Report>) -> bool
 }
 
 /// Why a call that isn't planned is refused.
-fn full_or_memory(fault: Fault) -> PlayFault {
+fn full_or_memory(fault: Fault) -> PlayFault
+    ensures { result ≡ fault_of_call fault }
+{
     match fault {
         Fault::NoMemory => PlayFault::NoMemory,
         _ => PlayFault::Full,

@@ -3,18 +3,22 @@
 //! `PreviewingBoard` asks for the preview before it begins. By its invariant the previews are those
 //! that the definitions give for its history (`Previews`). Each of these begins is once among the
 //! events, in order (`EventOrder`).
-ghost use Rattle.std.specs.Prelude.{◌≡◌, ◌≤◌, ◌+◌, ◌++◌, ◌∷◌, [], Some, None, IfOk, IfErr, OnOk, OnErr, length, vec_len, vec_capacity};
+ghost use Rattle.std.specs.Prelude.{◌≡◌, ◌≤◌, ◌+◌, ◌++◌, ◌∷◌, ◌⊎◌, [], Some, None, IfOk, IfErr, OnOk, OnErr, length, vec_len, vec_capacity};
 ghost use Rattle.std.specs.List.{range_with_len};
-ghost use Rattle.am_board.specs.History.{opening, reply_of, state_at, IsFresh};
+ghost use Rattle.std.specs.Option.{option_map};
+ghost use Rattle.am_board.specs.History.{calls_at, opening, reply_of, state_at, IsFresh};
+ghost use Rattle.am_board.specs.Step.{IsCaused};
 ghost use Rattle.am_model.specs.Begin.{next_due};
+ghost use Rattle.am_model.specs.Causes.{insert_cause, maintain_cause, silence_cause};
+ghost use Rattle.am_model.specs.Config.{config_fault};
 ghost use Rattle.am_model.specs.Records.{call_of_silence};
-ghost use Rattle.am_model.specs.declared.fault.Fault.TheVariants.{TooManyOpen};
 ghost use Rattle.am_model.specs.declared.record.Call.TheVariants as call;
 ghost use Rattle.am_rehearsal.specs.EventOrder.{begin_indices};
 ghost use Rattle.am_rehearsal.specs.Planned.{call_of, input_trace, no_inputs, with_inputs};
 ghost use Rattle.am_rehearsal.specs.Previews.{takes_group, previews_of, preview_where};
 ghost use Rattle.am_rehearsal.specs.Steps.{with_call, with_note};
 ghost use Rattle.am_rehearsal.specs.Taking.{begun_where, why_not, IsOwn, IsTaken};
+ghost use Rattle.am_rehearsal.specs.WhyNot.{action_cause};
 ghost use Rattle.am_terms.specs.declared.event.Event.TheVariants.{Sent};
 ghost use Rattle.am_rehearsal.specs.declared.limits.TheConstants.{BOARD_ID};
 
@@ -53,6 +57,8 @@ impl PreviewingBoard {
         ensures input_trace { IfOk result (λ opened. input_trace opened.board ≡ no_inputs config) }
         ensures board { IfOk result (λ opened. opened.board ≡ opening config BOARD_ID) }
         ensures events { IfOk result (λ opened. opened.events.items ≡ []) }
+        ensures faultless { OnOk result (config_fault config ≡ None) }
+        ensures refused { IfErr result (λ fault. option_map BoardFault.BadConfig (config_fault config) ≡ Some fault) }
     {
         let board = Board::new(alloc, config, BOARD_ID)?;
         Ok(PreviewingBoard {
@@ -102,6 +108,7 @@ impl PreviewingBoard {
     pub(crate) fn act(&mut self, alloc: Global, now: u64, act: Action) -> Result<(), Fault>
         ensures called { IfOk result (λ _. self.new.board ≡ with_call self.old.board (call_of now act)) }
         ensures events { self.new.events ≡ self.old.events }
+        ensures cause { IsCaused (action_cause self.old.board act) result }
     {
         match act {
             Action::Insert(alert) => self.insert(alloc, now, alert),
@@ -114,6 +121,8 @@ impl PreviewingBoard {
             input_trace self.new.board ≡ with_inputs (input_trace self.old.board) (call.Insert now alert ∷ [])) }
         ensures called { IfOk result (λ _. self.new.board ≡ with_call self.old.board (call.Insert now alert)) }
         ensures events { self.new.events ≡ self.old.events }
+        ensures cause { IsCaused
+            (insert_cause self.old.board.config (calls_at self.old.board) (state_at self.old.board) alert) result }
     {
         let _inserted = self.board.insert(alloc, PASS, now, alert)?;
         Ok(())
@@ -124,6 +133,8 @@ impl PreviewingBoard {
             input_trace self.new.board ≡ with_inputs (input_trace self.old.board) (call_of_silence now silence ∷ [])) }
         ensures called { IfOk result (λ _. self.new.board ≡ with_call self.old.board (call_of_silence now silence)) }
         ensures events { self.new.events ≡ self.old.events }
+        ensures cause { IsCaused
+            (silence_cause self.old.board.config (calls_at self.old.board) (state_at self.old.board) silence) result }
     {
         let _silenced = self.board.silence(alloc, PASS, now, silence)?;
         Ok(())
@@ -133,6 +144,8 @@ impl PreviewingBoard {
         ensures input_trace { input_trace self.new.board ≡ input_trace self.old.board }
         ensures called { IfOk result (λ _. self.new.board ≡ with_call self.old.board (call.Maintain now)) }
         ensures events { self.new.events ≡ self.old.events }
+        ensures cause { IsCaused
+            (maintain_cause self.old.board.config (calls_at self.old.board) (state_at self.old.board)) result }
     {
         let _maintained = self.board.maintain(alloc, PASS, now)?;
         Ok(())
@@ -185,7 +198,7 @@ impl PreviewingBoard {
     pub(crate) fn begin(&mut self, alloc: Global, now: u64) -> Result<Taken, Fault>
         ensures input_trace { input_trace self.new.board ≡ input_trace self.old.board }
         ensures taken { IfOk result (IsTaken self.old.board self.old.events.items now self.new.board self.new.events.items) }
-        ensures cause { IfErr result (λ fault. fault ≡ TooManyOpen → why_not self.old.board now ≡ Some TooManyOpen) }
+        ensures cause { IfErr result (λ fault. (fault ≡ Fault.NoMemory) ⊎ (why_not self.old.board now ≡ Some fault)) }
         ensures refused { OnErr result (self.new.board ≡ self.old.board) }
         ensures events { OnErr result (self.new.events.items ≡ self.old.events.items) }
     {

@@ -1,6 +1,9 @@
 use Rattle.std.proofs.lemmas.Result.{on_ok_weaker}
 use Rattle.am_rehearsal.specs.Courses.{scene_in, setting_in}
+use Rattle.am_rehearsal.specs.Taking.{why_not}
 use Rattle.am_rehearsal.proofs.Beginning.{begin_flush, begin_nothing, begin_quiet, begin_refused}
+use Rattle.am_rehearsal.proofs.Calling.{open_cause}
+use Rattle.am_rehearsal.proofs.Hindering.{begin_hindered}
 use Rattle.am_rehearsal.proofs.play.Course.begin.Goals as goal
 
 pub returns-in-Ok-Nothing-clause-done : goal.returns-in-Ok-Nothing-clause-done
@@ -24,8 +27,13 @@ returns-in-Ok-Flush-clause-done c =
     c.taken-begin.result (scene_in c.send.new.self) taken c.taken-begin.ensures)
     c.send.ensures.sent
 
-pub returns-in-Err-TooManyOpen-clause-done : goal.returns-in-Err-TooManyOpen-clause-done
-returns-in-Err-TooManyOpen-clause-done c =
+pub returns-in-TooManyOpen-clause-done : goal.returns-in-TooManyOpen-clause-done
+returns-in-TooManyOpen-clause-done c =
     let was = c.args.self.now in
     begin_refused (setting_in was) (scene_in was) c.args.at c.begin.new.self.board c.begin.new.self.events.items c.reserve.new.self.items c.reserve.ensures.items
-    (c.in-Err-TooManyOpen.ensures.cause c.in-Err-TooManyOpen.field-0-is) c.in-Err-TooManyOpen.ensures.refused c.in-Err-TooManyOpen.ensures.events
+    (open_cause (why_not was.board.board c.args.at) c.in-Err.fault c.in-TooManyOpen.is c.in-Err.ensures.cause) c.in-Err.ensures.refused c.in-Err.ensures.events
+
+pub returns-in_default-clause-hindered : goal.returns-in_default-clause-hindered
+returns-in_default-clause-hindered c =
+    begin_hindered c.args.self.now.board.board c.args.at c.in-Err.fault c.full_or_memory.result c.full_or_memory.ensures
+    c.in_default.not-TooManyOpen c.in-Err.ensures.cause

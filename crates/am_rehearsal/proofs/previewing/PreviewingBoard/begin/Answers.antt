@@ -7,7 +7,7 @@ use Rattle.am_model.specs.declared.record.Reply.{Reply}
 use Rattle.am_rehearsal.specs.EventOrder.{begin_indices}
 use Rattle.am_rehearsal.specs.Taking.{begun_where, why_not}
 use Rattle.am_terms.specs.declared.event.Event.{Event}
-use Rattle.am_rehearsal.proofs.Calling.{begun_shown, open_cause, taken_by}
+use Rattle.am_rehearsal.proofs.Calling.{answered, begun_shown, taken_by}
 use Rattle.am_model.specs.declared.record.Call.TheVariants.{Begin}
 use Rattle.am_model.specs.declared.record.Record.{Record}
 use Rattle.am_model.specs.Records.{entry}
@@ -60,4 +60,4 @@ returns-clause-taken c =
     })
 
 pub returns-in-Err-clause-cause : goal.returns-in-Err-clause-cause
-returns-in-Err-clause-cause c = λ is. open_cause (why_not c.args.self.now.board c.args.now) c.in-Err.fault is c.in-Err.ensures.cause
+returns-in-Err-clause-cause c = answered (why_not c.args.self.now.board c.args.now) c.in-Err.fault c.in-Err.ensures.cause

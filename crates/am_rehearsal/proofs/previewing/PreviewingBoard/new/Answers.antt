@@ -1,12 +1,14 @@
-use Rattle.std.proofs.Common.{ℕ, ap, length, ◌∙◌, sym}
+use Rattle.std.proofs.Common.{ℕ, Some, ap, length, ◌∙◌, sym}
 use Rattle.std.specs.List.{range_with_len}
 use Rattle.am_board.specs.History.{BoardData}
-use Rattle.am_board.proofs.lemmas.invariant.Staying.{unless_value}
+use Rattle.am_board.proofs.lemmas.invariant.Staying.{no_fault, unless_fault, unless_value}
+use Rattle.am_model.specs.declared.fault.BoardFault.{BoardFault}
 use Rattle.am_rehearsal.specs.EventOrder.{begin_indices}
 use Rattle.am_rehearsal.specs.Previews.{previews_of}
 use Rattle.am_rehearsal.specs.Planned.{input_trace}
 use Rattle.am_rehearsal.specs.declared.limits.TheConstants.{BOARD_ID}
 use Rattle.am_rehearsal.proofs.Doing.{input_trace-opening}
+use Rattle.am_rehearsal.proofs.Hindering.{handed_on, no_config_fault}
 use Rattle.am_rehearsal.proofs.previewing.PreviewingBoard.new.Goals as goal
 
 pub invariant_of-result : goal.invariant_of-result
@@ -23,3 +25,10 @@ returns-clause-input_trace c = ap input_trace (unless_value _ _ _ c.in_ok-board.
 
 pub returns-clause-board : goal.returns-clause-board
 returns-clause-board c = unless_value _ _ _ c.in_ok-board.ensures
+
+pub returns-clause-faultless : goal.returns-clause-faultless
+returns-clause-faultless c = no_config_fault _ (no_fault _ _ _ c.in_ok-board.ensures)
+
+pub returns-in_err-board-clause-refused : goal.returns-in_err-board-clause-refused
+returns-in_err-board-clause-refused c =
+    handed_on c.from_residual.result _ _ (λ fault is. unless_fault _ _ _ c.in_err-board.ensures ∙ ap (λ (f : BoardFault). Some f) (sym is)) c.from_residual.ensures.1

@@ -1,0 +1,314 @@
+-- A rehearsal ends: how many steps lead on at most, which falls with each step.
+use Rattle.std.proofs.Common.{◌≡◌, ℕ, suc, ◌+◌, ◌-◌, ◌*◌, ◌<◌, ◌≤◌, Bool, true, false, not, ◌||◌, IsTrue, List, [], ◌∷◌, ◌++◌, length, map, get_or, sum_by, remove, Option, Some, None, refl, sym, ap, ◌∙◌, subst, arith, if◌then◌else◌}
+use Rattle.std.specs.Prelude.{is_none, slice_get, slice_set}
+use Rattle.std.specs.Option.{IsSomeAnd, option_map_or}
+use Rattle.std.proofs.lemmas.Bool.{false≢true}
+use Rattle.std.proofs.lemmas.Bool.Decides.{nat_tests}
+use Rattle.std.proofs.lemmas.List.{length-map, length_push}
+use Rattle.std.proofs.lemmas.List.Edits.{length-remove}
+use Rattle.std.proofs.lemmas.List.Sums.{sum_by-remove, sum_by-set, sum_by_push}
+use Rattle.std.proofs.lemmas.Option.{get_or_from_slice_get, slice_get_within}
+use Rattle.am_board.specs.History.{BoardData, calls_at, state_at, with_record}
+use Rattle.am_model.proofs.configuration.Faultless.{few_integrations}
+use Rattle.am_model.proofs.configuration.FewAsked.{few_asked}
+use Rattle.am_model.specs.Begin.{asked_of, begun, notice_for, reply_asking, reply_taking, taken}
+use Rattle.am_model.specs.Causes.{is_full, note_cause}
+use Rattle.am_model.specs.Config.{config_fault}
+use Rattle.am_model.specs.Configured.{HaveFewIntegrations}
+use Rattle.am_model.specs.Insert.{inserted}
+use Rattle.am_model.specs.Notice.{NoticeData}
+use Rattle.am_model.specs.Records.{call_of_silence, entry}
+use Rattle.am_model.specs.Replay.{reply as reply_to}
+use Rattle.am_model.specs.State.{GroupState, State, moment}
+use Rattle.am_model.specs.Ticket.{TicketData}
+use Rattle.am_model.specs.Upkeep.{maintained, silenced}
+use Rattle.am_model.specs.declared.config.Config.{Config}
+use Rattle.am_model.specs.declared.config.Integration.{Integration}
+use Rattle.am_model.specs.declared.config.TheConstants.{MAX_INTEGRATIONS}
+use Rattle.am_model.specs.declared.fault.Fault.{Fault}
+use Rattle.am_model.specs.declared.fault.Fault.TheVariants as fault
+use Rattle.am_model.specs.declared.record.Call.{Call}
+use Rattle.am_model.specs.declared.record.Call.TheVariants as call
+use Rattle.am_model.specs.declared.record.Reply.{Reply}
+use Rattle.am_model.specs.declared.record.Reply.TheVariants as reply
+use Rattle.am_mute.specs.Silence.{silence_of}
+use Rattle.am_pool.specs.Sendings.{note_at}
+use Rattle.am_pool.specs.declared.courier.Sent.{Sent}
+use Rattle.am_rehearsal.proofs.Coming.{next_there}
+use Rattle.am_rehearsal.specs.Answers.{AreEndsOf}
+use Rattle.am_rehearsal.specs.Courses.{IsAllowed, IsThereFor}
+use Rattle.am_rehearsal.specs.Next.{next}
+use Rattle.am_rehearsal.specs.Planned.{call_of}
+use Rattle.am_rehearsal.specs.Scene.{Scene, SendingData, Setting}
+use Rattle.am_rehearsal.specs.Steps.{IsBegun, IsDone, IsPlanDone, IsReplied, Steps, after_end, after_end_of, after_finish, after_maintenance, after_nothing, after_plan, after_taking, after_too_many, answers_for, is_success, with_call, with_note, with_report, with_sending}
+use Rattle.am_rehearsal.specs.Taking.{why_not}
+use Rattle.am_rehearsal.specs.WhyNot.{action_cause, own_cause, plan_cause}
+use Rattle.am_rehearsal.specs.declared.next.End.{End}
+use Rattle.am_rehearsal.specs.declared.next.Next.{Next}
+use Rattle.am_rehearsal.specs.declared.next.Step.{Step}
+use Rattle.am_rehearsal.specs.declared.next.Step.TheVariants as step
+use Rattle.am_terms.specs.declared.rehearsal.Action.{Action}
+use Rattle.am_terms.specs.declared.rehearsal.Action.TheVariants.{Insert, Silence}
+use Rattle.am_terms.specs.declared.rehearsal.TimedAction.{TimedAction}
+
+-- the ends and the finish that are to come of a flush
+abbrev pub to_come : SendingData → ℕ
+to_come s = length s.ends + 1
+
+-- and of all flushes in flight
+abbrev pub in_flight : List SendingData → ℕ
+in_flight ss = sum_by to_come ss
+
+-- a record that is left may be of a begin that opens a flush of eight notices; a finish lets begins come again
+abbrev pub weigh : ℕ → ℕ → ℕ → ℕ → ℕ → ℕ
+weigh limit records flight comes goes = 20 * (limit - records) + 2 * flight + comes + goes
+
+-- how many steps lead on from a scene at most, where a history has at most so many records
+abbrev pub steps_left : ℕ → Scene → ℕ
+steps_left limit c =
+    weigh limit (calls_at c.board) (in_flight c.sendings) (if c.blocked then 0 else 1) (if c.begins then 1 else 0)
+
+-- where no record is lost, and less is in flight
+falls_beside : (limit n m f g b d a e : ℕ) → n ≤ m → 2 * g + d + e < 2 * f + b + a → weigh limit m g d e < weigh limit n f b a
+falls_beside limit n m f g b d a e more less = omega (arith, more, less)
+
+-- where there is a record more, and at most one flush more
+falls_recorded : (limit n m f g b d a e : ℕ) → n < limit → m ≡ n + 1 → 2 * g + d + e < 2 * f + b + a + 20 → weigh limit m g d e < weigh limit n f b a
+falls_recorded limit n m f g b d a e room one less = omega (arith, room, one, less)
+
+-- a call adds a record, or none
+called_grows : (b : BoardData) (c : Call) → calls_at b ≤ calls_at (with_call b c)
+called_grows b c = by (reply_to b.config b.id (state_at b) c)
+  where
+    by : (o : Option Reply) → calls_at b ≤ calls_at (option_map_or (λ told. with_record b (entry 0 c told)) o b)
+    by None = omega arith
+    by (Some told) = omega (arith, length_push b.history (entry 0 c told))
+
+noted_grows : (at : ℕ) (t : TicketData) (place : ℕ) (b : BoardData) → calls_at b ≤ calls_at (with_note at t place b)
+noted_grows at t place b = by (is_none (note_cause b.config b.id (calls_at b) (state_at b) t place)) (slice_get t.notices place)
+  where
+    by : (free : Bool) (n : Option NoticeData) → calls_at b ≤ calls_at (if free then option_map_or (λ n. with_call b (note_at at t n)) n b else b)
+    by true None = omega arith
+    by true (Some n) = called_grows b (note_at at t n)
+    by false n = omega arith
+
+ended_grows : (success : Bool) (at : ℕ) (t : TicketData) (place : ℕ) (b : BoardData) → calls_at b ≤ calls_at (if success then with_note at t place b else b)
+ended_grows true at t place b = noted_grows at t place b
+ended_grows false at t place b = omega arith
+
+-- a call that has a reply adds one
+called_adds : (b : BoardData) (c : Call) (told : Reply) → reply_to b.config b.id (state_at b) c ≡ Some told → calls_at (with_call b c) ≡ calls_at b + 1
+called_adds b c told is =
+    ap (λ (o : Option Reply). calls_at (option_map_or (λ t. with_record b (entry 0 c t)) o b)) is ∙ length_push b.history (entry 0 c told)
+
+planned_adds : (b : BoardData) (at : ℕ) (act : Action) → calls_at (with_call b (call_of at act)) ≡ calls_at b + 1
+planned_adds b at (Insert alert) = called_adds b (call.Insert at alert) (reply.Inserted (inserted b.config (state_at b) alert)) refl
+planned_adds b at (Silence silence) =
+    called_adds b (call_of_silence at silence) (reply.Silenced (silenced (state_at b) (silence_of silence.id silence.matchers silence.start silence.end))) refl
+
+-- a history that isn't full has room
+room_of : (config : Config) (records : ℕ) (s : State) (more : ℕ) → 0 < more → is_full config records s more ≡ false → records < config.limits.history
+room_of config records s more some free = grind (arith, nat_tests, some, free)
+
+-- where there is no cause, the first of all doesn't hold
+unfull : (b : Bool) (x : Fault) (rest : Option Fault) → (if b then Some x else rest) ≡ None → b ≡ false
+unfull true x rest none = absurd (cc)
+unfull false x rest none = refl
+
+module _ (b : BoardData) where
+  abbrev HasRoom : Type 0
+  HasRoom = calls_at b < b.config.limits.history
+
+  abbrev is_full_for : ℕ → Bool
+  is_full_for more = is_full b.config (calls_at b) (state_at b) more
+
+  action_room : (act : Action) → action_cause b act ≡ None → HasRoom
+  action_room (Insert alert) none =
+      room_of b.config (calls_at b) (state_at b) 1 (omega arith) (unfull (is_full_for 1) fault.HistoryFull _ none)
+  action_room (Silence silence) none =
+      room_of b.config (calls_at b) (state_at b) 1 (omega arith) (unfull (is_full_for 1) fault.HistoryFull _ none)
+
+  maintain_room : (at : ℕ) → own_cause b at step.Maintenance ≡ None → HasRoom
+  maintain_room at none = room_of b.config (calls_at b) (state_at b) 1 (omega arith) (unfull (is_full_for 1) fault.HistoryFull None none)
+
+  begin_room : (at : ℕ) → why_not b at ≡ None → HasRoom
+  begin_room at none = room_of b.config (calls_at b) (state_at b) 2 (omega arith) (unfull (is_full_for 2) fault.HistoryFull _ none)
+
+-- how many notices a reply has
+abbrev notices_in : Reply → ℕ
+notices_in (reply.Inserted inserted) = 0
+notices_in (reply.Silenced silenced) = 0
+notices_in reply.NothingDue = 0
+notices_in (reply.Quiet group removed) = 0
+notices_in (reply.Flush number group deadline notices) = length notices
+notices_in (reply.Finished finished) = 0
+notices_in (reply.Maintained maintained) = 0
+notices_in reply.Noted = 0
+
+module _ (config : Config) (id : ℕ) (s : State) (t : ℕ) (few : HaveFewIntegrations config) where
+  few_asking : (g : GroupState) (asked : List (ℕ × Integration)) → length asked ≤ MAX_INTEGRATIONS
+      → notices_in (reply_asking config id s t g asked) ≤ MAX_INTEGRATIONS
+  few_asking g [] most = omega arith
+  few_asking g (i ∷ is) most =
+      let count : length (map (notice_for config id s t g) (i ∷ is)) ≡ length (i ∷ is) = length-map (i ∷ is) (notice_for config id s t g) in
+      omega (arith, most, count)
+
+  few_taking : (o : Option GroupState) → notices_in (reply_taking config id s t o) ≤ MAX_INTEGRATIONS
+  few_taking None = omega arith
+  few_taking (Some g) = few_asking g (asked_of config s t g) (few_asked config s t g few)
+
+  -- a begin has at most eight notices
+  few_notices : notices_in (begun config id s t) ≤ MAX_INTEGRATIONS
+  few_notices = few_taking (taken s t)
+
+-- as many notices have as many ends
+ends_counted : (answer : ℕ → ℕ → ℕ → ℕ → Sent) (at place : ℕ) (ns : List NoticeData) (es : List End) → AreEndsOf answer at place ns es → length es ≡ length ns
+ends_counted answer at place [] [] are = refl
+ends_counted answer at place [] (e ∷ es) are = absurd are
+ends_counted answer at place (n ∷ ns) [] are = absurd are
+ends_counted answer at place (n ∷ ns) (e ∷ es) are = ap (λ (k : ℕ). suc k) (ends_counted answer at (place + 1) ns es are.1)
+
+some_of : {X : Type 0} (o : Option X) (P : X → Type 0) → IsSomeAnd o P → (x : X) × (o ≡ Some x) × P x
+some_of None P h = absurd h
+some_of (Some x) P h = (x, refl, h)
+
+-- less is in flight once an end has come
+flight_end : (ss : List SendingData) (position index : ℕ) (s t : SendingData) (e : End) → slice_get ss position ≡ Some s → slice_get s.ends index ≡ Some e
+    → t.ends ≡ remove s.ends index → in_flight (slice_set ss position t) + 1 ≡ in_flight ss
+flight_end ss position index s t e here there left =
+    let changed : in_flight (slice_set ss position t) + to_come (get_or ss position s) ≡ in_flight ss + (length t.ends + 1) =
+    sum_by-set to_come ss position t s (slice_get_within ss position s here)
+    in
+    let was : to_come (get_or ss position s) ≡ length s.ends + 1 = ap to_come (get_or_from_slice_get ss position s s here) in
+    let same : length t.ends ≡ length (remove s.ends index) = ap length left in
+    let fewer : length (remove s.ends index) + 1 ≡ length s.ends = length-remove s.ends index (slice_get_within s.ends index e there) in
+    omega (arith, changed, was, same, fewer)
+
+-- and once a flush is finished
+flight_finish : (ss : List SendingData) (position : ℕ) (s : SendingData) → slice_get ss position ≡ Some s → in_flight (remove ss position) + (length s.ends + 1) ≡ in_flight ss
+flight_finish ss position s here =
+    let without : in_flight (remove ss position) + to_come (get_or ss position s) ≡ in_flight ss =
+    sum_by-remove to_come ss position s (slice_get_within ss position s here)
+    in
+    let was : to_come (get_or ss position s) ≡ length s.ends + 1 = ap to_come (get_or_from_slice_get ss position s s here) in
+    omega (arith, without, was)
+
+-- where a begin may come, it comes at once, or begins don't wait
+may_count : (begins blocked : Bool) → IsTrue (begins || not blocked) → 0 < (if blocked then 0 else 1) + (if begins then 1 else 0)
+may_count true true may = omega arith
+may_count true false may = omega arith
+may_count false true may = absurd (false≢true may)
+may_count false false may = omega arith
+
+module _ (r : Setting) (c d : Scene) where
+  abbrev limit : ℕ
+  limit = c.board.config.limits.history
+
+  abbrev records : ℕ
+  records = calls_at c.board
+
+  abbrev flight : ℕ
+  flight = in_flight c.sendings
+
+  abbrev comes : ℕ
+  comes = if c.blocked then 0 else 1
+
+  abbrev goes : ℕ
+  goes = if c.begins then 1 else 0
+
+  -- fewer steps lead on from the second scene
+  abbrev Falls : Type 0
+  Falls = steps_left limit d < steps_left limit c
+
+  falls_to : (x : Scene) → d ≡ x → steps_left limit x < steps_left limit c → Falls
+  falls_to x is less = subst (λ (y : Scene). steps_left limit y < steps_left limit c) (sym is) less
+
+  ended : (position index : ℕ) → IsDone r c 0 d (step.End position index) → Falls
+  ended position index done =
+      let at = some_of (slice_get c.sendings position) (λ s. IsSomeAnd (slice_get s.ends index) (λ e. d ≡ after_end c position s index e)) done in
+      let s : SendingData = at.0 in
+      let ending = some_of (slice_get s.ends index) (λ e. d ≡ after_end c position s index e) at.2 in
+      let e : End = ending.0 in
+      let t : SendingData = after_end_of s index e.report in
+      let less = flight_end c.sendings position index s t e at.1 ending.1 refl in
+      falls_to (after_end c position s index e) ending.2
+      (falls_beside limit records _ flight (in_flight (slice_set c.sendings position t)) comes comes goes goes
+      (ended_grows (is_success e.report) e.at (with_report e.report s.ticket) e.place c.board) (omega (arith, less)))
+
+  finished : (position : ℕ) → IsDone r c 0 d (step.Finish position) → Falls
+  finished position done =
+      let at = some_of (slice_get c.sendings position) (λ s. d ≡ after_finish c position s) done in
+      let s : SendingData = at.0 in
+      let less = flight_finish c.sendings position s at.1 in
+      falls_to (after_finish c position s) at.2
+      (falls_beside limit records _ flight (in_flight (remove c.sendings position)) comes 1 goes goes
+      (called_grows c.board (call.Finish c.clock s.ticket.number s.ticket.outcomes)) (omega (arith, less)))
+
+  acted : (ps : List TimedAction) → plan_cause c.board ps ≡ None → IsPlanDone c d ps → Falls
+  acted [] none done = absurd done
+  acted (p ∷ ps) none is =
+      falls_to (after_plan c p ps) is
+      (falls_recorded limit records _ flight flight comes comes goes goes (action_room c.board p.act none) (planned_adds c.board p.at p.act) (omega arith))
+
+  maintained_falls : (at : ℕ) → own_cause c.board at step.Maintenance ≡ None → IsDone r c at d step.Maintenance → Falls
+  maintained_falls at none is =
+      falls_to (after_maintenance r c at) is
+      (falls_recorded limit records _ flight flight comes comes goes goes (maintain_room c.board at none)
+      (called_adds c.board (call.Maintain at) (reply.Maintained (maintained (state_at c.board) (moment (state_at c.board) at))) refl) (omega arith))
+
+  module _ (at : ℕ) (few : HaveFewIntegrations c.board.config) where
+    abbrev told_of : Reply
+    told_of = begun c.board.config c.board.id (state_at c.board) (moment (state_at c.board) at)
+
+    -- a begin that was accepted
+    replied : (told : Reply) → told_of ≡ told → calls_at c.board < limit → IsReplied r c at d told → Falls
+    replied reply.NothingDue told room is =
+        falls_to (after_nothing c at) is
+        (falls_recorded limit records _ flight flight comes comes goes 0 room (length_push c.board.history (entry 0 (call.Begin at) reply.NothingDue)) (omega arith))
+    replied (reply.Quiet group removed) told room is =
+        falls_to (after_taking c at (reply.Quiet group removed)) is
+        (falls_recorded limit records _ flight flight comes comes goes 1 room (length_push c.board.history (entry 0 (call.Begin at) (reply.Quiet group removed))) (omega arith))
+    replied (reply.Flush number group deadline notices) told room sent =
+        let flush : Reply = reply.Flush number group deadline notices in
+        let s : SendingData = sent.0 in
+        let taking : Scene = after_taking c at flush in
+        let count : length s.ends ≡ length notices = ends_counted (answers_for r taking.board group) at 0 notices s.ends sent.3 in
+        let most : length notices ≤ MAX_INTEGRATIONS =
+        subst (λ (q : Reply). notices_in q ≤ MAX_INTEGRATIONS) told (few_notices c.board.config c.board.id (state_at c.board) (moment (state_at c.board) at) few)
+        in
+        let more : in_flight (c.sendings ++ s ∷ []) ≡ flight + (length s.ends + 1) = sum_by_push to_come c.sendings s in
+        let eight : MAX_INTEGRATIONS ≡ 8 = refl in
+        falls_to (with_sending s taking) sent.4
+        (falls_recorded limit records _ flight (in_flight (c.sendings ++ s ∷ [])) comes comes goes 1 room
+        (length_push c.board.history (entry 0 (call.Begin at) flush)) (omega (arith, count, most, more, eight)))
+    replied (reply.Inserted inserted) told room is = absurd is
+    replied (reply.Silenced silenced) told room is = absurd is
+    replied (reply.Finished finished) told room is = absurd is
+    replied (reply.Maintained maintained) told room is = absurd is
+    replied reply.Noted told room is = absurd is
+
+    begun_by : (cause : Option Fault) → why_not c.board at ≡ cause → IsTrue (c.begins || not c.blocked) → IsBegun r c at d cause → Falls
+    begun_by None why may is = replied told_of refl (begin_room c.board at why) is
+    begun_by (Some fault.TooManyOpen) why may is =
+        falls_to (after_too_many c at) is
+        (falls_beside limit records records flight flight comes 0 goes 0 (omega arith) (omega (arith, may_count c.begins c.blocked may)))
+    begun_by (Some fault.NoMemory) why may is = absurd is
+    begun_by (Some fault.TooManyNames) why may is = absurd is
+    begun_by (Some fault.TooManyGroups) why may is = absurd is
+    begun_by (Some fault.TooManySilences) why may is = absurd is
+    begun_by (Some fault.HistoryFull) why may is = absurd is
+
+  module _ (few : HaveFewIntegrations c.board.config) where
+    done_falls : (n : Next) (what : Step) → IsThereFor r c n what → IsAllowed c n what → IsDone r c n.at d what → Falls
+    done_falls n (step.End position index) there allowed done = ended position index done
+    done_falls n (step.Finish position) there allowed done = finished position done
+    done_falls n step.Plan there allowed done = acted c.plans allowed done
+    done_falls n step.Maintenance there allowed done = maintained_falls n.at allowed done
+    done_falls n step.Begin there allowed done = begun_by n.at few (why_not c.board n.at) refl there.1 done
+
+  -- fewer steps lead on from where the next step leads
+  pub step_falls : (n : Next) → next r c ≡ Some n → config_fault c.board.config ≡ None → IsAllowed c n n.what → Steps r c d → Falls
+  unfolding Steps
+  step_falls n comes faultless allowed steps =
+      done_falls (few_integrations c.board.config faultless) n n.what (next_there r c n comes) allowed
+      (subst (λ (o : Option Next). IsSomeAnd o (λ m. IsDone r c m.at d m.what)) comes steps)

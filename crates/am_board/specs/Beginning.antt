@@ -173,6 +173,10 @@ pub record IsChosen (config : Config) (s : kept.State) (chosen : ChosenGroup) (g
   pub first : taken (state_of s) chosen.t ≡ Some (group_state g)
   pub due : chosen.due ≡ chosen.t + (route_of config g.name).group_interval
 
+-- a begin at t asks no integration of the group that it takes
+abbrev pub IsQuietAt : Config → State → ℕ → Type 0
+IsQuietAt config s t = (g : GroupState) → taken s t ≡ Some g → asked_of config s t g ≡ []
+
 -- how a begin ends for which nothing but memory can be wanting
 abbrev pub IsEnd : Config → ℕ → ℕ → ℕ → kept.State → kept.State → Result Begun Fault → Type 0
 IsEnd config id pass now old new (Ok begun) = AppliesCall config id (entry pass (Begin now) (reply_of begun)) old new × IsFresh id begun

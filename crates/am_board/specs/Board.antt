@@ -1,24 +1,32 @@
 -- Board: the invariant of a board's fields.
-use Rattle.std.specs.Prelude.{◌≡◌, ◌+◌, ◌≤◌, None, All, length, vec_len, vec_capacity}
+use Rattle.std.specs.Prelude.{◌≡◌, ◌+◌, ◌≤◌, ◌++◌, None, List, All, length, vec_len, vec_capacity}
 use Rattle.am_alerts.specs.RoutingTree.{last_of}
 use Rattle.am_alerts.specs.declared.limits.TheConstants.{MAX_ROUTES}
 use Rattle.am_board.specs.declared.board.Board.TheInside.{Inside}
 use Rattle.am_mute.specs.Sources.{AreLearnt}
+use Rattle.am_model.specs.declared.config.TheConstants.{MAX_HANDED}
+use Rattle.am_model.specs.declared.record.Record.{Record}
 use Rattle.am_model.specs.Config.{AreAllowed, config_fault}
 use Rattle.am_board.specs.GroupNameCache.{AreKept}
 use Rattle.am_board.specs.Group.{names_of, AreRouted}
 use Rattle.am_board.specs.Refinement.{state_of, EqualUpToRowOrder, IsPrepared}
 use Rattle.am_model.specs.Replay.{replay, IsLegal}
 
--- the history is legal, and the state is its replay; the limits hold; each group's route is there;
--- each open flush has room in the history for its finish, and is prepared for it; what was learnt is of the rules and of the known
--- alerts, and the names that are kept for these are those of their groups
+-- the whole history: the records that were handed out, and those that are kept
+abbrev pub whole : Inside → List Record
+whole b = b.past.items ++ b.state.history.items
+
+-- the whole history is legal, and the state is its replay; the records that were handed out are counted, and no more than may be; the
+-- limits hold; each group's route is there; each open flush has room among the kept records for its finish, and is prepared for it; what
+-- was learnt is of the rules and of the known alerts, and the names that are kept for these are those of their groups
 pub record IsSound (b : Inside) : Type 0 where
   pub limits : AreAllowed b.config.limits
   pub configured : config_fault b.config ≡ None
   pub few_routes : last_of b.config.routes ≤ MAX_ROUTES
-  pub legal : IsLegal b.config b.id b.state.history.items
-  pub agrees : EqualUpToRowOrder (state_of b.state) (replay b.config b.state.history.items)
+  pub legal : IsLegal b.config b.id (whole b)
+  pub agrees : EqualUpToRowOrder (state_of b.state) (replay b.config (whole b))
+  pub counted : b.handed ≡ length b.past.items
+  pub few : b.handed ≤ MAX_HANDED
   pub names : length (state_of b.state).known ≤ b.config.limits.names
   pub groups : length (state_of b.state).groups ≤ b.config.limits.groups
   pub silences : length (state_of b.state).silences ≤ b.config.limits.silences

@@ -1,6 +1,9 @@
 -- History: a board as contracts see it, by its configuration, its id and its history.
-use Rattle.std.specs.Prelude.{◌≡◌, ◌≤◌, ℕ, List, [], ◌∷◌, ◌++◌, length, Some, Result, Ok, Err}
+use Rattle.std.specs.Prelude.{◌≡◌, ◌≤◌, ℕ, List, [], ◌∷◌, ◌++◌, drop, length, nat_lt, Option, Some, None, Result, Ok, Err, if◌then◌else◌}
 use Rattle.am_model.specs.declared.config.Config.{Config}
+use Rattle.am_model.specs.declared.config.TheConstants.{MAX_HANDED}
+use Rattle.am_model.specs.declared.fault.TakeFault.{TakeFault}
+use Rattle.am_model.specs.declared.fault.TakeFault.TheVariants.{TooManyCalls}
 use Rattle.am_model.specs.declared.record.Record.{Record}
 use Rattle.am_model.specs.declared.record.Call.{Call}
 use Rattle.am_model.specs.declared.record.Reply.{Reply}
@@ -14,26 +17,40 @@ use Rattle.am_model.specs.Ticket.{TicketData}
 use Rattle.am_model.specs.Replay.{reply, replay}
 use Rattle.am_model.specs.State.{State}
 
+-- all calls that a board ever accepted, and the beginning of these that it handed out
 pub record BoardData : Type 0 where
   pub config : Config
   pub id : ℕ
+  pub handed : List Record
   pub history : List Record
 
 -- a board that accepted no call yet
 abbrev pub opening : Config → ℕ → BoardData
-opening config id = record { config = config; id = id; history = [] }
+opening config id = record { config = config; id = id; handed = []; history = [] }
 
 -- the board after an accepted call
 abbrev pub with_record : BoardData → Record → BoardData
-with_record board r = record { config = board.config; id = board.id; history = board.history ++ r ∷ [] }
+with_record board r = record { config = board.config; id = board.id; handed = board.handed; history = board.history ++ r ∷ [] }
+
+-- the board after it handed out all records that it kept
+abbrev pub handed_out : BoardData → BoardData
+handed_out board = record { config = board.config; id = board.id; handed = board.history; history = board.history }
 
 -- the state of a board: the replay of its history
 abbrev pub state_at : BoardData → State
 state_at board = replay board.config board.history
 
--- how many calls a board has accepted
-abbrev pub calls_at : BoardData → ℕ
-calls_at board = length board.history
+-- the records that a board keeps: those that it didn't hand out
+abbrev pub kept_of : BoardData → List Record
+kept_of board = drop (length board.handed) board.history
+
+-- how many records a board keeps
+abbrev pub records_at : BoardData → ℕ
+records_at board = length (kept_of board)
+
+-- why a board doesn't hand out its records: it would have handed out more than may be
+abbrev pub take_cause : BoardData → Option TakeFault
+take_cause board = if nat_lt MAX_HANDED (length board.history) then Some TooManyCalls else None
 
 -- a board's state has no more known alerts, groups, silences and open flushes than its limits
 pub record KeepsLimits (board : BoardData) : Type 0 where

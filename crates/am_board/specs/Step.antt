@@ -2,11 +2,14 @@
 use Rattle.std.specs.Prelude.{◌≡◌, ℕ, ◌+◌, ◌≤◌, ◌⊎◌, [], ◌∷◌, ◌++◌, Option, Some, None, Result, Ok, Err, All, vec_len, vec_capacity}
 use Rattle.am_alerts.specs.declared.limits.TheConstants.{MAX_DURATION}
 use Rattle.am_model.specs.declared.config.Config.{Config}
+use Rattle.am_model.specs.declared.config.TheConstants.{MAX_HANDED, MAX_HISTORY}
 use Rattle.am_model.specs.declared.fault.Fault.{Fault}
 use Rattle.am_model.specs.declared.fault.Fault.TheVariants.{NoMemory, HistoryFull}
 use Rattle.am_model.specs.declared.fault.Fault.TheVariants.{TooManyNames, TooManyGroups, TooManySilences, TooManyOpen}
 use Rattle.am_model.specs.declared.fault.NoteFault.{NoteFault}
 use Rattle.am_model.specs.declared.fault.NoteFault.TheVariants as note
+use Rattle.am_model.specs.declared.fault.TakeFault.{TakeFault}
+use Rattle.am_model.specs.declared.fault.TakeFault.TheVariants as taking
 use Rattle.am_board.specs.declared.state.State as kept
 use Rattle.am_model.specs.declared.record.Record.{Record}
 use Rattle.am_model.specs.Configured.{HaveFewIntegrations}
@@ -15,11 +18,15 @@ use Rattle.am_board.specs.Refinement.{state_of, EqualUpToRowOrder, IsPrepared}
 use Rattle.am_model.specs.Laws.{IsConsistent}
 use Rattle.am_model.specs.Replay.{reply, after}
 
+-- the greatest number of calls that a board accepts: all that it may hand out, and all that it may keep
+abbrev pub MAX_CALLS : ℕ
+MAX_CALLS = MAX_HANDED + MAX_HISTORY
+
 -- what each call relies on: the state is one that a legal history leaves, and each open flush is prepared for its end
 pub record StateInvariant (config : Config) (s : kept.State) : Type 0 where
   pub consistent : IsConsistent (state_of s)
-  pub inserts : s.inserts ≤ vec_len s.history
-  pub numbers : s.next_number ≤ vec_len s.history + 1
+  pub inserts : s.inserts ≤ MAX_CALLS
+  pub numbers : s.next_number ≤ MAX_CALLS + 1
   pub routed : AreRouted config.routes (names_of s.groups.items)
   pub prepared : All (IsPrepared config s.log) s.flushes.items
   pub room : vec_len s.history + vec_len s.flushes ≤ vec_capacity s.history
@@ -70,3 +77,13 @@ IsNoteAnswer (Some cause) fault = fault ≡ cause
 abbrev pub IsNoteCaused : {T : Type 0} → Option NoteFault → Result T NoteFault → Type 0
 IsNoteCaused cause (Ok x) = cause ≡ None
 IsNoteCaused cause (Err fault) = IsNoteAnswer cause fault
+
+-- a fault that a taking of the records may be answered where this is the cause other than memory
+abbrev pub IsTakeAnswer : Option TakeFault → TakeFault → Type 0
+IsTakeAnswer None fault = fault ≡ taking.NoMemory
+IsTakeAnswer (Some cause) fault = fault ≡ cause
+
+-- the result of a taking is caused so
+abbrev pub IsTakeCaused : {T : Type 0} → Option TakeFault → Result T TakeFault → Type 0
+IsTakeCaused cause (Ok x) = cause ≡ None
+IsTakeCaused cause (Err fault) = IsTakeAnswer cause fault

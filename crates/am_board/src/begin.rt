@@ -9,7 +9,7 @@
 //!
 //! `TooManyOpen` comes once it is known that an integration needs an update. Log keys of a failed
 //! begin can stay known: a known key without a row shows nowhere.
-ghost use Rattle.std.specs.Prelude.{◌≡◌, ◌≢◌, ℕ, ◌+◌, ◌<◌, ◌≤◌, [], None, length, map};
+ghost use Rattle.std.specs.Prelude.{◌≡◌, ◌≢◌, ℕ, ◌+◌, ◌<◌, ◌≤◌, [], None, length, map, true};
 ghost use Rattle.std.specs.Prelude.{All, IsTrue, MatchResult, OnOk, vec_len, vec_capacity};
 ghost use Rattle.std.specs.List.{IsDistinct};
 ghost use Rattle.am_alerts.specs.RoutingTree.{last_of, route_at};
@@ -23,7 +23,7 @@ ghost use Rattle.am_model.specs.Records.{entry};
 ghost use Rattle.am_board.specs.History.{reply_of, IsFresh};
 ghost use Rattle.am_board.specs.Refinement.{state_of, group_state};
 ghost use Rattle.am_board.specs.LogRows.{log_rows};
-ghost use Rattle.am_board.specs.Beginning.{IsPlannedFlush, IsChosen, IsEnd};
+ghost use Rattle.am_board.specs.Beginning.{IsPlannedFlush, IsChosen, IsEnd, IsQuietAt};
 ghost use Rattle.am_model.specs.State.{moment, same_name};
 ghost use Rattle.am_board.specs.Step.{StateInvariant, AppliesCall, LeavesUnchanged, IsAnswer};
 ghost use Rattle.am_model.specs.declared.config.TheConstants.{MAX_INTEGRATIONS};
@@ -70,7 +70,7 @@ pub(crate) struct ChosenGroup {
 }
 
 /// Takes the group that is due first and has no open flush, and opens a flush of it unless no
-/// integration needs an update.
+/// integration needs an update. `is_quiet` says that none does: then that isn't worked out.
 pub(crate) fn take_group(
     alloc: Global,
     config: &Config,
@@ -79,9 +79,11 @@ pub(crate) fn take_group(
     sources: &Sources,
     pass: u32,
     now: u64,
+    is_quiet: bool,
 ) -> Result<Begun, Fault>
     requires good { StateInvariant config.now state.old }
     requires sources { AreLearnt config.now.rules state.old.known.items sources.now }
+    requires quiet { is_quiet ≡ true → IsQuietAt config.now (state_of state.old) (moment (state_of state.old) now) }
     ensures { MatchResult result
         (λ begun. (begin_cause config.now (vec_len state.old.history) (state_of state.old) (moment (state_of state.old) now) ≡ None)
         × AppliesCall config.now id (entry pass (Call.Begin now) (reply_of begun)) state.old state.new × IsFresh id begun)
@@ -103,6 +105,9 @@ pub(crate) fn take_group(
         place,
         due,
     };
+    if is_quiet {
+        return begin_quiet(alloc, state, chosen);
+    }
     put_in_order(alloc, state, place);
     match plan(alloc, config, id, state, sources, chosen)? {
         None => begin_quiet(alloc, state, chosen),

@@ -1,15 +1,13 @@
 //! `Board` and its calls. Each hands the board's fields to the module of the call. `note` and
-//! `finish` first compare the ticket's id with the board's.
-ghost use Rattle.std.specs.Prelude.{◌≡◌, ◌≢◌, ◌≤◌, ◌↔◌, None, Some, length, IfOk, IfErr, OnOk, OnErr, IsErrOf};
+//! `finish` first compare the ticket's id with the board's. The history is in `history`.
+ghost use Rattle.std.specs.Prelude.{◌≡◌, ◌≢◌, ◌↔◌, None, Some, IfOk, IfErr, OnOk, OnErr, IsErrOf};
 ghost use Rattle.std.specs.Option.{option_map};
 ghost use Rattle.am_alerts.specs.Fault.{ok_unless};
 ghost use Rattle.am_model.specs.Causes.{insert_cause, silence_cause, begin_cause, maintain_cause, note_cause};
 ghost use Rattle.am_model.specs.Config.{AreAllowed, config_fault};
-ghost use Rattle.am_board.specs.History.{opening, state_at, calls_at, KeepsLimits, IsReplyAt, with_record, reply_of, IsFresh};
+ghost use Rattle.am_board.specs.History.{opening, state_at, records_at, IsReplyAt, with_record, reply_of, IsFresh};
 ghost use Rattle.am_board.specs.History.{HandsBack, IsForeign, IsNotOpen};
 ghost use Rattle.am_model.specs.Records.{entry, call_of_silence, IsNoteOf};
-ghost use Rattle.am_model.specs.look_back.Laws.{LooksBack};
-ghost use Rattle.am_model.specs.Replay.{IsLegal};
 ghost use Rattle.am_model.specs.State.{moment, flush_numbered};
 ghost use Rattle.am_board.specs.Step.{IsCaused, IsNoteCaused};
 
@@ -27,6 +25,7 @@ use crate::silence::put_silence;
 use crate::state::State;
 use crate::ticket::Ticket;
 use am_alerts::alert::Alert;
+use am_ghost::GhostList;
 use am_mute::silence::Silence;
 use am_mute::sources::Sources;
 use std::alloc::Global;
@@ -34,8 +33,8 @@ use std::marker::Model;
 
 /// A dispatcher of one thread: known alerts, groups, silences, open flushes, the log, the history.
 ///
-/// Contracts see its configuration, its id and its history.
-#[derive(Debug, Drop)]
+/// Contracts see its configuration, its id, its whole history, and how much of that it handed out.
+#[derive(Drop)]
 pub struct Board {
     pub(crate) config: Config,
     pub(crate) id: u64,
@@ -44,10 +43,15 @@ pub struct Board {
     pub(crate) sources: Sources,
     /// The names of the known alerts' groups. A cache.
     pub(crate) destinations: GroupNameCache,
+    /// The number of records that were handed out.
+    pub(crate) handed: usize,
+    /// The records that were handed out, in proofs alone.
+    pub(crate) past: GhostList<Record>,
 }
 
 impl Model for Board {
     ghost use Rattle.std.specs.Coded.{codes};
+    ghost use Rattle.std.specs.Prelude.{◌++◌};
     ghost use Rattle.am_alerts.specs.Layout.{forest_code};
     ghost use Rattle.am_board.specs.History.{BoardData};
 
@@ -57,7 +61,12 @@ impl Model for Board {
 
     ghost use Rattle.am_board.specs.Board.{IsSound};
 
-    ghost view = { λ b. record { config = b.config; id = b.id; history = b.state.history.items } };
+    ghost view = { λ b. record {
+      config = b.config;
+      id = b.id;
+      handed = b.past.items;
+      history = b.past.items ++ b.state.history.items;
+    } };
 
     ghost invariant = { IsSound };
 }
@@ -79,6 +88,8 @@ impl Board {
                 state: State::new(alloc)?,
                 sources: Sources::new(alloc),
                 destinations: GroupNameCache::new(alloc),
+                handed: 0,
+                past: GhostList::new(),
             }),
         }
     }
@@ -106,7 +117,7 @@ impl Board {
         ensures recorded { IfOk result
             (λ inserted. self.new ≡ with_record self.old (entry pass (Call.Insert now alert) (Reply.Inserted inserted))) }
         ensures reply { IfOk result (λ inserted. IsReplyAt self.old (Call.Insert now alert) (Reply.Inserted inserted)) }
-        ensures cause { IsCaused (insert_cause self.old.config (calls_at self.old) (state_at self.old) alert) result }
+        ensures cause { IsCaused (insert_cause self.old.config (records_at self.old) (state_at self.old) alert) result }
         ensures refused { OnErr result (self.new ≡ self.old) }
     {
         let inserted = put_alert(
@@ -143,7 +154,7 @@ impl Board {
         ensures recorded { IfOk result
             (λ silenced. self.new ≡ with_record self.old (entry pass (call_of_silence now silence) (Reply.Silenced silenced))) }
         ensures reply { IfOk result (λ silenced. IsReplyAt self.old (call_of_silence now silence) (Reply.Silenced silenced)) }
-        ensures cause { IsCaused (silence_cause self.old.config (calls_at self.old) (state_at self.old) silence) result }
+        ensures cause { IsCaused (silence_cause self.old.config (records_at self.old) (state_at self.old) silence) result }
         ensures refused { OnErr result (self.new ≡ self.old) }
     {
         put_silence(alloc, &self.config, &mut self.state, pass, now, silence)
@@ -169,7 +180,7 @@ impl Board {
         ensures recorded { IfOk result (λ begun. self.new ≡ with_record self.old (entry pass (Call.Begin now) (reply_of begun))) }
         ensures reply { IfOk result (λ begun. IsReplyAt self.old (Call.Begin now) (reply_of begun)) }
         ensures fresh { IfOk result (IsFresh self.old.id) }
-        ensures cause { let s = state_at self.old in IsCaused (begin_cause self.old.config (calls_at self.old) s (moment s now)) result }
+        ensures cause { let s = state_at self.old in IsCaused (begin_cause self.old.config (records_at self.old) s (moment s now)) result }
         ensures refused { OnErr result (self.new ≡ self.old) }
     {
         let desk = self.id;
@@ -181,6 +192,7 @@ impl Board {
             &self.sources,
             pass,
             now,
+            false,
         )
     }
 
@@ -209,7 +221,7 @@ impl Board {
             ((r : Record) × IsNoteOf pass now ticket.now place r × (self.new ≡ with_record self.old r)
             × IsReplyAt self.old r.call r.reply) }
         ensures cause { IsNoteCaused
-            (note_cause self.old.config self.old.id (calls_at self.old) (state_at self.old) ticket.now place) result }
+            (note_cause self.old.config self.old.id (records_at self.old) (state_at self.old) ticket.now place) result }
         ensures refused { OnErr result (self.new ≡ self.old) }
         ensures foreign { IsErrOf result NoteFault.Foreign ↔ (ticket.now.desk ≢ self.old.id) }
     {
@@ -271,25 +283,10 @@ impl Board {
         ensures recorded { IfOk result
             (λ maintained. self.new ≡ with_record self.old (entry pass (Call.Maintain now) (Reply.Maintained maintained))) }
         ensures reply { IfOk result (λ maintained. IsReplyAt self.old (Call.Maintain now) (Reply.Maintained maintained)) }
-        ensures cause { IsCaused (maintain_cause self.old.config (calls_at self.old) (state_at self.old)) result }
+        ensures cause { IsCaused (maintain_cause self.old.config (records_at self.old) (state_at self.old)) result }
         ensures refused { OnErr result (self.new ≡ self.old) }
     {
         sweep(&self.config, &mut self.state, pass, now)
-    }
-
-    /// Returns the accepted calls with their replies, in order.
-    ///
-    /// Clause `legal`: the history is legal. Clause `looks_back`: looking back from its end finds
-    /// the alerts and rows that `groups` and `rows` return, and the reason of each notification
-    /// (`law::legal_histories_look_back`). Clauses `within`, `limits`: no limit is passed.
-    pub fn history(&self) -> &[Record]
-        ensures history { result.now ≡ self.now.history }
-        ensures legal { IsLegal self.now.config self.now.id self.now.history }
-        ensures looks_back { LooksBack self.now.config self.now.history }
-        ensures within { length self.now.history ≤ self.now.config.limits.history }
-        ensures limits { KeepsLimits self.now }
-    {
-        self.state.history.as_slice()
     }
 
     /// Returns the configuration, which `Config::check` accepts.

@@ -5,8 +5,12 @@
 //! cache. Each name is found once. Then, if no limit is passed, come the copies (`prepare_all`),
 //! and the capacity of the history, the known alerts, the groups and each group (`reserve_insert`).
 //! From the first change on nothing can fail. Groups are added last, and no two routes have one
-//! group, so no place that was found moves, and each group needs capacity for one alert. At the end the names are cached, if memory allows.
-//! `Board::insert` then has a new label set learned by the index of sources, if memory allows.
+//! group, so no place that was found moves, and each group needs capacity for one alert. At the end
+//! the names are cached, if memory allows. `Board::insert` then has a new label set learned by the
+//! index of sources, if memory allows.
+//!
+//! An alert whose label set is known gets the known one (`with_known_labels`), which takes no
+//! memory. Its own goes, so each label set is stored once, however often its alert comes.
 ghost use Rattle.std.specs.Prelude.{◌≡◌, ℕ, ◌+◌, ◌<◌, ◌≤◌, ◌==◌, [], count_by, false, fold, is_none, length, map, position, None, All};
 ghost use Rattle.std.specs.Prelude.{IfSome, IfOk, IfErr, OnOk, MatchResult, vec_len};
 ghost use Rattle.am_alerts.specs.RoutingTree.{RoutingTree, last_of, routes_of};
@@ -16,7 +20,7 @@ ghost use Rattle.am_model.specs.Causes.{insert_cause, is_full, is_name_too_many}
 ghost use Rattle.am_model.specs.Records.{entry};
 ghost use Rattle.am_model.specs.Insert.{same_alert, put_into_group, names_for, after_insert};
 ghost use Rattle.am_board.specs.Refinement.{state_of, member_state, group_state};
-ghost use Rattle.am_board.specs.Step.{StateInvariant, AppliesCall, LeavesUnchanged, IsAnswer};
+ghost use Rattle.am_board.specs.Step.{MAX_CALLS, StateInvariant, AppliesCall, LeavesUnchanged, IsAnswer};
 ghost use Rattle.std.specs.List.{IsDistinct};
 ghost use Rattle.am_board.specs.Inserting.{IsFound, AreFound, AreApart, place_in, target_of};
 ghost use Rattle.am_board.specs.Inserting.{IsReservedState, IsReadyFor, IsEmptyWithRoom, HaveRoom};
@@ -31,6 +35,7 @@ use crate::destinations::GroupNameCache;
 use crate::fault::Fault;
 use crate::group::{Group, GroupName, Member};
 use crate::groups::Groups;
+use crate::known::Known;
 use crate::members::Members;
 use crate::record::{Call, Inserted, Record, Reply};
 use crate::state::State;
@@ -100,11 +105,29 @@ pub(crate) fn put_alert(
     let names = new_names(alloc, kept, targets.as_slice());
     let number = place.unwrap_or(state.known.len());
     let found = Found { place, targets };
+    let alert = with_known_labels(alloc, &state.known, place, alert);
     let inserted = put_found(alloc, config, state, found, pass, now, alert);
     if inserted.is_ok() {
         destinations.keep(number, names);
     }
     inserted
+}
+
+/// Returns the alert with the label set of the known alert at a place, if there is one.
+///
+/// The two label sets are equal. So the record and all copies of the alert share one in memory.
+fn with_known_labels(alloc: Global, known: &Known, place: Option<usize>, alert: Alert) -> Alert
+    requires place { place ≡ position (same_alert alert) known.now.items }
+    requires within { IfSome place (λ i. i < length known.now.items) }
+    ensures { result ≡ alert }
+{
+    let Some(i) = place else {
+        return alert;
+    };
+    let Ok(labels) = known.at(i).labels().copy(alloc) else {
+        return alert;
+    };
+    Alert::new(labels, alert.starts(), alert.ends()).unwrap_or(alert)
 }
 
 /// Adds an alert to the known ones and to the groups that were found for it.
@@ -181,7 +204,7 @@ fn put_prepared(
     requires labels { labels ≡ alert.labels }
     requires place { known ≡ position (same_alert alert) state.old.known.items }
     requires within { IfSome known (λ i. i < length state.old.known.items) }
-    requires inserts { state.old.inserts ≤ vec_len state.old.history }
+    requires inserts { state.old.inserts ≤ MAX_CALLS }
     requires ready { IsReadyFor state.old placements.items }
     requires empty { All IsEmptyWithRoom placements.items }
     requires found { AreFound state.old.groups.items placements.items }

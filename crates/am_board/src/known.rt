@@ -3,7 +3,7 @@
 //! removes an alert.
 //!
 //! Invariant: each alert is under its labels.
-ghost use Rattle.std.specs.Prelude.{◌≡◌, ◌<◌, ◌≤◌, [], length, position, IfSome, OnOk};
+ghost use Rattle.std.specs.Prelude.{◌≡◌, ◌<◌, ◌≤◌, [], length, position, slice_index_or, IfSome, OnOk};
 ghost use Rattle.am_alerts.specs.Labels.{same_label_set};
 ghost use Rattle.am_model.specs.Insert.{same_alert};
 ghost use Rattle.am_model.specs.Lists.{upsert};
@@ -55,6 +55,14 @@ impl Known {
         ensures value { result.now ≡ self.now.items }
     {
         self.alerts.values().as_slice()
+    }
+
+    /// The alert at a place.
+    pub(crate) fn at(&self, i: usize) -> &Alert
+        requires { i < length self.now.items }
+        ensures { result.now ≡ slice_index_or self.now.items i result.now }
+    {
+        &self.as_slice()[i]
     }
 
     /// The place of the alert with these labels.

@@ -4,7 +4,8 @@
 //! The definitions are those of `am_model`; this crate has none of its own of what a call replies.
 //! Its modules:
 //!
-//! - `board`, `ticket`, `preview`, `views`, `fault`: the public calls and types.
+//! - `board`, `history`, `ticket`, `preview`, `previewed`, `views`, `fault`: the public calls and
+//!   types.
 //! - `state`, `known`, `groups`, `group`, `members`, `flush`: the stored state. Contracts see the
 //!   tables as plain lists in the order of arrival, with their capacity.
 //! - `due`, `order`, `destinations`: indexes and caches, which only save time. No contract above
@@ -15,9 +16,9 @@
 //! Each module of a call has one function over the plain state with the exact contract. It relies
 //! on `StateInvariant` and ensures `AppliesCall` or `LeavesUnchanged` (specs/Step.antt). The
 //! board's method hands its fields over. `state_of` (specs/Refinement.antt) reads the stored state
-//! as a state of `am_model`. `IsSound` (specs/Board.antt) is the board's invariant: the history is
-//! legal, and the stored state agrees with its replay. proofs/lemmas/invariant carries it over each
-//! call.
+//! as a state of `am_model`. `IsSound` (specs/Board.antt) is the board's invariant: the whole
+//! history is legal, and the stored state agrees with its replay. proofs/lemmas/invariant carries it
+//! over each call.
 #![tactic(auto)]
 
 pub mod begin;
@@ -30,6 +31,7 @@ mod finish;
 mod flush;
 pub mod group;
 mod groups;
+pub mod history;
 mod insert;
 mod known;
 mod maintain;
@@ -39,6 +41,7 @@ mod order;
 pub mod own_ticket;
 mod plan;
 pub mod preview;
+pub mod previewed;
 mod silence;
 mod state;
 pub mod ticket;

@@ -27,7 +27,7 @@ pub(crate) struct State {
     pub(crate) flushes: Vec<OpenFlush>,
     /// The number of the next flush.
     pub(crate) next_number: u64,
-    /// The accepted calls. It has capacity for the finish of each open flush.
+    /// The accepted calls that weren't handed out. It has capacity for the finish of each open flush.
     pub(crate) history: Vec<Record>,
 }
 

@@ -1,5 +1,5 @@
 //! What a board has, as values that callers can read and compare: counts, log rows and groups.
-ghost use Rattle.std.specs.Prelude.{◌≡◌, ◌*◌, ◌≤◌, ◌++◌, [], ◌∷◌, All, IfOk, OnOk, length, map, sum_by, vec_len};
+ghost use Rattle.std.specs.Prelude.{◌≡◌, ◌+◌, ◌*◌, ◌≤◌, ◌++◌, [], ◌∷◌, All, IfOk, OnOk, length, map, sum_by, vec_len};
 ghost use Rattle.std.specs.List.{IsDistinct};
 ghost use Rattle.std.specs.Option.{option_copied};
 ghost use Rattle.am_model.specs.declared.config.TheConstants.{MAX_GROUPS, MAX_FLUSHES, MAX_HISTORY};
@@ -7,6 +7,7 @@ ghost use Rattle.am_board.specs.History.{state_at};
 ghost use Rattle.am_model.specs.Insert.{same_member};
 ghost use Rattle.am_board.specs.Refinement.{state_of, group_state};
 ghost use Rattle.am_board.specs.LogRows.{row_under, log_rows};
+ghost use Rattle.am_board.specs.Step.{MAX_CALLS};
 ghost use Rattle.am_model.specs.Laws.{IsConsistent};
 ghost use Rattle.am_model.specs.Views.{row_views, group_view, group_views, summary, summary_at, summary_data, glance, glance_at};
 
@@ -23,26 +24,30 @@ use std::alloc::{AllocError, Global};
 
 impl Board {
     /// Returns the numbers of calls, groups and open flushes. Never allocates; reads three lengths.
+    ///
+    /// The calls are all that were ever accepted.
     pub fn glance(&self) -> Glance
         ensures glance { result ≡ glance self.now.config self.now.history }
-        ensures within { (result.calls ≤ self.now.config.limits.history)
+        ensures within { (result.calls ≤ length self.now.handed + self.now.config.limits.history)
             × (result.groups ≤ self.now.config.limits.groups)
             × (result.flushes ≤ self.now.config.limits.flushes) }
-        ensures bounds { (result.calls ≤ MAX_HISTORY) × (result.groups ≤ MAX_GROUPS) × (result.flushes ≤ MAX_FLUSHES) }
+        ensures bounds { (result.calls ≤ length self.now.handed + MAX_HISTORY)
+            × (result.groups ≤ MAX_GROUPS)
+            × (result.flushes ≤ MAX_FLUSHES) }
     {
-        glance_of(&self.state)
+        glance_of(self.handed, &self.state)
     }
 
     /// Returns the numbers of calls, groups, alerts, open flushes and log rows. Never allocates.
     ///
-    /// Cost: the groups and the log's keys.
+    /// The calls are all that were ever accepted. Cost: the groups and the log's keys.
     pub fn summary(&self) -> Summary
         ensures summary { summary_data result ≡ summary self.now.config self.now.history }
-        ensures within { (result.calls ≤ self.now.config.limits.history)
+        ensures within { (result.calls ≤ length self.now.handed + self.now.config.limits.history)
             × (result.groups ≤ self.now.config.limits.groups)
             × (result.flushes ≤ self.now.config.limits.flushes) }
     {
-        summary_of(&self.state)
+        summary_of(self.handed, &self.state)
     }
 
     /// Returns copies of the log's rows, by route position, group labels and integration.
@@ -61,25 +66,28 @@ impl Board {
     }
 }
 
-/// How much there is in a state, without alerts and rows.
-fn glance_of(state: &State) -> Glance
-    ensures { result ≡ glance_at (vec_len state.now.history) (state_of state.now) }
+/// How much there is in a state, without alerts and rows, after so many records that were handed
+/// out.
+fn glance_of(handed: usize, state: &State) -> Glance
+    requires { handed + vec_len state.now.history ≤ MAX_CALLS }
+    ensures { result ≡ glance_at (handed + vec_len state.now.history) (state_of state.now) }
 {
     Glance {
-        calls: state.history.len(),
+        calls: handed + state.history.len(),
         groups: state.groups.len(),
         flushes: state.flushes.len(),
     }
 }
 
-/// How much there is in a state.
-fn summary_of(state: &State) -> Summary
+/// How much there is in a state, after so many records that were handed out.
+fn summary_of(handed: usize, state: &State) -> Summary
+    requires calls { handed + vec_len state.now.history ≤ MAX_CALLS }
     requires alerts { sum_by (λ g. length g.members) (state_of state.now).groups ≤ 1_024 * state.now.inserts }
-    requires inserts { state.now.inserts ≤ MAX_HISTORY }
-    ensures { summary_data result ≡ summary_at (vec_len state.now.history) (state_of state.now) }
+    requires inserts { state.now.inserts ≤ MAX_CALLS }
+    ensures { summary_data result ≡ summary_at (handed + vec_len state.now.history) (state_of state.now) }
 {
     Summary {
-        calls: state.history.len(),
+        calls: handed + state.history.len(),
         groups: state.groups.len(),
         alerts: count_alerts(state.groups.as_slice()),
         flushes: state.flushes.len(),

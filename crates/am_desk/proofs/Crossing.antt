@@ -27,6 +27,7 @@ use Rattle.am_board.proofs.destinations.GroupNameCache.TheSendSync as destinatio
 use Rattle.am_board.proofs.known.Known.TheSendSync as known
 use Rattle.am_board.proofs.groups.Groups.TheSendSync as groups
 use Rattle.am_board.proofs.flush.OpenFlush.TheSendSync as flush
+use Rattle.am_ghost.proofs.ghost_list.GhostList.TheSendSync as trail
 use Rattle.am_model.proofs.record.Record.TheSendSync as line
 use Rattle.am_model.proofs.group.GroupName.TheSendSync as name
 use Rattle.am_alerts.proofs.labels.Labels.TheSendSync as labels
@@ -156,10 +157,10 @@ pub state_sync : IsSync state_row.the_row
 state_sync = search (every, known.the_sync, groups.the_sync, silences_sync, log.the_sync, name.the_sync, labels.the_sync, labels.the_send, flush.the_sync, line.the_sync) depth 40 fits 10000
 
 pub board_send : IsSend board_row.the_row
-board_send = search (every, config_send, state_send, sources.the_send, destinations.the_send) depth 40 fits 10000
+board_send = search (every, config_send, state_send, sources.the_send, destinations.the_send, trail.the_send, line.the_send) depth 40 fits 10000
 
 pub board_sync : IsSync board_row.the_row
-board_sync = search (every, config_sync, state_sync, sources.the_sync, destinations.the_sync) depth 40 fits 10000
+board_sync = search (every, config_sync, state_sync, sources.the_sync, destinations.the_sync, trail.the_sync, line.the_sync) depth 40 fits 10000
 
 -- what a search needs to see that a desk may cross threads
 pub ruleset crossing = (every, board_send, board_sync, table.the_send, table.the_sync, seat.the_send)

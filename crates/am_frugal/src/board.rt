@@ -57,6 +57,7 @@ impl Desk {
         self.insert_two(probe, alloc, Some(40_000))?;
         self.flush(probe, alloc, 330_000)?;
         look(probe, &self.board);
+        self.take(probe, alloc);
         self.insert_two(probe, alloc, None)?;
         self.flush_elsewhere(probe, alloc, 630_000)
     }
@@ -77,6 +78,15 @@ impl Desk {
         probe.ask("with memory: Board::insert");
         let inserted = self.board.insert(alloc, PASS, 0, alert);
         probe.tell(&inserted);
+    }
+
+    /// Hands the records out while no flush is open.
+    fn take(&mut self, probe: &Probe, alloc: Global) {
+        probe.ask("Board::take_history, without an open flush");
+        match self.board.take_history(alloc) {
+            Ok(records) => probe.tell(&records.len()),
+            Err(fault) => probe.tell(&fault),
+        }
     }
 
     /// Begins a flush, sends its notices and finishes it.

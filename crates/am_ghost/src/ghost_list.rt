@@ -1,7 +1,8 @@
 //! A list that exists in proofs alone. `AttemptTrace` and `IoTrace` are made of it.
 //!
 //! It has no data at run time, so no body of its calls can be wrong. That it can go to another
-//! thread is an `unsafe impl` here, with its proof, so whoever keeps one needs no lemma for it.
+//! thread, and be shared by threads, are `unsafe impl`s here, with their proofs, so whoever keeps
+//! one needs no lemma for it.
 ghost use Rattle.std.specs.Prelude.{◌≡◌, List, [], ◌∷◌, ◌++◌};
 ghost use base.Fml.{ftrue};
 
@@ -20,6 +21,9 @@ impl<T> Model for GhostList<T> {
 
 // It owns nothing.
 unsafe impl<T: Send> Send for GhostList<T> {}
+
+// A `&` to it reads nothing.
+unsafe impl<T: Sync> Sync for GhostList<T> {}
 
 impl<T> GhostList<T> {
     /// The trail of nothing.

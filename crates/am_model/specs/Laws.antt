@@ -29,6 +29,11 @@ LegalAppends =
     (config : Config) (id : ℕ) (history : List Record) (r : Record)
     → IsLegal config id (history ++ r ∷ []) ↔ (IsLegal config id history × (reply config id (replay config history) r.call ≡ Some r.reply))
 
+-- a beginning of a legal history is legal
+abbrev pub BeginningsAreLegal : Type 0
+BeginningsAreLegal =
+    (config : Config) (id : ℕ) (beginning rest : List Record) → IsLegal config id (beginning ++ rest) → IsLegal config id beginning
+
 -- moment of a history: the greatest moment that its calls handed in, each at most the greatest there is
 abbrev pub moment_of : List Record → ℕ
 moment_of history = fold (λ t r. max t (min (now_of r.call) MAX_MOMENT)) 0 history

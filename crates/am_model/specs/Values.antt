@@ -3,17 +3,19 @@ use Rattle.std.specs.Prelude.{◌≡◌, [], ◌∷◌}
 use Rattle.am_model.specs.declared.config.ConfigFault.{ConfigFault}
 use Rattle.am_model.specs.declared.config.ConfigFault.TheVariants as config
 use Rattle.am_model.specs.declared.config.TheConstants.{MAX_RECEIVERS, MAX_INTEGRATIONS, MAX_RULES}
-use Rattle.am_model.specs.declared.config.TheConstants.{MAX_NAMES, MAX_GROUPS, MAX_SILENCES, MAX_FLUSHES, MAX_HISTORY}
+use Rattle.am_model.specs.declared.config.TheConstants.{MAX_NAMES, MAX_GROUPS, MAX_SILENCES, MAX_FLUSHES, MAX_HISTORY, MAX_HANDED}
 use Rattle.am_model.specs.declared.fault.BoardFault.TheVariants as board
 use Rattle.am_model.specs.declared.fault.Fault.TheVariants as call
 use Rattle.am_model.specs.declared.fault.NoteFault.TheVariants as note
 use Rattle.am_model.specs.declared.fault.ReportFault.TheVariants as report
-use Rattle.am_model.specs.declared.law.TheConstants.{CALL_FAULTS, NOTE_FAULTS, CONFIG_FAULTS, REPORT_FAULTS}
+use Rattle.am_model.specs.declared.fault.TakeFault.TheVariants as taking
+use Rattle.am_model.specs.declared.law.TheConstants.{CALL_FAULTS, NOTE_FAULTS, CONFIG_FAULTS, TAKE_FAULTS, REPORT_FAULTS}
 use Rattle.am_model.specs.declared.notice.TheConstants.{MIN_FLUSH_TIMEOUT, MAX_DEADLINE}
 use Rattle.am_model.specs.Config.{greatest_limits}
 use Rattle.am_model.specs.Faults.{board_fault_number}
 
 -- law: 64 receivers of 8 integrations, 256 rules; 65,536 known alerts, 4,096 groups, 1,024 silences, 64 open flushes, 1,048,576 records
+-- that are kept, 10^15 that are handed out
 abbrev pub LimitsAre : Type 0
 LimitsAre =
     (MAX_RECEIVERS ≡ 64)
@@ -24,6 +26,7 @@ LimitsAre =
     × (MAX_SILENCES ≡ 1_024)
     × (MAX_FLUSHES ≡ 64)
     × (MAX_HISTORY ≡ 1_048_576)
+    × (MAX_HANDED ≡ 1_000_000_000_000_000)
 
 -- law: the default of the limits, none of them lowered
 abbrev pub DefaultIs : Type 0
@@ -59,6 +62,10 @@ ConfigFaultsAre =
 abbrev pub BoardFaultsAre : Type 0
 BoardFaultsAre =
     (board_fault_number board.NoMemory ≡ 1) × ((fault : ConfigFault) → board_fault_number (board.BadConfig fault) ≡ 2)
+
+-- law: the numbers of the faults for which a history isn't handed out
+abbrev pub TakeFaultsAre : Type 0
+TakeFaultsAre = TAKE_FAULTS ≡ (taking.NoMemory, 1) ∷ (taking.TooManyCalls, 2) ∷ []
 
 -- law: the numbers of the faults of a report
 abbrev pub ReportFaultsAre : Type 0

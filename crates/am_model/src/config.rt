@@ -43,8 +43,13 @@ pub const MAX_SILENCES: usize = 1_024;
 /// The greatest number of open flushes.
 pub const MAX_FLUSHES: usize = 64;
 
-/// The greatest number of records of a history.
+/// The greatest number of records that a board keeps.
 pub const MAX_HISTORY: usize = 1_048_576;
+
+/// The greatest number of records that a board hands out.
+///
+/// The stamps of inserts and the numbers of flushes grow with the calls of a board's whole life.
+pub const MAX_HANDED: usize = 1_000_000_000_000_000;
 
 /// One way by which a receiver is notified.
 #[derive(Debug, Drop)]

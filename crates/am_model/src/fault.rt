@@ -2,6 +2,7 @@
 ghost use Rattle.std.specs.Prelude.{◌≡◌};
 ghost use Rattle.am_model.specs.declared.fault.Fault.TheVariants as fault;
 ghost use Rattle.am_model.specs.declared.fault.BoardFault.TheVariants as board_fault;
+ghost use Rattle.am_model.specs.declared.fault.TakeFault.TheVariants as take_fault;
 ghost use Rattle.am_model.specs.Faults.{board_fault_number};
 
 use crate::config::ConfigFault;
@@ -71,6 +72,25 @@ pub enum NoteFault {
     NotReady = 9,
     #[error("the integration was noted before")]
     Already = 10,
+}
+
+/// Why a board's history isn't handed out. The board doesn't change.
+///
+/// The order is `TooManyCalls`, `NoMemory`.
+#[derive(Clone, Copy, Debug, PartialEq, Eq, Error)]
+pub enum TakeFault {
+    #[error("out of memory")]
+    NoMemory = 1,
+    #[error("more records would be handed out than may be")]
+    TooManyCalls = 2,
+}
+
+impl From<AllocError> for TakeFault {
+    ghost from_gives = { λ _ e. e ≡ take_fault.NoMemory };
+
+    fn from(_error: AllocError) -> TakeFault {
+        TakeFault::NoMemory
+    }
 }
 
 /// Why a report isn't recorded; checked in the order `Stranger`, `Twice`. The ticket doesn't

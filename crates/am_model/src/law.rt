@@ -1,6 +1,6 @@
 //! The laws of histories, the limits and the faults' numbers, as calls that verifiers read. Each
 //! has an empty body: its `ensures` is the statement.
-ghost use Rattle.am_model.specs.Laws.{ReplayAppends, LegalAppends, ClockIsMoment};
+ghost use Rattle.am_model.specs.Laws.{ReplayAppends, LegalAppends, ClockIsMoment, BeginningsAreLegal};
 ghost use Rattle.am_model.specs.Laws.{ReplaysAreConsistent, ReplaysKnowMembers, LegalKeepsBegins};
 ghost use Rattle.am_model.specs.look_back.Interval.{BeginsKeepTheInterval};
 ghost use Rattle.am_model.specs.look_back.Laws.{EveryLegalHistory, AlertsAreFound, ShownAlertsAreFound, RowsAreFound, ShownRowsAreFound};
@@ -10,10 +10,10 @@ ghost use Rattle.am_model.specs.look_back.Laws.{BeginsNotifyExactlyWhomNeeded, N
 ghost use Rattle.am_model.specs.look_back.Preview.{PreviewsAreFound};
 ghost use Rattle.am_model.specs.look_back.Reasons.{BeginsHaveReasons, ReasonsAreSo, NotYetEnds};
 ghost use Rattle.am_model.specs.Values.{LimitsAre, DefaultIs, TimesAre};
-ghost use Rattle.am_model.specs.Values.{CallFaultsAre, NoteFaultsAre, ConfigFaultsAre, BoardFaultsAre, ReportFaultsAre};
+ghost use Rattle.am_model.specs.Values.{CallFaultsAre, NoteFaultsAre, ConfigFaultsAre, BoardFaultsAre, TakeFaultsAre, ReportFaultsAre};
 
 use crate::config::ConfigFault;
-use crate::fault::{Fault, NoteFault, ReportFault};
+use crate::fault::{Fault, NoteFault, ReportFault, TakeFault};
 
 const CALL_FAULTS: [(Fault, u8); 6] = [
     (Fault::NoMemory, Fault::NoMemory as u8),
@@ -53,6 +53,11 @@ const CONFIG_FAULTS: [(ConfigFault, u8); 8] = [
     (ConfigFault::BadLimit, ConfigFault::BadLimit as u8),
 ];
 
+const TAKE_FAULTS: [(TakeFault, u8); 2] = [
+    (TakeFault::NoMemory, TakeFault::NoMemory as u8),
+    (TakeFault::TooManyCalls, TakeFault::TooManyCalls as u8),
+];
+
 const REPORT_FAULTS: [(ReportFault, u8); 2] = [
     (ReportFault::Stranger, ReportFault::Stranger as u8),
     (ReportFault::Twice, ReportFault::Twice as u8),
@@ -66,6 +71,13 @@ pub fn histories_go_record_by_record()
     ensures replay { ReplayAppends }
     ensures legal { LegalAppends }
     ensures clock { ClockIsMoment }
+{}
+
+/// States that a beginning of a legal history is legal.
+///
+/// What a board handed out is a beginning of its history (`Board::take_history`).
+pub fn beginnings_are_legal()
+    ensures { BeginningsAreLegal }
 {}
 
 /// States what is true after every list of records, legal or not, and after every legal history.
@@ -186,5 +198,6 @@ pub fn fault_numbers_are()
     ensures notes { NoteFaultsAre }
     ensures configs { ConfigFaultsAre }
     ensures boards { BoardFaultsAre }
+    ensures takes { TakeFaultsAre }
     ensures reports { ReportFaultsAre }
 {}

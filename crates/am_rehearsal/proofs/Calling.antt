@@ -2,7 +2,7 @@
 use Rattle.std.proofs.Common.{◌≡◌, ℕ, List, [], ◌∷◌, Option, Some, None, refl, sym, ap, ◌∙◌, subst, inl, inr, ◌⊎◌, if◌then◌else◌}
 use Rattle.std.specs.Prelude.{is_none, slice_get}
 use Rattle.std.specs.Option.{option_map, option_map_or}
-use Rattle.am_board.specs.History.{BoardData, IsFresh, IsReplyAt, calls_at, reply_of, state_at, with_record}
+use Rattle.am_board.specs.History.{BoardData, IsFresh, IsReplyAt, records_at, reply_of, state_at, with_record}
 use Rattle.am_board.specs.Step.{IsAnswer, IsNoteAnswer}
 use Rattle.am_board.specs.declared.begin.Begun.{Begun as Answer}
 use Rattle.am_board.specs.declared.begin.Begun.TheVariants as answer
@@ -44,7 +44,7 @@ uncalled_is old new c none same = same ∙ sym (ap (λ (o : Option Reply). optio
 
 module _ (at : ℕ) (t : TicketData) (place : ℕ) (old new : BoardData) where
   abbrev cause : Option NoteFault
-  cause = note_cause old.config old.id (calls_at old) (state_at old) t place
+  cause = note_cause old.config old.id (records_at old) (state_at old) t place
 
   -- a board with the note of this notice, where this is the cause against it
   abbrev noted_if : Option NoteFault → Option NoticeData → BoardData

@@ -1,5 +1,5 @@
 -- A rehearsal ends: how many steps lead on at most, which falls with each step.
-use Rattle.std.proofs.Common.{◌≡◌, ℕ, suc, ◌+◌, ◌-◌, ◌*◌, ◌<◌, ◌≤◌, Bool, true, false, not, ◌||◌, IsTrue, List, [], ◌∷◌, ◌++◌, length, map, get_or, sum_by, remove, Option, Some, None, refl, sym, ap, ◌∙◌, subst, arith, if◌then◌else◌}
+use Rattle.std.proofs.Common.{◌≡◌, ℕ, suc, ◌+◌, ◌-◌, ◌*◌, ◌<◌, ◌≤◌, Bool, true, false, not, ◌||◌, IsTrue, List, [], ◌∷◌, ◌++◌, drop, length, map, get_or, sum_by, remove, Option, Some, None, refl, sym, ap, ◌∙◌, subst, arith, if◌then◌else◌}
 use Rattle.std.specs.Prelude.{is_none, slice_get, slice_set}
 use Rattle.std.specs.Option.{IsSomeAnd, option_map_or}
 use Rattle.std.proofs.lemmas.Bool.{false≢true}
@@ -8,7 +8,7 @@ use Rattle.std.proofs.lemmas.List.{length-map, length_push}
 use Rattle.std.proofs.lemmas.List.Edits.{length-remove}
 use Rattle.std.proofs.lemmas.List.Sums.{sum_by-remove, sum_by-set, sum_by_push}
 use Rattle.std.proofs.lemmas.Option.{get_or_from_slice_get, slice_get_within}
-use Rattle.am_board.specs.History.{BoardData, calls_at, state_at, with_record}
+use Rattle.am_board.specs.History.{BoardData, records_at, state_at, with_record}
 use Rattle.am_model.proofs.configuration.Faultless.{few_integrations}
 use Rattle.am_model.proofs.configuration.FewAsked.{few_asked}
 use Rattle.am_model.specs.Begin.{asked_of, begun, notice_for, reply_asking, reply_taking, taken}
@@ -29,6 +29,7 @@ use Rattle.am_model.specs.declared.fault.Fault.{Fault}
 use Rattle.am_model.specs.declared.fault.Fault.TheVariants as fault
 use Rattle.am_model.specs.declared.record.Call.{Call}
 use Rattle.am_model.specs.declared.record.Call.TheVariants as call
+use Rattle.am_model.specs.declared.record.Record.{Record}
 use Rattle.am_model.specs.declared.record.Reply.{Reply}
 use Rattle.am_model.specs.declared.record.Reply.TheVariants as reply
 use Rattle.am_mute.specs.Silence.{silence_of}
@@ -63,10 +64,14 @@ in_flight ss = sum_by to_come ss
 abbrev pub weigh : ℕ → ℕ → ℕ → ℕ → ℕ → ℕ
 weigh limit records flight comes goes = 20 * (limit - records) + 2 * flight + comes + goes
 
+-- how many calls a board accepted
+abbrev pub calls_of : BoardData → ℕ
+calls_of b = length b.history
+
 -- how many steps lead on from a scene at most, where a history has at most so many records
 abbrev pub steps_left : ℕ → Scene → ℕ
 steps_left limit c =
-    weigh limit (calls_at c.board) (in_flight c.sendings) (if c.blocked then 0 else 1) (if c.begins then 1 else 0)
+    weigh limit (calls_of c.board) (in_flight c.sendings) (if c.blocked then 0 else 1) (if c.begins then 1 else 0)
 
 -- where no record is lost, and less is in flight
 falls_beside : (limit n m f g b d a e : ℕ) → n ≤ m → 2 * g + d + e < 2 * f + b + a → weigh limit m g d e < weigh limit n f b a
@@ -77,31 +82,31 @@ falls_recorded : (limit n m f g b d a e : ℕ) → n < limit → m ≡ n + 1 →
 falls_recorded limit n m f g b d a e room one less = omega (arith, room, one, less)
 
 -- a call adds a record, or none
-called_grows : (b : BoardData) (c : Call) → calls_at b ≤ calls_at (with_call b c)
+called_grows : (b : BoardData) (c : Call) → calls_of b ≤ calls_of (with_call b c)
 called_grows b c = by (reply_to b.config b.id (state_at b) c)
   where
-    by : (o : Option Reply) → calls_at b ≤ calls_at (option_map_or (λ told. with_record b (entry 0 c told)) o b)
+    by : (o : Option Reply) → calls_of b ≤ calls_of (option_map_or (λ told. with_record b (entry 0 c told)) o b)
     by None = omega arith
     by (Some told) = omega (arith, length_push b.history (entry 0 c told))
 
-noted_grows : (at : ℕ) (t : TicketData) (place : ℕ) (b : BoardData) → calls_at b ≤ calls_at (with_note at t place b)
-noted_grows at t place b = by (is_none (note_cause b.config b.id (calls_at b) (state_at b) t place)) (slice_get t.notices place)
+noted_grows : (at : ℕ) (t : TicketData) (place : ℕ) (b : BoardData) → calls_of b ≤ calls_of (with_note at t place b)
+noted_grows at t place b = by (is_none (note_cause b.config b.id (records_at b) (state_at b) t place)) (slice_get t.notices place)
   where
-    by : (free : Bool) (n : Option NoticeData) → calls_at b ≤ calls_at (if free then option_map_or (λ n. with_call b (note_at at t n)) n b else b)
+    by : (free : Bool) (n : Option NoticeData) → calls_of b ≤ calls_of (if free then option_map_or (λ n. with_call b (note_at at t n)) n b else b)
     by true None = omega arith
     by true (Some n) = called_grows b (note_at at t n)
     by false n = omega arith
 
-ended_grows : (success : Bool) (at : ℕ) (t : TicketData) (place : ℕ) (b : BoardData) → calls_at b ≤ calls_at (if success then with_note at t place b else b)
+ended_grows : (success : Bool) (at : ℕ) (t : TicketData) (place : ℕ) (b : BoardData) → calls_of b ≤ calls_of (if success then with_note at t place b else b)
 ended_grows true at t place b = noted_grows at t place b
 ended_grows false at t place b = omega arith
 
 -- a call that has a reply adds one
-called_adds : (b : BoardData) (c : Call) (told : Reply) → reply_to b.config b.id (state_at b) c ≡ Some told → calls_at (with_call b c) ≡ calls_at b + 1
+called_adds : (b : BoardData) (c : Call) (told : Reply) → reply_to b.config b.id (state_at b) c ≡ Some told → calls_of (with_call b c) ≡ calls_of b + 1
 called_adds b c told is =
-    ap (λ (o : Option Reply). calls_at (option_map_or (λ t. with_record b (entry 0 c t)) o b)) is ∙ length_push b.history (entry 0 c told)
+    ap (λ (o : Option Reply). calls_of (option_map_or (λ t. with_record b (entry 0 c t)) o b)) is ∙ length_push b.history (entry 0 c told)
 
-planned_adds : (b : BoardData) (at : ℕ) (act : Action) → calls_at (with_call b (call_of at act)) ≡ calls_at b + 1
+planned_adds : (b : BoardData) (at : ℕ) (act : Action) → calls_of (with_call b (call_of at act)) ≡ calls_of b + 1
 planned_adds b at (Insert alert) = called_adds b (call.Insert at alert) (reply.Inserted (inserted b.config (state_at b) alert)) refl
 planned_adds b at (Silence silence) =
     called_adds b (call_of_silence at silence) (reply.Silenced (silenced (state_at b) (silence_of silence.id silence.matchers silence.start silence.end))) refl
@@ -116,23 +121,30 @@ unfull true x rest none = absurd (cc)
 unfull false x rest none = refl
 
 module _ (b : BoardData) where
-  abbrev HasRoom : Type 0
-  HasRoom = calls_at b < b.config.limits.history
-
   abbrev is_full_for : ℕ → Bool
-  is_full_for more = is_full b.config (calls_at b) (state_at b) more
+  is_full_for more = is_full b.config (records_at b) (state_at b) more
 
-  action_room : (act : Action) → action_cause b act ≡ None → HasRoom
-  action_room (Insert alert) none =
-      room_of b.config (calls_at b) (state_at b) 1 (omega arith) (unfull (is_full_for 1) fault.HistoryFull _ none)
-  action_room (Silence silence) none =
-      room_of b.config (calls_at b) (state_at b) 1 (omega arith) (unfull (is_full_for 1) fault.HistoryFull _ none)
+  -- a board that handed nothing out keeps all its calls
+  module _ (whole : b.handed ≡ []) where
+    abbrev HasRoom : Type 0
+    HasRoom = calls_of b < b.config.limits.history
 
-  maintain_room : (at : ℕ) → own_cause b at step.Maintenance ≡ None → HasRoom
-  maintain_room at none = room_of b.config (calls_at b) (state_at b) 1 (omega arith) (unfull (is_full_for 1) fault.HistoryFull None none)
+    all_kept : records_at b ≡ calls_of b
+    all_kept = ap (λ (handed : List Record). length (drop (length handed) b.history)) whole
 
-  begin_room : (at : ℕ) → why_not b at ≡ None → HasRoom
-  begin_room at none = room_of b.config (calls_at b) (state_at b) 2 (omega arith) (unfull (is_full_for 2) fault.HistoryFull _ none)
+    has_room : (more : ℕ) → 0 < more → is_full_for more ≡ false → HasRoom
+    has_room more some free =
+        subst (λ (n : ℕ). n < b.config.limits.history) all_kept (room_of b.config (records_at b) (state_at b) more some free)
+
+    action_room : (act : Action) → action_cause b act ≡ None → HasRoom
+    action_room (Insert alert) none = has_room 1 (omega arith) (unfull (is_full_for 1) fault.HistoryFull _ none)
+    action_room (Silence silence) none = has_room 1 (omega arith) (unfull (is_full_for 1) fault.HistoryFull _ none)
+
+    maintain_room : (at : ℕ) → own_cause b at step.Maintenance ≡ None → HasRoom
+    maintain_room at none = has_room 1 (omega arith) (unfull (is_full_for 1) fault.HistoryFull None none)
+
+    begin_room : (at : ℕ) → why_not b at ≡ None → HasRoom
+    begin_room at none = has_room 2 (omega arith) (unfull (is_full_for 2) fault.HistoryFull _ none)
 
 -- how many notices a reply has
 abbrev notices_in : Reply → ℕ
@@ -200,12 +212,12 @@ may_count true false may = omega arith
 may_count false true may = absurd (false≢true may)
 may_count false false may = omega arith
 
-module _ (r : Setting) (c d : Scene) where
+module _ (r : Setting) (c d : Scene) (whole : c.board.handed ≡ []) where
   abbrev limit : ℕ
   limit = c.board.config.limits.history
 
   abbrev records : ℕ
-  records = calls_at c.board
+  records = calls_of c.board
 
   abbrev flight : ℕ
   flight = in_flight c.sendings
@@ -248,12 +260,12 @@ module _ (r : Setting) (c d : Scene) where
   acted [] none done = absurd done
   acted (p ∷ ps) none is =
       falls_to (after_plan c p ps) is
-      (falls_recorded limit records _ flight flight comes comes goes goes (action_room c.board p.act none) (planned_adds c.board p.at p.act) (omega arith))
+      (falls_recorded limit records _ flight flight comes comes goes goes (action_room c.board whole p.act none) (planned_adds c.board p.at p.act) (omega arith))
 
   maintained_falls : (at : ℕ) → own_cause c.board at step.Maintenance ≡ None → IsDone r c at d step.Maintenance → Falls
   maintained_falls at none is =
       falls_to (after_maintenance r c at) is
-      (falls_recorded limit records _ flight flight comes comes goes goes (maintain_room c.board at none)
+      (falls_recorded limit records _ flight flight comes comes goes goes (maintain_room c.board whole at none)
       (called_adds c.board (call.Maintain at) (reply.Maintained (maintained (state_at c.board) (moment (state_at c.board) at))) refl) (omega arith))
 
   module _ (at : ℕ) (few : HaveFewIntegrations c.board.config) where
@@ -261,7 +273,7 @@ module _ (r : Setting) (c d : Scene) where
     told_of = begun c.board.config c.board.id (state_at c.board) (moment (state_at c.board) at)
 
     -- a begin that was accepted
-    replied : (told : Reply) → told_of ≡ told → calls_at c.board < limit → IsReplied r c at d told → Falls
+    replied : (told : Reply) → told_of ≡ told → calls_of c.board < limit → IsReplied r c at d told → Falls
     replied reply.NothingDue told room is =
         falls_to (after_nothing c at) is
         (falls_recorded limit records _ flight flight comes comes goes 0 room (length_push c.board.history (entry 0 (call.Begin at) reply.NothingDue)) (omega arith))
@@ -288,7 +300,7 @@ module _ (r : Setting) (c d : Scene) where
     replied reply.Noted told room is = absurd is
 
     begun_by : (cause : Option Fault) → why_not c.board at ≡ cause → IsTrue (c.begins || not c.blocked) → IsBegun r c at d cause → Falls
-    begun_by None why may is = replied told_of refl (begin_room c.board at why) is
+    begun_by None why may is = replied told_of refl (begin_room c.board whole at why) is
     begun_by (Some fault.TooManyOpen) why may is =
         falls_to (after_too_many c at) is
         (falls_beside limit records records flight flight comes 0 goes 0 (omega arith) (omega (arith, may_count c.begins c.blocked may)))

@@ -3,7 +3,7 @@ use Rattle.std.proofs.Common.{◌≡◌, ◌≢◌, ℕ, ◌+◌, ◌-◌, Bool,
 use Rattle.std.specs.Option.{IsSomeAnd, option_map}
 use Rattle.std.proofs.lemmas.List.{drop_at, length-append}
 use Rattle.std.proofs.lemmas.Option.{none-some, same_Some}
-use Rattle.am_board.specs.History.{BoardData, calls_at, state_at}
+use Rattle.am_board.specs.History.{BoardData, records_at, state_at}
 use Rattle.am_board.specs.Step.{IsAnswer}
 use Rattle.am_model.specs.Begin.{taken}
 use Rattle.am_model.specs.Causes.{is_full, opens_by}
@@ -74,14 +74,14 @@ begin_own full many told other why =
 module _ (b : BoardData) (at : ℕ) (told : Fault) (becomes : PlayFault) (is : becomes ≡ fault_of_call told) where
   pub maintain_hindered : IsAnswer (own_cause b at step.Maintenance) told → IsOwnFault (own_cause b at step.Maintenance) becomes
   maintain_hindered answer =
-      subst (IsOwnFault (own_cause b at step.Maintenance)) (sym is) (maintain_own (is_full b.config (calls_at b) (state_at b) 1) told answer)
+      subst (IsOwnFault (own_cause b at step.Maintenance)) (sym is) (maintain_own (is_full b.config (records_at b) (state_at b) 1) told answer)
 
   pub begin_hindered : (told ≡ TooManyOpen → ⊥) → (told ≡ NoMemory) ⊎ (why_not b at ≡ Some told) → IsOwnFault (own_cause b at step.Begin) becomes
   begin_hindered other why =
       let s : State = state_at b in
       let t : ℕ = moment s at in
       subst (IsOwnFault (own_cause b at step.Begin)) (sym is)
-      (begin_own (is_full b.config (calls_at b) s 2) (nat_le b.config.limits.flushes (length s.flushes) && opens_by b.config s t (taken s t)) told other why)
+      (begin_own (is_full b.config (records_at b) s 2) (nat_le b.config.limits.flushes (length s.flushes) && opens_by b.config s t (taken s t)) told other why)
 
 module _ (count : ℕ) (c : Scene) (n : Next) where
   pub memory_hindered : (fault : PlayFault) → fault ≡ play.NoMemory → IsHindered count c n fault

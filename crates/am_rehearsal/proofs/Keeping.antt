@@ -4,7 +4,7 @@ use Rattle.std.specs.Prelude.{is_none, slice_get}
 use Rattle.std.specs.Option.{IsSomeAnd, option_map_or}
 use Rattle.std.proofs.lemmas.Bool.{le-leb}
 use Rattle.std.proofs.lemmas.List.{append-nil}
-use Rattle.am_board.specs.History.{BoardData, calls_at, state_at, with_record}
+use Rattle.am_board.specs.History.{BoardData, records_at, state_at, with_record}
 use Rattle.am_model.specs.declared.config.Config.{Config}
 use Rattle.am_model.specs.declared.fault.Fault.{Fault}
 use Rattle.am_model.specs.declared.fault.Fault.TheVariants as fault
@@ -51,7 +51,7 @@ called_same b c idle = by (reply_to b.config b.id (state_at b) c)
     by (Some told) = input_trace-same b (with_record b (entry 0 c told)) (entry 0 c told, idle, refl)
 
 noted_same : (at : ℕ) (t : TicketData) (place : ℕ) (b : BoardData) → input_trace (with_note at t place b) ≡ input_trace b
-noted_same at t place b = by (is_none (note_cause b.config b.id (calls_at b) (state_at b) t place)) (slice_get t.notices place)
+noted_same at t place b = by (is_none (note_cause b.config b.id (records_at b) (state_at b) t place)) (slice_get t.notices place)
   where
     by : (free : Bool) (n : Option NoticeData) → input_trace (if free then option_map_or (λ n. with_call b (note_at at t n)) n b else b) ≡ input_trace b
     by true None = refl

@@ -1,5 +1,5 @@
 -- What is told of a board stands over each call.
-use Rattle.std.proofs.Common.{◌≡◌, ℕ, false, List, ◌++◌, length, Option, Result, Ok, Err, sym, ap, ◌∙◌}
+use Rattle.std.proofs.Common.{◌≡◌, ℕ, false, List, [], ◌++◌, length, Option, Result, Ok, Err, sym, ap, ◌∙◌}
 use Rattle.std.proofs.lemmas.List.{append-nil}
 use Rattle.std.specs.Prelude.{IfOk, OnErr}
 use Rattle.am_board.specs.History.{BoardData, with_record}
@@ -11,9 +11,9 @@ use Rattle.am_rehearsal.specs.Previews.{takes_group, preview_where, previews_of}
 use Rattle.am_terms.specs.declared.event.PreviewedBegin.{PreviewedBegin}
 use Rattle.am_rehearsal.proofs.Telling.{previews-more}
 
--- the board has this id, and these are what its begins were to do
+-- the board has this id and handed nothing out, and these are what its begins were to do
 abbrev pub HasPreviews : ℕ → List PreviewedBegin → BoardData → Type 0
-HasPreviews id begins board = (board.id ≡ id) × (begins ≡ previews_of board.config board.history)
+HasPreviews id begins board = (board.id ≡ id) × (board.handed ≡ []) × (begins ≡ previews_of board.config board.history)
 
 -- a record of a call that took no group was added
 abbrev pub IsAside : BoardData → BoardData → Type 0
@@ -24,7 +24,8 @@ module _ (id : ℕ) (begins : List PreviewedBegin) (old new : BoardData) (stands
   stands_aside aside =
       let r : Record = aside.0 in (
         ap (λ (b : BoardData). b.id) aside.2 ∙ stands.0,
-        stands.1
+        ap (λ (b : BoardData). b.handed) aside.2 ∙ stands.1,
+        stands.2
             ∙ (sym (append-nil (previews_of old.config old.history))
             ∙ (ap (λ told_now. previews_of old.config old.history ++ preview_where told_now (length old.history) (preview old.config old.history (now_of r.call))) (sym aside.1)
             ∙ (sym (previews-more old.config old.history r) ∙ sym (ap (λ (b : BoardData). previews_of b.config b.history) aside.2)))),
@@ -33,15 +34,16 @@ module _ (id : ℕ) (begins : List PreviewedBegin) (old new : BoardData) (stands
   -- a call that was accepted added such a record, and one that was refused changed nothing
   pub stands_over : {X E : Type 0} (result : Result X E) → IfOk result (λ _. IsAside old new) → OnErr result (new ≡ old) → HasPreviews id begins new
   stands_over (Ok x) accepted refused = stands_aside accepted
-  stands_over (Err e) accepted refused = (ap (λ (b : BoardData). b.id) refused ∙ stands.0, stands.1 ∙ sym (ap (λ (b : BoardData). previews_of b.config b.history) refused))
+  stands_over (Err e) accepted refused = (ap (λ (b : BoardData). b.id) refused ∙ stands.0, ap (λ (b : BoardData). b.handed) refused ∙ stands.1, stands.2 ∙ sym (ap (λ (b : BoardData). previews_of b.config b.history) refused))
 
   -- a record was told of
   pub stands_told : (r : Record) (is_to_do : Option Preview) → is_to_do ≡ preview old.config old.history (now_of r.call) → new ≡ with_record old r
       → (next : List PreviewedBegin) → next ≡ begins ++ preview_where (takes_group r.reply) (length old.history) is_to_do → HasPreviews id next new
   stands_told r is_to_do is recorded next more = (
     ap (λ (b : BoardData). b.id) recorded ∙ stands.0,
+    ap (λ (b : BoardData). b.handed) recorded ∙ stands.1,
     more
-        ∙ (ap (λ (l : List PreviewedBegin). l ++ preview_where (takes_group r.reply) (length old.history) is_to_do) stands.1
+        ∙ (ap (λ (l : List PreviewedBegin). l ++ preview_where (takes_group r.reply) (length old.history) is_to_do) stands.2
         ∙ (ap (λ o. previews_of old.config old.history ++ preview_where (takes_group r.reply) (length old.history) o) is
         ∙ (sym (previews-more old.config old.history r) ∙ sym (ap (λ (b : BoardData). previews_of b.config b.history) recorded)))),
   )

@@ -19,7 +19,7 @@ use Rattle.am_model.specs.Records.{entry}
 use Rattle.am_model.specs.Replay.{reply as reply_to}
 use Rattle.am_model.specs.State.{moment}
 use Rattle.am_model.specs.Ticket.{TicketData, recorded, report_fault}
-use Rattle.am_board.specs.History.{BoardData, calls_at, state_at, with_record}
+use Rattle.am_board.specs.History.{BoardData, records_at, state_at, with_record}
 use Rattle.am_pool.specs.Sendings.{later, note_at}
 use Rattle.am_pool.specs.declared.courier.Sent.{Sent as SentAttempt}
 use Rattle.am_rehearsal.specs.Answers.{AreEndsOf, answer_of}
@@ -41,7 +41,7 @@ with_call b c = option_map_or (λ told. with_record b (entry 0 c told)) (reply_t
 -- a board after the note of the notice at a place of a ticket, if it takes the note
 abbrev pub with_note : ℕ → TicketData → ℕ → BoardData → BoardData
 with_note at t place b =
-    if is_none (note_cause b.config b.id (calls_at b) (state_at b) t place)
+    if is_none (note_cause b.config b.id (records_at b) (state_at b) t place)
     then option_map_or (λ n. with_call b (note_at at t n)) (slice_get t.notices place) b
     else b
 
@@ -162,7 +162,7 @@ IsDone r c at d (step.Finish position) = IsSomeAnd (slice_get c.sendings positio
 IsDone r c at d step.Plan = IsPlanDone c d c.plans
 IsDone r c at d step.Maintenance = d ≡ after_maintenance r c at
 IsDone r c at d step.Begin =
-    let s = state_at c.board in IsBegun r c at d (begin_cause c.board.config (calls_at c.board) s (moment s at))
+    let s = state_at c.board in IsBegun r c at d (begin_cause c.board.config (records_at c.board) s (moment s at))
 
 -- the step that comes next leads from one scene to another
 unfoldable pub Steps : Setting → Scene → Scene → Type 0

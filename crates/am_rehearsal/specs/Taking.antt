@@ -10,7 +10,7 @@ use Rattle.am_model.specs.Begin.{begun}
 use Rattle.am_model.specs.Causes.{begin_cause}
 use Rattle.am_model.specs.Records.{entry}
 use Rattle.am_model.specs.State.{moment}
-use Rattle.am_board.specs.History.{BoardData, calls_at, state_at, with_record}
+use Rattle.am_board.specs.History.{BoardData, records_at, state_at, with_record}
 use Rattle.am_board.specs.declared.begin.Begun.{Begun as Answer}
 use Rattle.am_board.specs.declared.begin.Begun.TheVariants as answer
 use Rattle.am_rehearsal.specs.EventOrder.{begin_indices}
@@ -33,7 +33,7 @@ begun_where (Some preview) false begin = []
 
 -- why a begin at a time is refused
 abbrev pub why_not : BoardData → ℕ → Option Fault
-why_not b at = let s = state_at b in begin_cause b.config (calls_at b) s (moment s at)
+why_not b at = let s = state_at b in begin_cause b.config (records_at b) s (moment s at)
 
 -- a begin at a time led from a board and events to others, by this reply
 pub record IsBeginBy (old : BoardData) (events : List Event) (at : ℕ) (new : BoardData) (events_since : List Event)

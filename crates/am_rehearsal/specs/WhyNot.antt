@@ -6,7 +6,7 @@ use Rattle.am_model.specs.declared.fault.Fault.{Fault}
 use Rattle.am_model.specs.declared.fault.Fault.TheVariants.{HistoryFull}
 use Rattle.am_model.specs.Causes.{insert_cause, maintain_cause, silence_cause}
 use Rattle.am_model.specs.Config.{config_fault}
-use Rattle.am_board.specs.History.{BoardData, calls_at, state_at}
+use Rattle.am_board.specs.History.{BoardData, records_at, state_at}
 use Rattle.am_rehearsal.specs.Next.{next}
 use Rattle.am_rehearsal.specs.Play.{Reaches}
 use Rattle.am_rehearsal.specs.Scene.{Scene, Setting, opening_scene}
@@ -22,8 +22,8 @@ use Rattle.am_terms.specs.declared.rehearsal.TimedAction.{TimedAction}
 
 -- why a board refuses a planned action, if it does
 abbrev pub action_cause : BoardData → Action → Option Fault
-action_cause b (Insert alert) = insert_cause b.config (calls_at b) (state_at b) alert
-action_cause b (Silence silence) = silence_cause b.config (calls_at b) (state_at b) silence
+action_cause b (Insert alert) = insert_cause b.config (records_at b) (state_at b) alert
+action_cause b (Silence silence) = silence_cause b.config (records_at b) (state_at b) silence
 
 -- why a board refuses the first of these plans, if it does
 abbrev pub plan_cause : BoardData → List TimedAction → Option Fault
@@ -32,7 +32,7 @@ plan_cause b (p ∷ ps) = action_cause b p.act
 
 -- why a board refuses the maintenance or the begin that a step at a time is, if it is one and the board does
 abbrev pub own_cause : BoardData → ℕ → Step → Option Fault
-own_cause b at step.Maintenance = maintain_cause b.config (calls_at b) (state_at b)
+own_cause b at step.Maintenance = maintain_cause b.config (records_at b) (state_at b)
 own_cause b at step.Begin = why_not b at
 own_cause b at step.Plan = None
 own_cause b at (step.Finish position) = None

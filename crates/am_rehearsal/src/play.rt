@@ -10,12 +10,13 @@
 //! soon as it is begun, and their reports wait until the clock comes to their ends. When as many
 //! flushes are open as the limit allows, groups stay due, and no begin is tried until a flush is
 //! finished.
-ghost use Rattle.std.specs.Prelude.{◌≡◌, ◌≢◌, ◌<◌, ◌≤◌, ◌+◌, ◌-◌, ◌++◌, IfErr, IfOk, OnOk, None, Some, if◌then◌else◌};
+ghost use Rattle.std.specs.Prelude.{◌≡◌, ◌≢◌, ◌<◌, ◌≤◌, ◌+◌, ◌-◌, ◌++◌, [], IfErr, IfOk, OnOk, None, Some, if◌then◌else◌};
 ghost use Rattle.std.specs.Prelude.{length, slice_get, vec_len, vec_capacity};
 ghost use Rattle.std.specs.List.{range_with_len};
 ghost use Rattle.std.specs.Option.{IsSomeAnd};
 ghost use Rattle.am_alerts.specs.declared.limits.TheConstants.{MAX_MOMENT};
 ghost use Rattle.am_model.specs.Config.{config_fault};
+ghost use Rattle.am_model.specs.Replay.{IsLegal};
 ghost use Rattle.am_rehearsal.specs.Courses.{scene_in, setting_in, IsAllowed, IsHindered, IsOwnFault, IsPlanFault, IsStopped};
 ghost use Rattle.am_rehearsal.specs.EventOrder.{begin_indices};
 ghost use Rattle.am_rehearsal.specs.Faults.{fault_of_call};
@@ -40,6 +41,7 @@ use am_board::config::Config;
 use am_board::fault::{BoardFault, Fault};
 use am_board::notice::Report;
 use am_board::own_ticket::OwnTicket;
+use am_board::record::Record;
 use am_retry::Outcome;
 use am_terms::event::{Event, PreviewedBegin};
 use am_terms::rehearsal::{Outage, Rehearsal, TimedAction};
@@ -48,12 +50,24 @@ use std::alloc::{AllocError, Global};
 use std::collections::VecDeque;
 use std::marker::Brand;
 
-/// A rehearsal that ran to its end: its board, the previews of its begins, and its events in order.
+/// A rehearsal that ran to its end: its board, which keeps its whole history, the previews of its
+/// begins, and its events in order.
 #[derive(Drop)]
 pub struct Played {
     pub board: Board,
     pub begins: Vec<PreviewedBegin>,
     pub events: Vec<Event>,
+    ghost whole: { board.handed ≡ [] },
+}
+
+impl Played {
+    /// Returns all records of the board: the accepted calls with their replies, in order.
+    pub fn history(&self) -> &[Record]
+        ensures history { result.now ≡ self.now.board.history }
+        ensures legal { IsLegal self.now.board.config self.now.board.id self.now.board.history }
+    {
+        self.board.history()
+    }
 }
 
 /// Why a rehearsal doesn't run to its end.

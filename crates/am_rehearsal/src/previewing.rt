@@ -1,12 +1,12 @@
 //! A board that keeps what each of its begins was to do, and what happened. `play` calls it.
 //!
-//! `PreviewingBoard` asks for the preview before it begins. By its invariant the previews are those
+//! `PreviewingBoard` begins with a preview. By its invariant the previews are those
 //! that the definitions give for its history (`Previews`). Each of these begins is once among the
-//! events, in order (`EventOrder`).
+//! events, in order (`EventOrder`). Its board hands nothing out, so it keeps its whole history.
 ghost use Rattle.std.specs.Prelude.{◌≡◌, ◌≤◌, ◌+◌, ◌++◌, ◌∷◌, ◌⊎◌, [], Some, None, IfOk, IfErr, OnOk, OnErr, length, vec_len, vec_capacity};
 ghost use Rattle.std.specs.List.{range_with_len};
 ghost use Rattle.std.specs.Option.{option_map};
-ghost use Rattle.am_board.specs.History.{calls_at, opening, reply_of, state_at, IsFresh};
+ghost use Rattle.am_board.specs.History.{records_at, opening, reply_of, state_at, IsFresh};
 ghost use Rattle.am_board.specs.Step.{IsCaused};
 ghost use Rattle.am_model.specs.Begin.{next_due};
 ghost use Rattle.am_model.specs.Causes.{insert_cause, maintain_cause, silence_cause};
@@ -47,6 +47,7 @@ pub(crate) struct PreviewingBoard {
     begins: Vec<PreviewedBegin>,
     events: Vec<Event>,
     ghost ours: { board.id ≡ BOARD_ID },
+    ghost whole: { board.handed ≡ [] },
     ghost previews: { begins.items ≡ previews_of board.config board.history },
     ghost begun: { begin_indices events.items ≡ range_with_len 0 (vec_len begins) },
 }
@@ -72,6 +73,7 @@ impl PreviewingBoard {
     pub(crate) fn into_parts(self) -> (Board, Vec<PreviewedBegin>, Vec<Event>)
         ensures board { result.0 ≡ self.board }
         ensures ours { result.0.id ≡ BOARD_ID }
+        ensures whole { result.0.handed ≡ [] }
         ensures previews { result.1.items ≡ previews_of result.0.config result.0.history }
         ensures begun { begin_indices result.2.items ≡ range_with_len 0 (vec_len result.1) }
         ensures events { result.2.items ≡ self.events.items }
@@ -122,7 +124,7 @@ impl PreviewingBoard {
         ensures called { IfOk result (λ _. self.new.board ≡ with_call self.old.board (call.Insert now alert)) }
         ensures events { self.new.events ≡ self.old.events }
         ensures cause { IsCaused
-            (insert_cause self.old.board.config (calls_at self.old.board) (state_at self.old.board) alert) result }
+            (insert_cause self.old.board.config (records_at self.old.board) (state_at self.old.board) alert) result }
     {
         let _inserted = self.board.insert(alloc, PASS, now, alert)?;
         Ok(())
@@ -134,7 +136,7 @@ impl PreviewingBoard {
         ensures called { IfOk result (λ _. self.new.board ≡ with_call self.old.board (call_of_silence now silence)) }
         ensures events { self.new.events ≡ self.old.events }
         ensures cause { IsCaused
-            (silence_cause self.old.board.config (calls_at self.old.board) (state_at self.old.board) silence) result }
+            (silence_cause self.old.board.config (records_at self.old.board) (state_at self.old.board) silence) result }
     {
         let _silenced = self.board.silence(alloc, PASS, now, silence)?;
         Ok(())
@@ -145,7 +147,7 @@ impl PreviewingBoard {
         ensures called { IfOk result (λ _. self.new.board ≡ with_call self.old.board (call.Maintain now)) }
         ensures events { self.new.events ≡ self.old.events }
         ensures cause { IsCaused
-            (maintain_cause self.old.board.config (calls_at self.old.board) (state_at self.old.board)) result }
+            (maintain_cause self.old.board.config (records_at self.old.board) (state_at self.old.board)) result }
     {
         let _maintained = self.board.maintain(alloc, PASS, now)?;
         Ok(())
@@ -205,11 +207,11 @@ impl PreviewingBoard {
         self.begins.reserve(1)?;
         self.events.reserve(1)?;
         let place = self.board.history().len();
-        let preview = self.board.preview(alloc, now)?;
-        let begun = match self.board.begin(alloc, PASS, now) {
-            Ok(begun) => begun,
+        let both = match self.board.begin_previewed(alloc, PASS, now) {
+            Ok(both) => both,
             Err(fault) => return Err(fault),
         };
+        let (begun, preview) = both;
         tell(&mut self.begins, &mut self.events, place, preview, &begun);
         Ok(own(begun))
     }

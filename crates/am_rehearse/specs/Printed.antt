@@ -21,6 +21,7 @@ use Rattle.am_terms.specs.declared.expectation.Expectation.{Expectation}
 use Rattle.am_terms.specs.UtcDates.{StartData}
 use Rattle.am_judge.specs.Expectation.{is_met}
 use Rattle.am_judge.specs.ExpectationReport.{expectations_text}
+use Rattle.am_timeline.specs.Json.{json_text}
 use Rattle.am_timeline.specs.Notices.{notices_text}
 use Rattle.am_timeline.specs.Playback.{PlaybackData}
 use Rattle.am_timeline.specs.Runs.{short_timeline_text}
@@ -48,16 +49,16 @@ abbrev pub selected : Wanted → PlaybackData → TimeFormatData → PlaybackDat
 selected wanted playback times =
     if wanted.changes then changed (filtered playback wanted.filter) times else filtered playback wanted.filter
 
--- the text is this output of a playback: the short timeline or the full one with what is below it, or the notices alone, with those that
--- failed or without. The lines are those of the rehearsal that is shown, and what is below them is that of the whole one. Of the JSON and
--- the page nothing is said
+-- the text is this output of a playback: the short timeline or the full one with what is below it, the notices alone, with those that
+-- failed or without, or the lines as JSON. The lines are those of the rehearsal that is shown, and what is below them is that of the whole
+-- one. Of the page nothing is said
 abbrev pub IsPrinted : Output → PlaybackData → PlaybackData → TimeFormatData → List Expectation → List ℕ → Type 0
 IsPrinted Timeline shown playback times expectations text =
     text ≡ short_timeline_text shown times ++ summary playback times expectations
 IsPrinted Full shown playback times expectations text = text ≡ timeline_text shown times ++ summary playback times expectations
 IsPrinted Notices shown playback times expectations text = text ≡ notices_text true shown times
 IsPrinted Delivered shown playback times expectations text = text ≡ notices_text false shown times
-IsPrinted Json shown playback times expectations text = Unit {0}
+IsPrinted Json shown playback times expectations text = text ≡ json_text shown times
 IsPrinted Html shown playback times expectations text = Unit {0}
 
 -- the playback of a board, with these events and these begins

@@ -326,7 +326,7 @@ pub(crate) fn logbook_of(alloc: Global, played: &Played) -> Result<Logbook<'_>, 
     Logbook::new(
         alloc,
         played.board.config(),
-        played.board.history(),
+        played.history(),
         played.begins.as_slice(),
     )
 }
@@ -421,7 +421,8 @@ fn are_met(
     Ok(true)
 }
 
-/// The output of a rehearsal that is asked for, of which this is the playback, with the lines of the one that is shown.
+/// The output of a rehearsal that is asked for, of which this is the playback, with the lines of the one that is shown. Of a page
+/// nothing is said.
 fn printed<C: TimeFormat>(
     alloc: Global,
     shown: &Playback<'_>,

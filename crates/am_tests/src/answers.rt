@@ -72,7 +72,8 @@ fn push_of_flush(
         Answer::Rows => push_rows(text, alloc, stage.board()),
         Answer::Groups => push_groups(text, alloc, stage.board()),
         Answer::Summary => push_summary(text, &stage.board().summary()),
-        _ => push_history(text, stage.board().history()),
+        Answer::Taken => push_records(text, "taken", stage.taken()),
+        _ => push_records(text, "history", stage.board().history()),
     }
 }
 
@@ -269,10 +270,10 @@ fn push_summary(text: &mut String, s: &Summary) -> Result<(), AllocError> {
     )
 }
 
-/// The calls of a history, by name.
-fn push_history(text: &mut String, history: &[Record]) -> Result<(), AllocError> {
-    text.push_str("history")?;
-    for record in history {
+/// A word, and the calls of records, by name.
+fn push_records(text: &mut String, word: &str, records: &[Record]) -> Result<(), AllocError> {
+    text.push_str(word)?;
+    for record in records {
         text.push_str(match &record.call {
             Call::Insert { .. } => " insert",
             Call::Silence { .. } => " silence",

@@ -6,9 +6,9 @@ use am_alerts::alert::Alert;
 use am_board::begin::Begun;
 use am_board::board::Board;
 use am_board::config::Config;
-use am_board::fault::{BoardFault, Fault, FinishFault, NoteFault, ReportFault};
+use am_board::fault::{BoardFault, Fault, FinishFault, NoteFault, ReportFault, TakeFault};
 use am_board::notice::{Notice, Report};
-use am_board::record::{Finished, Inserted, Maintained, Noted, Silenced};
+use am_board::record::{Finished, Inserted, Maintained, Noted, Record, Silenced};
 use am_board::ticket::Ticket;
 use am_mute::silence::Silence;
 use am_retry::Outcome;
@@ -109,6 +109,11 @@ impl Desk {
         now: u64,
     ) -> Result<Noted, NoteFault> {
         self.board.note(alloc, PASS, &own.ticket, place, now)
+    }
+
+    /// Hands the records out that are kept.
+    pub fn take(&mut self, alloc: Global) -> Result<Vec<Record>, TakeFault> {
+        self.board.take_history(alloc)
     }
 
     /// Finishes the flush of a ticket.

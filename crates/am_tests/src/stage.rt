@@ -7,17 +7,18 @@ use crate::values::{read_alert, read_outcome, read_silence};
 use crate::words::{Trouble, Words};
 use am_board::board::Board;
 use am_board::config::ConfigFault;
-use am_board::fault::{BoardFault, Fault, NoteFault, ReportFault};
-use am_board::record::{Finished, Inserted, Maintained, Silenced};
+use am_board::fault::{BoardFault, Fault, NoteFault, ReportFault, TakeFault};
+use am_board::record::{Finished, Inserted, Maintained, Record, Silenced};
 use std::alloc::Global;
 use std::mem::replace;
 
-/// What a script plays on: the desk, the tickets of its flushes that aren't finished, and the
-/// lines on the configuration of the next desk.
+/// What a script plays on: the desk, the tickets of its flushes that aren't finished, the lines on
+/// the configuration of the next desk, and the records that were handed out last.
 pub struct Stage {
     desk: Desk,
     tickets: Vec<OwnTicket>,
     setup: Vec<String>,
+    taken: Vec<Record>,
 }
 
 /// The answer to a line.
@@ -52,6 +53,7 @@ pub enum Answer {
     Groups,
     Summary,
     History,
+    Taken,
 }
 
 impl Stage {
@@ -65,6 +67,7 @@ impl Stage {
             desk,
             tickets: Vec::new(alloc),
             setup: Vec::new(alloc),
+            taken: Vec::new(alloc),
         })
     }
 
@@ -77,6 +80,11 @@ impl Stage {
     /// desk handed back, which come last.
     pub fn tickets(&self) -> &[OwnTicket] {
         self.tickets.as_slice()
+    }
+
+    /// The records that were handed out last.
+    pub fn taken(&self) -> &[Record] {
+        self.taken.as_slice()
     }
 
     /// Makes the call of a line. Where a request for memory is refused, nothing changes, but for a
@@ -99,6 +107,7 @@ impl Stage {
             "groups" => Ok(Answer::Groups),
             "summary" => Ok(Answer::Summary),
             "history" => Ok(Answer::History),
+            "take" => self.take(alloc),
             "retention" | "limit" | "ungrouped" | "child" | "inhibit" => self.keep(alloc, line),
             _ => Err(Trouble::BadLine),
         }
@@ -181,6 +190,17 @@ impl Stage {
             }
             Err(fault) => Answer::Refused(fault),
         })
+    }
+
+    fn take(&mut self, alloc: Global) -> Result<Answer, Trouble> {
+        match self.desk.take(alloc) {
+            Ok(taken) => {
+                self.taken = taken;
+                Ok(Answer::Taken)
+            }
+            Err(TakeFault::NoMemory) => Ok(Answer::Refused(Fault::NoMemory)),
+            Err(TakeFault::TooManyCalls) => Err(Trouble::BadLine),
+        }
     }
 
     /// `report TICKET INTEGRATION OUTCOME`, and the number of another ticket if the report is of
@@ -286,6 +306,7 @@ impl Stage {
             mut desk,
             tickets,
             setup: _,
+            taken: _,
         } = self;
         finish_all(&mut desk, tickets);
         desk.close();

@@ -1,11 +1,12 @@
 -- Runs of like flushes, by a table of the next flush of each group, and then by one of the last run of each group.
 use Rattle.std.proofs.Common.{◌≡◌, ◌∙◌, ◌<◌, ◌≤◌, ◌==◌, ◌&&◌, ℕ, suc, ◌+◌, Bool, true, false, not, List, [], ◌∷◌, ◌++◌, Option, Some, None, ap, sym, refl, subst, drop, get_or, length, map, reverse, arith, append_assoc, if◌then◌else◌}
 use Rattle.std.specs.Bool.{one_answer}
-use Rattle.std.specs.Option.{option_map_or}
+use Rattle.std.specs.Option.{IfSome, option_map_or}
 use Rattle.std.specs.Str.{bytes_eq}
 use Rattle.std.proofs.lemmas.Bool.{and_parts, and_right, ne_eqb}
 use Rattle.std.proofs.lemmas.Slice.Eq.{bytes_eq-Decides}
 use Rattle.std.proofs.lemmas.List.{drop-map, drop_more, reverse-append}
+use Rattle.std.proofs.lemmas.Option.{slice_get_read}
 use Rattle.am_model.specs.declared.group.GroupName.{GroupName}
 use Rattle.am_model.specs.State.{same_name}
 use Rattle.am_model.proofs.states.Alike.{same_name-is, same_name_equiv}
@@ -14,7 +15,7 @@ use Rattle.am_terms.specs.TimeFormatData.{TimeFormatData}
 use Rattle.am_timeline.specs.Playback.{PlaybackData}
 use Rattle.am_timeline.specs.declared.runs.Fold.{Fold}
 use Rattle.am_timeline.specs.declared.runs.Run.{Run}
-use Rattle.am_timeline.specs.Runs.{FlushData, are_same_lines, flush_by, folds_of, group_of, last_moment, likes, next_of, run_before, run_by, run_of, run_with, runs_of, with_runs}
+use Rattle.am_timeline.specs.Runs.{FlushData, HasLines, are_same_lines, flush_by, folds_of, group_of, kept_next, last_moment, likes, lines_by, next_of, run_before, run_by, run_of, run_with, runs_of, with_runs}
 
 -- what a map has from one place on
 pub drop_map-at : {X Y : Type 0} (f : X → Y) (xs : List X) (i : ℕ) (x : X) → i < length xs → x ≡ get_or xs i x
@@ -94,6 +95,29 @@ next_of-more f later name before held is_before is_held =
     ap (λ (b : Option (List ℕ × Run)). if same_name f.group name then Some (f.lines, run_by f.moment f.lines b) else held) is_before
     ∙ ap (λ (r : Run). if same_name f.group name then Some (f.lines, r) else held) (run_by-is f later)
     ∙ ap (λ (h : Option (List ℕ × Run)). if same_name f.group name then Some (f.lines, run_of f later) else h) is_held
+
+-- what is kept of one more flush, save its place
+pub kept_next-if : (n : Bool) (k : ℕ × (List ℕ × Run)) (held : Option (ℕ × (List ℕ × Run)))
+    → kept_next (if n then Some k else held) ≡ (if n then Some k.1 else kept_next held)
+kept_next-if true k held = refl
+kept_next-if false k held = refl
+
+-- what is kept of the begin at a place has its lines
+pub HasLines-of : (all : Bool) (playback : PlaybackData) (times : TimeFormatData) (place : ℕ) (b : PreviewedBegin) (r : Run)
+    → place < length playback.begins → b ≡ get_or playback.begins place b
+    → HasLines all playback times (place, (lines_by all playback times b, r))
+HasLines-of all playback times place b r inside is =
+    subst (λ (o : Option PreviewedBegin). IfSome o (λ c. lines_by all playback times b ≡ lines_by all playback times c))
+    (sym (slice_get_read playback.begins (length playback.begins) place b refl inside is)) refl
+
+-- a table with one more entry
+pub IfSome-if : {X : Type 0} (P : X → Type 0) (n : Bool) (k : X) (old new : Option X) → new ≡ (if n then Some k else old) → P k → IfSome old P
+    → IfSome new P
+IfSome-if P n k old new is one others = subst (λ o. IfSome o P) (sym is) (by n)
+  where
+    by : (b : Bool) → IfSome (if b then Some k else old) P
+    by true = one
+    by false = others
 
 -- the runs of one more flush, the last one first
 pub reverse-runs_of : (f : FlushData) (later : List FlushData) → reverse (runs_of (f ∷ later)) ≡ reverse (runs_of later) ++ run_of f later ∷ []

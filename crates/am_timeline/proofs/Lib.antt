@@ -4,12 +4,18 @@ pub mod Showing
 pub mod Content
 -- what is escaped of a text from one of its characters on
 pub mod Escaping
+-- members of a JSON object that are put in one after another, and its values without floats
+pub mod Members
+-- what is written of a JSON text from one of its characters on
+pub mod Uncontrolled
 -- a text to which two more are added, one after the other
 pub mod Appended
 -- the worked rows: the definitions, run on them
 pub mod Rows
 -- the first elements of a list, the last of them first
 pub mod Reversed
+-- previews of two flushes that are alike have the same lines
+pub mod Likeness
 -- runs of like flushes, by a table of the next flush of each group
 pub mod Folds
 -- the groups of the alerts that matchers match, found one alert and one route at a time

@@ -10,6 +10,10 @@ pub mod Entries
 pub mod Playback
 -- what happened in a rehearsal, a line for each event
 pub mod Timeline
+-- the timeline as JSON, an object on each line
+pub mod Json
+-- previews of two flushes of which the timeline has the same lines, save for their times
+pub mod Alike
 -- flushes of one group that follow each other, send nothing and have the same lines
 pub mod Runs
 -- the lines of the timeline on notices alone, with those that failed or without

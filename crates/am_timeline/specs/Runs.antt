@@ -1,8 +1,8 @@
 -- Runs: flushes of one group that follow each other, send nothing and have the same lines. The timeline has one line for all of them.
 use Rattle.std.specs.Prelude.{ℕ, ◌+◌, Bool, true, false, not, ◌&&◌, ◌==◌, List, [], ◌∷◌, ◌++◌, length, codes, decimal, map, Option, Some, None}
-use Rattle.std.specs.Prelude.{slice_get, if◌then◌else◌}
+use Rattle.std.specs.Prelude.{◌≡◌, IfSome, slice_get, if◌then◌else◌}
 use Rattle.std.specs.List.{flat_map, list_all}
-use Rattle.std.specs.Option.{option_map_or}
+use Rattle.std.specs.Option.{IsSomeAnd, option_map, option_map_or}
 use Rattle.std.specs.Str.{bytes_eq}
 use Rattle.am_model.specs.declared.group.GroupName.{GroupName}
 use Rattle.am_model.specs.declared.record.Record.{Record}
@@ -139,6 +139,24 @@ run_by moment lines None = record { count = 1; until = moment }
 run_by moment lines (Some next) =
     if are_same_lines lines next.0 then record { count = next.1.count + 1; until = next.1.until }
     else record { count = 1; until = moment }
+
+-- what is kept of a flush at a place: its lines, and its run by those of the next one of its group and its run
+abbrev pub kept_of : ℕ → FlushData → Option (List ℕ × Run) → ℕ × (List ℕ × Run)
+kept_of place f next = (place, (f.lines, run_by f.moment f.lines next))
+
+-- what is kept of the next flush of a group, save its place
+abbrev pub kept_next : Option (ℕ × (List ℕ × Run)) → Option (List ℕ × Run)
+kept_next next = option_map (λ n. n.1) next
+
+-- what is kept has the lines of the begin at its place
+abbrev pub HasLines : Bool → PlaybackData → TimeFormatData → ℕ × (List ℕ × Run) → Type 0
+HasLines all playback times n = IfSome (slice_get playback.begins n.0) (λ b. n.1.0 ≡ lines_by all playback times b)
+
+-- the begin at a place is compared by the same lines as this one
+abbrev pub IsComparedAs : Bool → PlaybackData → PreviewedBegin → ℕ → Type 0
+IsComparedAs all playback begin place =
+    (times : TimeFormatData)
+    → IsSomeAnd (slice_get playback.begins place) (λ b. lines_by all playback times b ≡ lines_by all playback times begin)
 
 -- the run of each of these flushes
 abbrev pub runs_of : List FlushData → List Run

@@ -10,7 +10,7 @@ use std::alloc::{AllocError, Global};
 
 /// Returns the events without the flushes that say the same as the flush before of their group, in their order.
 ///
-/// The end of a sending is always there. Cost: the lines of all begins.
+/// The end of a sending is always there. Cost: the lines of each begin whose preview isn't like the next one of its group.
 pub fn changed_events<C: TimeFormat>(
     alloc: Global,
     playback: &Playback<'_>,

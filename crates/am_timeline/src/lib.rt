@@ -10,6 +10,7 @@
 #![tactic(auto)]
 
 pub mod alerts;
+mod alike;
 mod begun;
 pub mod changed;
 pub mod comparison;

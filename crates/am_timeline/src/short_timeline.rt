@@ -17,7 +17,7 @@ use std::alloc::{AllocError, Global};
 ///
 /// A run is flushes of one group that follow each other, send nothing and have the same lines. Its lines have the time of
 /// its first flush, and at their end how many flushes it has, and the time of its last one. Cost: that of the timeline, and
-/// the lines of all begins.
+/// the lines of each begin whose preview isn't like the next one of its group.
 pub fn short_timeline_text<C: TimeFormat>(
     alloc: Global,
     playback: &Playback,

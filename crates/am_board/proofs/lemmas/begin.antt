@@ -4,6 +4,7 @@ pub mod DueWalk
 pub mod Ends
 pub mod FirstDue
 pub mod Previews
+pub mod QuietPreviews
 pub mod PlannedFlushes
 pub mod ReservedRows
 pub mod Updates

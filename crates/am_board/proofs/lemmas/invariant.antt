@@ -14,3 +14,4 @@ pub mod Order
 pub mod Shown
 pub mod Sound
 pub mod Staying
+pub mod Taking

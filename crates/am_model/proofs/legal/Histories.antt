@@ -13,7 +13,7 @@ use Rattle.am_model.specs.Begin.{taken, asked_of, after_asking, after_taking}
 use Rattle.am_model.specs.Finish.{after_finish_of}
 use Rattle.am_model.specs.Note.{may_note, after_note, after_note_of}
 use Rattle.am_model.specs.Records.{now_of}
-use Rattle.am_model.specs.Laws.{ReplayAppends, LegalAppends, ClockIsMoment}
+use Rattle.am_model.specs.Laws.{ReplayAppends, LegalAppends, ClockIsMoment, BeginningsAreLegal}
 use Rattle.am_model.specs.Replay.{reply, after, after_call, replay_from, IsLegalFrom}
 use Rattle.am_model.specs.State.{GroupState, FlushState, State, opening_state, moment, at_moment, flush_numbered}
 
@@ -34,6 +34,14 @@ legal_whole config id s (q ∷ history) r h = (h.0.0, legal_whole config id (aft
 
 pub legal_appends : LegalAppends
 legal_appends config id history r = (legal_parts config id opening_state history r, legal_whole config id opening_state history r)
+
+-- what comes later doesn't matter
+beginning_legal : (config : Config) (id : ℕ) (s : State) (beginning rest : List Record) → IsLegalFrom config id s (beginning ++ rest) → IsLegalFrom config id s beginning
+beginning_legal config id s [] rest h = tt
+beginning_legal config id s (r ∷ beginning) rest h = (h.0, beginning_legal config id (after config s r) beginning rest h.1)
+
+pub beginnings_are_legal : BeginningsAreLegal
+beginnings_are_legal config id beginning rest h = beginning_legal config id opening_state beginning rest h
 
 -- each begin leaves the clock at its moment
 asking_clock : (config : Config) (s : State) (t : ℕ) (g : GroupState) (asked : List (ℕ × Integration)) → (after_asking config s t g asked).clock ≡ t

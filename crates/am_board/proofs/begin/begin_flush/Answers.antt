@@ -17,7 +17,7 @@ returns c config g good takes some planned =
     let o = c.args.planned in
     let group = c.begin.ensures in
     let begun = begun_kept config c.args.id old c.args.chosen g good takes group.to group.from group.was group.changed in
-    let next : c.saturating_add-state.result ≡ old.next_number + 1 = omega (arith, c.saturating_add-state.ensures, good.numbers, c.in_ok-reserve.ensures.ok, c.in_ok-reserve.ensures.len, c.reserve.new.self.small) in (
+    let next : c.saturating_add-state.result ≡ old.next_number + 1 = omega (arith, c.saturating_add-state.ensures, good.numbers) in (
       accepts_flush config c.args.id old c.args.chosen g good takes group.to o _ some planned begun group.items
           (ap (λ n. record old { clock = c.args.chosen.t; groups = c.begin.new.self; log = c.reserve_rows.new.log; flushes = c.push_reserved.new.self; next_number = n; history = c.push_reserved-2.new.self }) next)
           c.reserve_rows.ensures.rows c.reserve_rows.ensures.known c.in_ok-reserve_rows.ensures.asked

@@ -8,7 +8,7 @@ use Rattle.am_model.specs.Notice.{NoticeData}
 use Rattle.am_model.proofs.configuration.FewAsked.{few_asked}
 use Rattle.am_board.specs.Refinement.{state_of, group_state}
 use Rattle.am_mute.specs.Sources.{AreLearnt}
-use Rattle.am_board.specs.Beginning.{IsPlan, IsChosen, IsEnd, IsPlannedFlush}
+use Rattle.am_board.specs.Beginning.{IsPlan, IsChosen, IsEnd, IsPlannedFlush, IsQuietAt}
 use Rattle.am_board.specs.Step.{StateInvariant, LeavesUnchanged}
 use Rattle.am_board.specs.declared.group.Group.{Group}
 use Rattle.am_board.specs.declared.plan.PlannedFlush.{PlannedFlush}
@@ -46,6 +46,21 @@ returns-in_default c =
     let cause = cause-closed config s c.args.now c.moment-t.result c.moment-t.ensures (c.has_room.ensures.0 c.if-not-has_room.false) (ap (λ o. opens_by config (state_of s) c.moment-t.result o) none) in
     told config c.args.id c.args.pass c.args.now s c.begin_nothing.new.state (begin_cause config (vec_len s.history) (state_of s) (moment (state_of s) c.args.now)) c.begin_nothing.result cause
     (c.begin_nothing.ensures config c.args.id c.requires.good c.moment-t.ensures none)
+
+pub begin_quiet-requires : goal.begin_quiet-requires
+begin_quiet-requires c = c.in-Some.ensures.within
+
+pub returns-then-is_quiet : goal.returns-then-is_quiet
+returns-then-is_quiet c =
+    let config = c.args.config.now in
+    let s = c.args.state.now in
+    let at = (goal.at.returns-then-is_quiet c).After-due_again-due in
+    let g = c.at.result.now in
+    let quiet = subst (λ (n : ℕ). IsQuietAt config (state_of s) n) (sym c.moment-t.ensures) (c.requires.quiet c.if-is_quiet.true) in
+    let none = quiet (group_state g) (takes at).first in
+    let cause = cause-quiet config c.args.id s (chosen at) g (takes at) (c.has_room.ensures.0 c.if-not-has_room.false) none in
+    told config c.args.id c.args.pass c.args.now s c.begin_quiet.new.state (begin_cause config (vec_len s.history) (state_of s) (moment (state_of s) c.args.now)) c.begin_quiet.result cause
+    (c.begin_quiet.ensures config c.args.id g c.requires.good (takes at) none)
 
 pub put_in_order-requires-clause-place : goal.put_in_order-requires-clause-place
 put_in_order-requires-clause-place c = c.in-Some.ensures.within
@@ -87,8 +102,8 @@ opened c takes =
     (subst (Plans c.args.config.now c.args.id (record { pass = c.args.pass; now = c.args.now; t = c.moment-t.result; place = c.in-Some.place; due = c.due_again-due.result }) (Ok c.in_ok-plan.field-0)) c.put_in_order.ensures c.in_ok-plan.ensures)
     c.in-Some-2.is
 
-pub begin_quiet-requires : goal.begin_quiet-requires
-begin_quiet-requires c = subst (λ (x : State). c.in-Some.place < length x.groups.items) (sym c.put_in_order.ensures) c.in-Some.ensures.within
+pub begin_quiet-requires-in-None : goal.begin_quiet-requires-in-None
+begin_quiet-requires-in-None c = subst (λ (x : State). c.in-Some.place < length x.groups.items) (sym c.put_in_order.ensures) c.in-Some.ensures.within
 
 pub begin_flush-requires-clause-place : goal.begin_flush-requires-clause-place
 begin_flush-requires-clause-place c = subst (λ (x : State). c.in-Some.place < length x.groups.items) (sym c.put_in_order.ensures) c.in-Some.ensures.within
@@ -122,9 +137,9 @@ returns-in-None c =
     let g = c.at.result.now in
     let none = planned_none config c.args.id s (chosen at) g (takes at) c.in_ok-plan.field-0 (subst (Plans config c.args.id (chosen at) (Ok c.in_ok-plan.field-0)) same c.in_ok-plan.ensures) c.in-None.is in
     let cause = cause-quiet config c.args.id s (chosen at) g (takes at) (c.has_room.ensures.0 c.if-not-has_room.false) none in
-    let ends = subst (λ (x : State). StateInvariant config x → IsChosen config x (chosen at) g → asked_of config (state_of x) c.moment-t.result (group_state g) ≡ [] → IsEnd config c.args.id c.args.pass c.args.now x c.begin_quiet.new.state c.begin_quiet.result)
-    same (c.begin_quiet.ensures config c.args.id g) in
-    told config c.args.id c.args.pass c.args.now s c.begin_quiet.new.state (begin_cause config (vec_len s.history) (state_of s) (moment (state_of s) c.args.now)) c.begin_quiet.result cause
+    let ends = subst (λ (x : State). StateInvariant config x → IsChosen config x (chosen at) g → asked_of config (state_of x) c.moment-t.result (group_state g) ≡ [] → IsEnd config c.args.id c.args.pass c.args.now x c.begin_quiet-in-None.new.state c.begin_quiet-in-None.result)
+    same (c.begin_quiet-in-None.ensures config c.args.id g) in
+    told config c.args.id c.args.pass c.args.now s c.begin_quiet-in-None.new.state (begin_cause config (vec_len s.history) (state_of s) (moment (state_of s) c.args.now)) c.begin_quiet-in-None.result cause
     (ends c.requires.good (takes at) none)
 
 pub returns-in-Some-2 : goal.returns-in-Some-2

@@ -13,7 +13,7 @@ use Rattle.am_model.specs.Insert.{names_for, same_alert}
 use Rattle.am_model.specs.Lists.{upsert}
 use Rattle.am_model.specs.Records.{entry}
 use Rattle.am_board.specs.GroupNameCache.{AreKept}
-use Rattle.am_model.specs.Causes.{insert_cause}
+use Rattle.am_model.specs.Causes.{insert_cause, is_name_too_many}
 use Rattle.am_board.specs.Refinement.{state_of}
 use Rattle.am_board.specs.Step.{AppliesCall, LeavesUnchanged, IsAnswer}
 use Rattle.am_board.specs.declared.insert.Target.{Target}
@@ -40,6 +40,14 @@ module _ (config : Config) (old new : kept.State) (alert : AlertData) (pass now 
   put_there P Q (Ok told) e h = known_then config 0 pass now alert (reply.Inserted told) old new (h.1 0)
   put_there P Q (Err fault) e h = absurd (cc)
 
+-- the state after the call is that after the insert of an alert, or the call failed with its cause
+abbrev Puts : Config → kept.State → kept.State → ℕ → ℕ → Result Inserted Fault → AlertData → Type 0
+Puts config old new pass now r alert =
+    MatchResult r
+    (λ told. (insert_cause config (vec_len old.history) (state_of old) alert ≡ None)
+    × ((id : ℕ) → AppliesCall config id (entry pass (call.Insert now alert) (reply.Inserted told)) old new))
+    (λ fault. IsAnswer (insert_cause config (vec_len old.history) (state_of old) alert) fault × LeavesUnchanged config old new)
+
 -- the names that were found are those of the alert's groups
 new_are : (config : Config) (alert a : AlertData) (found : List GroupName) (o : Option (List GroupName)) → IfSome o (λ names. names ≡ found) → found ≡ names_for config alert.labels → a ≡ alert → IfSome o (λ names. names ≡ names_for config a.labels)
 new_are config alert a found None are is same = tt
@@ -53,17 +61,26 @@ find_targets-requires c =
 
 pub put_found-inserted-requires : goal.put_found-inserted-requires
 put_found-inserted-requires c =
+    let config : Config = c.args.config.now in
+    let old : kept.State = c.args.state.now in
+    let same = sym c.with_known_labels-alert.ensures in
     record {
       good = c.requires.good;
       found = record {
         room = c.in_ok-place.ensures.room;
-        few = c.in_ok-place.ensures.names;
-        place = c.in_ok-place.ensures.place;
+        few = sym (ap (λ (a : AlertData). is_name_too_many config (state_of old) a) same) ∙ c.in_ok-place.ensures.names;
+        place = c.in_ok-place.ensures.place ∙ ap (λ (a : AlertData). position (same_alert a) old.known.items) same;
         within = c.in_ok-place.ensures.within;
-        names = c.in_ok-targets.ensures.names ∙ ap (names_for c.args.config.now) c.labels-labels.ensures.labels;
+        names = c.in_ok-targets.ensures.names
+            ∙ (ap (names_for config) c.labels-labels.ensures.labels ∙ ap (λ (a : AlertData). names_for config a.labels) same);
         targets = c.in_ok-targets.ensures.found;
       };
     }
+
+pub returns-clause-put : goal.returns-clause-put
+returns-clause-put c =
+    subst (Puts c.args.config.now c.args.state.now c.put_found-inserted.new.state c.args.pass c.args.now c.put_found-inserted.result)
+    c.with_known_labels-alert.ensures c.put_found-inserted.ensures
 
 pub returns-clause-kept : goal.returns-clause-kept
 returns-clause-kept c =
@@ -74,7 +91,8 @@ returns-clause-kept c =
     let cause = insert_cause config (vec_len old.history) (state_of old) alert in
     let P : Inserted → Type 0 = λ told. cause ≡ None in
     let Q : Fault → Type 0 = λ fault. IsAnswer cause fault in
-    let put = c.put_found-inserted.ensures in
+    let put = subst (Puts config old new c.args.pass c.args.now c.put_found-inserted.result)
+    c.with_known_labels-alert.ensures c.put_found-inserted.ensures in
     let are = still config old new alert c.args.pass c.args.now c.args.destinations.now P Q c.put_found-inserted.result put c.requires.kept in
     elim c.if-is_ok.branch [
       | then-is_ok w ↦

@@ -1,29 +1,30 @@
 -- What a board tells of a call that its state accepted or refused.
-use Rattle.std.proofs.Common.{All, ◌≡◌, ℕ, ◌+◌, ◌≤◌, true, false, not, Option, Some, None, Result, Ok, Err, List, length, vec_len, refl, ap, ◌∙◌, subst, arith, Vec, Global, if◌then◌else◌}
+use Rattle.std.proofs.Common.{All, ◌≡◌, ℕ, ◌+◌, ◌≤◌, true, false, not, Option, Some, None, Result, Ok, Err, List, ◌++◌, length, vec_len, refl, sym, ap, ◌∙◌, subst, eq-eqb, arith, Vec, Global, if◌then◌else◌}
 use Rattle.std.specs.Prelude.{◌==◌, IfOk, OnOk, OnErr, MatchResult, slice_get}
 use Rattle.std.proofs.lemmas.List.{length-map}
 use Rattle.std.proofs.lemmas.Bool.Decides.{nat_tests}
 use Rattle.am_board.specs.declared.board.Board.TheInside.{Inside}
 use Rattle.am_model.specs.declared.config.Config.{Config}
 use Rattle.am_model.specs.declared.fault.Fault.{Fault}
+use Rattle.am_model.specs.declared.fault.NoteFault.{NoteFault}
 use Rattle.am_model.specs.declared.fault.NoteFault.TheVariants as note
 use Rattle.am_model.specs.declared.record.Call.{Call}
 use Rattle.am_model.specs.declared.record.Call.TheVariants.{Note}
 use Rattle.am_model.specs.declared.record.Record.{Record}
 use Rattle.am_model.specs.declared.record.Reply.{Reply}
 use Rattle.am_board.specs.declared.state.State as kept
-use Rattle.am_board.specs.Board.{IsSound}
-use Rattle.am_model.specs.Causes.{is_full, asked_cause, notice_cause, flush_cause}
+use Rattle.am_board.specs.Board.{IsSound, whole}
+use Rattle.am_model.specs.Causes.{is_full, asked_cause, notice_cause, flush_cause, note_cause}
 use Rattle.am_model.specs.Notice.{NoticeData}
 use Rattle.am_model.specs.Ticket.{TicketData, outcome_of}
-use Rattle.am_board.specs.History.{BoardData, KeepsLimits, IsReplyAt, with_record, state_at}
+use Rattle.am_board.specs.History.{BoardData, KeepsLimits, IsReplyAt, records_at, with_record, state_at}
 use Rattle.am_model.specs.Records.{IsNoteOf, entry}
 use Rattle.am_board.specs.Refinement.{state_of}
 use Rattle.am_model.specs.Note.{is_ready, asked_by, may_note, with_note, after_note, after_note_of}
 use Rattle.am_model.specs.Replay.{after, after_call, replay}
 use Rattle.am_model.specs.State.{AskedState, FlushState, State, moment, at_moment, flush_numbered}
 use Rattle.am_retry.specs.declared.outcome.Outcome.{Outcome}
-use Rattle.am_board.specs.Step.{AppliesCall, LeavesUnchanged, IsAnswer, IsCaused}
+use Rattle.am_board.specs.Step.{AppliesCall, LeavesUnchanged, IsAnswer, IsCaused, IsNoteAnswer, IsNoteCaused}
 use Rattle.am_model.proofs.legal.FewGroups.{IsInsert}
 use Rattle.am_model.proofs.legal.FewKnown.{IsSilence}
 use Rattle.am_model.specs.Begin.{next_due}
@@ -41,11 +42,15 @@ use Rattle.am_board.specs.LogRows.{log_rows}
 use Rattle.am_model.proofs.legal.RowMoments.{rows-timely}
 use Rattle.am_model.proofs.looking_back.reasons.Previews.{preview-found}
 use Rattle.am_model.proofs.lists.Distinct.{all_from}
-use Rattle.am_board.proofs.lemmas.invariant.Sound.{IsFew, few_after, opened_now, counted, consistent_now, told_at, sound_then, sound_still}
+use Rattle.am_board.proofs.lemmas.invariant.Sound.{IsFew, all_counted, few_after, kept_counted, opened_now, consistent_now, told_at, sound_then, sound_still, whole_more, whole_with}
+
+-- a board as it is seen with this history, of which it handed out what it did
+abbrev pub seen_with : Inside → List Record → BoardData
+seen_with b history = record { config = b.config; id = b.id; handed = b.past.items; history = history }
 
 -- a board as it is seen with another state
-abbrev seen : Inside → kept.State → BoardData
-seen b s = record { config = b.config; id = b.id; history = s.history.items }
+abbrev pub seen : Inside → kept.State → BoardData
+seen b s = seen_with b (whole_with b s)
 
 -- the limits, as a board's invariant has them
 abbrev pub IsWithin : Config → State → kept.State → Type 0
@@ -69,7 +74,7 @@ module _ (b : Inside) (sound : IsSound b) (now : BoardData) (view_is : seen b b.
   pub recorded : (r : Result T E) → MatchResult r P (λ fault. Q fault × LeavesUnchanged b.config b.state new) → IfOk r (λ x. seen b new ≡ with_record now (entry pass call (told x)))
   recorded (Ok x) h =
       subst (λ (d : BoardData). seen b new ≡ with_record d (entry pass call (told x))) view_is
-      (ap (λ (items : List Record). record { config = b.config; id = b.id; history = items }) (accepts x h).history)
+      (ap (seen_with b) (whole_more b new (entry pass call (told x)) (accepts x h).history))
   recorded (Err fault) h = tt
 
   -- it was told what the definitions give
@@ -81,7 +86,7 @@ module _ (b : Inside) (sound : IsSound b) (now : BoardData) (view_is : seen b b.
   -- a refused call changes nothing
   pub refused : (r : Result T E) → MatchResult r P (λ fault. Q fault × LeavesUnchanged b.config b.state new) → OnErr r (seen b new ≡ now)
   refused (Ok x) h = tt
-  refused (Err fault) h = ap (λ (items : List Record). record { config = b.config; id = b.id; history = items }) h.1.history ∙ view_is
+  refused (Err fault) h = ap (λ (items : List Record). seen_with b (b.past.items ++ items)) h.1.history ∙ view_is
 
   -- the board is sound again
   pub sound_again : ((x : T) → P x → IsWithin b.config (after_call b.config (state_of b.state) call) new) → (r : Result T E) → MatchResult r P (λ fault. Q fault × LeavesUnchanged b.config b.state new) → IsSound (record b { state = new })
@@ -99,6 +104,11 @@ caused cause other same P S (Err fault) h = subst (λ c. IsAnswer c fault) same 
 pub caused_too : {T : Type 0} (cause other : Option Fault) → cause ≡ other → (P F : T → Type 0) (S : Type 0) (r : Result T Fault) → MatchResult r (λ x. (cause ≡ None) × P x × F x) (λ fault. IsAnswer cause fault × S) → IsCaused other r
 caused_too cause other same P F S (Ok x) h = subst (λ c. c ≡ None) same h.0
 caused_too cause other same P F S (Err fault) h = subst (λ c. IsAnswer c fault) same h.0
+
+-- the same of a note
+pub note_caused : {T : Type 0} (cause other : Option NoteFault) → cause ≡ other → (P : T → Type 0) (S : Type 0) (r : Result T NoteFault) → MatchResult r (λ x. (cause ≡ None) × P x) (λ fault. IsNoteAnswer cause fault × S) → IsNoteCaused other r
+note_caused cause other same P S (Ok x) h = subst (λ c. c ≡ None) same h.0
+note_caused cause other same P S (Err fault) h = subst (λ c. IsNoteAnswer c fault) same h.0
 
 -- what more is told
 pub fresh_too : {T E : Type 0} (A P F : T → Type 0) (Q : E → Type 0) (r : Result T E) → MatchResult r (λ x. A x × P x × F x) Q → IfOk r F
@@ -150,7 +160,7 @@ module _ (b : Inside) (sound : IsSound b) (now : BoardData) (view_is : seen b b.
       let accepts = h.1.2 b.id in (
         h.1.0,
         h.1.1,
-        subst (λ (d : BoardData). seen b new ≡ with_record d h.1.0) view_is (ap (λ (items : List Record). record { config = b.config; id = b.id; history = items }) accepts.history),
+        subst (λ (d : BoardData). seen b new ≡ with_record d h.1.0) view_is (ap (seen_with b) (whole_more b new h.1.0 accepts.history)),
         subst (λ (d : BoardData). IsReplyAt d h.1.0.call h.1.0.reply) view_is (told_at b sound h.1.0 new accepts),
       )
   noted_now Q (Err fault) h = tt
@@ -175,43 +185,58 @@ module _ (b : Inside) (sound : IsSound b) (now : BoardData) (view_is : seen b b.
       sound_then b sound h.1.0 new accepts limits.0 limits.1 limits.2
   sound_noted Q (Err fault) h = sound_still b sound new h.1
 
+  -- why a note isn't accepted, at the state after the history
+  pub noted_caused : ticket.desk ≡ now.id → flush_cause b.config (vec_len b.state.history) (state_of b.state) ticket place (flush_numbered (state_of b.state).flushes ticket.number) ≡ note_cause now.config now.id (records_at now) (state_at now) ticket place
+  noted_caused ours =
+      let replayed = replay b.config (whole b) in
+      let there = flush_cause now.config (records_at now) (state_at now) ticket place (flush_numbered (state_at now).flushes ticket.number) in
+      let same : flush_cause b.config (vec_len b.state.history) (state_of b.state) ticket place (flush_numbered (state_of b.state).flushes ticket.number) ≡ there =
+      subst (λ (d : BoardData). flush_cause b.config (vec_len b.state.history) (state_of b.state) ticket place (flush_numbered (state_of b.state).flushes ticket.number) ≡ flush_cause d.config (records_at d) (state_at d) ticket place (flush_numbered (state_at d).flushes ticket.number)) view_is
+      (ap (λ (s : State). flush_cause b.config (vec_len b.state.history) s ticket place (flush_numbered s.flushes ticket.number)) sound.agrees.rest
+      ∙ ap (λ n. flush_cause b.config n replayed ticket place (flush_numbered replayed.flushes ticket.number)) (kept_counted b sound)) in
+      same ∙ sym (ap (λ t. if t then there else Some note.Foreign) (eq-eqb ticket.desk now.id ours))
+
 -- ---- what a board shows
 
 module _ (b : Inside) (sound : IsSound b) (now : BoardData) (view_is : seen b b.state ≡ now) where
   pub rows_at : row_views (state_of b.state) ≡ row_views (state_at now)
   rows_at =
       subst (λ (d : BoardData). row_views (state_of b.state) ≡ row_views (state_at d)) view_is
-      (row_views-agrees (state_of b.state) (replay b.config b.state.history.items) sound.agrees (consistent_now b sound).rows)
+      (row_views-agrees (state_of b.state) (replay b.config (whole b)) sound.agrees (consistent_now b sound).rows)
 
   pub preview_now : (at : ℕ) → preview_at b.config (state_of b.state) (moment (state_of b.state) at) ≡ preview now.config now.history at
   preview_now at =
-      let replayed = replay b.config b.state.history.items in
+      let replayed = replay b.config (whole b) in
       subst (λ (d : BoardData). preview_at b.config (state_of b.state) (moment (state_of b.state) at) ≡ preview d.config d.history at) view_is
       (preview_at-agrees (state_of b.state) replayed sound.agrees (consistent_now b sound).rows b.config (moment (state_of b.state) at)
-      ∙ (ap (λ (s : State). preview_at b.config replayed (moment s at)) sound.agrees.rest ∙ preview-found b.config b.id b.state.history.items at sound.legal))
+      ∙ (ap (λ (s : State). preview_at b.config replayed (moment s at)) sound.agrees.rest ∙ preview-found b.config b.id (whole b) at sound.legal))
 
   -- no row of the log is of a moment after the greatest
   pub rows_timely : All (λ row. row.moment ≤ MAX_MOMENT) (log_rows b.state.log)
   rows_timely =
-      let rows = (replay b.config b.state.history.items).rows in
+      let rows = (replay b.config (whole b)).rows in
       All-permutation (λ (row : RowView). row.moment ≤ MAX_MOMENT) rows (state_of b.state).rows (IsPermutation-sym (state_of b.state).rows rows sound.agrees.rows)
-      (all_from (λ (row : RowView). row.moment ≤ MAX_MOMENT) rows (rows-timely b.config b.state.history.items))
+      (all_from (λ (row : RowView). row.moment ≤ MAX_MOMENT) rows (rows-timely b.config (whole b)))
 
   pub groups_at : group_views (state_of b.state) ≡ group_views (state_at now)
   groups_at =
       subst (λ (d : BoardData). group_views (state_of b.state) ≡ group_views (state_at d)) view_is
-      (group_views-agrees (state_of b.state) (replay b.config b.state.history.items) sound.agrees)
+      (group_views-agrees (state_of b.state) (replay b.config (whole b)) sound.agrees)
 
   pub due_at : next_due (state_of b.state) ≡ next_due (state_at now)
   due_at =
       subst (λ (d : BoardData). next_due (state_of b.state) ≡ next_due (state_at d)) view_is
-      (next_due-agrees (state_of b.state) (replay b.config b.state.history.items) sound.agrees)
+      (next_due-agrees (state_of b.state) (replay b.config (whole b)) sound.agrees)
 
-  pub summary_then : summary_at (vec_len b.state.history) (state_of b.state) ≡ summary now.config now.history
+  pub summary_then : summary_at (b.handed + vec_len b.state.history) (state_of b.state) ≡ summary now.config now.history
   summary_then =
-      subst (λ (d : BoardData). summary_at (vec_len b.state.history) (state_of b.state) ≡ summary d.config d.history) view_is
-      (summary_at-agrees (state_of b.state) (replay b.config b.state.history.items) sound.agrees (vec_len b.state.history)
-      ∙ ap (λ n. summary_at n (replay b.config b.state.history.items)) (counted b sound))
+      subst (λ (d : BoardData). summary_at (b.handed + vec_len b.state.history) (state_of b.state) ≡ summary d.config d.history) view_is
+      (summary_at-agrees (state_of b.state) (replay b.config (whole b)) sound.agrees (b.handed + vec_len b.state.history)
+      ∙ ap (λ n. summary_at n (replay b.config (whole b))) (all_counted b sound))
+
+  -- so many records were handed out
+  pub handed_counted : b.handed ≡ length now.handed
+  handed_counted = sound.counted ∙ ap (λ (d : BoardData). length d.handed) view_is
 
   -- no more groups are shown than there may be
   pub few_views : {E : Type 0} (result : Result (Vec GroupView Global) E) → IfOk result (λ groups. groups.items ≡ group_views (state_of b.state)) → IfOk result (λ groups. length groups.items ≤ now.config.limits.groups)

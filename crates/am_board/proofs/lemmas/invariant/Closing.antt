@@ -20,7 +20,7 @@ use Rattle.am_board.specs.Refinement.{flush_state}
 use Rattle.am_model.specs.State.{FlushState, State, flush_numbered}
 use Rattle.am_board.specs.Step.{StateInvariant, AppliesCall}
 use Rattle.am_model.proofs.lists.Alone.{find-mapped, find-no_position}
-use Rattle.am_board.proofs.lemmas.invariant.Calls.{recorded, told_now}
+use Rattle.am_board.proofs.lemmas.invariant.Calls.{recorded, seen, told_now}
 use Rattle.am_board.proofs.lemmas.invariant.Sound.{few_after, good, sound_then}
 
 -- an element of a list in which a place is found
@@ -33,7 +33,7 @@ pub not_none : {X Y : Type 0} (f : X → Y) (o : Option X) (y : Y) → option_ma
 not_none f None y t e = absurd (cc)
 not_none f (Some x) y t e = absurd (cc)
 
-module _ (b : Inside) (sound : IsSound b) (now : BoardData) (view_is : record { config = b.config; id = b.id; history = b.state.history.items } ≡ now) where
+module _ (b : Inside) (sound : IsSound b) (now : BoardData) (view_is : seen b b.state ≡ now) where
   -- no flush of a number is open, at the state after the history too
   pub none_open : (number : ℕ) → None ≡ position (λ (flush : OpenFlush). flush.number == number) b.state.flushes.items → flush_numbered (state_at now).flushes number ≡ None
   none_open number e =
@@ -57,7 +57,7 @@ module _ (b : Inside) (sound : IsSound b) (now : BoardData) (view_is : record { 
     abbrev call : Call
     call = Finish at ticket.number ticket.outcomes
 
-    pub finish_recorded : record { config = b.config; id = b.id; history = new.history.items } ≡ with_record now (entry pass call (replies.Finished x))
+    pub finish_recorded : seen b new ≡ with_record now (entry pass call (replies.Finished x))
     finish_recorded =
         recorded b sound now view_is new pass call replies.Finished (λ y. AppliesCall b.config b.id (entry pass call (replies.Finished y)) b.state new) (λ y h. h) (λ (e : ℕ). Unit {0}) (Ok x) accepted
 

@@ -17,10 +17,10 @@ use Rattle.am_board.specs.declared.state.State as kept
 use Rattle.am_board.specs.declared.begin.Begun.{Begun}
 use Rattle.am_model.specs.declared.config.Config.{Config}
 use Rattle.am_model.specs.declared.config.Integration.{Integration}
-use Rattle.am_board.specs.Board.{IsSound}
+use Rattle.am_board.specs.Board.{IsSound, whole}
 use Rattle.am_model.specs.Begin.{taken, asked_of, flush_asking, after_asking, after_taking}
 use Rattle.am_model.specs.Causes.{is_name_too_many, is_silence_too_many, insert_cause, silence_cause, begin_cause, maintain_cause, asks_some, opens_by}
-use Rattle.am_board.specs.History.{BoardData, calls_at, state_at, reply_of}
+use Rattle.am_board.specs.History.{BoardData, records_at, state_at, reply_of}
 use Rattle.am_model.specs.Records.{call_of_silence, entry}
 use Rattle.am_board.specs.Refinement.{state_of}
 use Rattle.am_model.specs.Insert.{same_alert}
@@ -31,8 +31,8 @@ use Rattle.am_board.specs.Step.{AppliesCall}
 use Rattle.am_board.proofs.lemmas.invariant.Agreeing.{insert_cause-agrees, silence_cause-agrees, maintain_cause-agrees, begin_cause-agrees}
 use Rattle.am_model.proofs.legal.FewGroups.{few_inserted}
 use Rattle.am_model.proofs.legal.FewKnown.{fits-upsert, neither_cause}
-use Rattle.am_board.proofs.lemmas.invariant.Calls.{IsWithin, room_of, opened_then}
-use Rattle.am_board.proofs.lemmas.invariant.Sound.{IsFew, few_after, opened_now, counted, consistent_now}
+use Rattle.am_board.proofs.lemmas.invariant.Calls.{IsWithin, opened_then, room_of, seen}
+use Rattle.am_board.proofs.lemmas.invariant.Sound.{IsFew, few_after, opened_now, kept_counted, consistent_now}
 
 -- a call that opens no flush passes no limit, where the history has room for one record more
 keeps_within : (b : Inside) (sound : IsSound b) (pass : ℕ) (call : Call) (reply : Reply) (new : kept.State) → AppliesCall b.config b.id (entry pass call reply) b.state new
@@ -104,28 +104,28 @@ begin_within b sound pass now new x none accepts =
     (few_after b sound (Begin now) refl refl, omega (arith, opened, fits.0), omega (arith, opened, fits.1, parts.0, accepts.records))
 
 -- a cause at the state that is kept is one at the state after the history
-module _ (b : Inside) (sound : IsSound b) (now : BoardData) (view_is : record { config = b.config; id = b.id; history = b.state.history.items } ≡ now) where
+module _ (b : Inside) (sound : IsSound b) (now : BoardData) (view_is : seen b b.state ≡ now) where
   abbrev replayed : State
-  replayed = replay b.config b.state.history.items
+  replayed = replay b.config (whole b)
 
-  pub maintain_caused : maintain_cause b.config (vec_len b.state.history) (state_of b.state) ≡ maintain_cause now.config (calls_at now) (state_at now)
+  pub maintain_caused : maintain_cause b.config (vec_len b.state.history) (state_of b.state) ≡ maintain_cause now.config (records_at now) (state_at now)
   maintain_caused =
-      subst (λ (d : BoardData). maintain_cause b.config (vec_len b.state.history) (state_of b.state) ≡ maintain_cause d.config (calls_at d) (state_at d)) view_is
-      (maintain_cause-agrees (state_of b.state) replayed sound.agrees b.config (vec_len b.state.history) ∙ ap (λ n. maintain_cause b.config n replayed) (counted b sound))
+      subst (λ (d : BoardData). maintain_cause b.config (vec_len b.state.history) (state_of b.state) ≡ maintain_cause d.config (records_at d) (state_at d)) view_is
+      (maintain_cause-agrees (state_of b.state) replayed sound.agrees b.config (vec_len b.state.history) ∙ ap (λ n. maintain_cause b.config n replayed) (kept_counted b sound))
 
-  pub begin_caused : (at : ℕ) → begin_cause b.config (vec_len b.state.history) (state_of b.state) (moment (state_of b.state) at) ≡ begin_cause now.config (calls_at now) (state_at now) (moment (state_at now) at)
+  pub begin_caused : (at : ℕ) → begin_cause b.config (vec_len b.state.history) (state_of b.state) (moment (state_of b.state) at) ≡ begin_cause now.config (records_at now) (state_at now) (moment (state_at now) at)
   begin_caused at =
-      subst (λ (d : BoardData). begin_cause b.config (vec_len b.state.history) (state_of b.state) (moment (state_of b.state) at) ≡ begin_cause d.config (calls_at d) (state_at d) (moment (state_at d) at)) view_is
+      subst (λ (d : BoardData). begin_cause b.config (vec_len b.state.history) (state_of b.state) (moment (state_of b.state) at) ≡ begin_cause d.config (records_at d) (state_at d) (moment (state_at d) at)) view_is
       (begin_cause-agrees (state_of b.state) replayed sound.agrees (consistent_now b sound).rows b.config (vec_len b.state.history) (moment (state_of b.state) at)
       ∙ (ap (λ (s : State). begin_cause b.config (vec_len b.state.history) replayed (moment s at)) sound.agrees.rest
-      ∙ ap (λ n. begin_cause b.config n replayed (moment replayed at)) (counted b sound)))
+      ∙ ap (λ n. begin_cause b.config n replayed (moment replayed at)) (kept_counted b sound)))
 
-  pub insert_caused : (alert : AlertData) → insert_cause b.config (vec_len b.state.history) (state_of b.state) alert ≡ insert_cause now.config (calls_at now) (state_at now) alert
+  pub insert_caused : (alert : AlertData) → insert_cause b.config (vec_len b.state.history) (state_of b.state) alert ≡ insert_cause now.config (records_at now) (state_at now) alert
   insert_caused alert =
-      subst (λ (d : BoardData). insert_cause b.config (vec_len b.state.history) (state_of b.state) alert ≡ insert_cause d.config (calls_at d) (state_at d) alert) view_is
-      (insert_cause-agrees (state_of b.state) replayed sound.agrees b.config (vec_len b.state.history) alert ∙ ap (λ n. insert_cause b.config n replayed alert) (counted b sound))
+      subst (λ (d : BoardData). insert_cause b.config (vec_len b.state.history) (state_of b.state) alert ≡ insert_cause d.config (records_at d) (state_at d) alert) view_is
+      (insert_cause-agrees (state_of b.state) replayed sound.agrees b.config (vec_len b.state.history) alert ∙ ap (λ n. insert_cause b.config n replayed alert) (kept_counted b sound))
 
-  pub silence_caused : (silence : SilenceData) → silence_cause b.config (vec_len b.state.history) (state_of b.state) silence ≡ silence_cause now.config (calls_at now) (state_at now) silence
+  pub silence_caused : (silence : SilenceData) → silence_cause b.config (vec_len b.state.history) (state_of b.state) silence ≡ silence_cause now.config (records_at now) (state_at now) silence
   silence_caused silence =
-      subst (λ (d : BoardData). silence_cause b.config (vec_len b.state.history) (state_of b.state) silence ≡ silence_cause d.config (calls_at d) (state_at d) silence) view_is
-      (silence_cause-agrees (state_of b.state) replayed sound.agrees b.config (vec_len b.state.history) silence ∙ ap (λ n. silence_cause b.config n replayed silence) (counted b sound))
+      subst (λ (d : BoardData). silence_cause b.config (vec_len b.state.history) (state_of b.state) silence ≡ silence_cause d.config (records_at d) (state_at d) silence) view_is
+      (silence_cause-agrees (state_of b.state) replayed sound.agrees b.config (vec_len b.state.history) silence ∙ ap (λ n. silence_cause b.config n replayed silence) (kept_counted b sound))

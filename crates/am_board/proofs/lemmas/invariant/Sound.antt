@@ -1,5 +1,5 @@
 -- What each accepted or refused call leaves of a board.
-use Rattle.std.proofs.Common.{◌≡◌, ℕ, ◌+◌, ◌*◌, ◌≤◌, false, Option, Some, None, List, length, vec_len, sym, ap, ◌∙◌, subst, arith}
+use Rattle.std.proofs.Common.{◌≡◌, ℕ, ◌+◌, ◌*◌, ◌≤◌, false, Option, Some, None, List, [], ◌∷◌, ◌++◌, drop, length, vec_len, refl, sym, ap, ◌∙◌, subst, arith, append_assoc, length-append}
 use Rattle.std.specs.Prelude.{sum_by, All}
 use Rattle.std.proofs.lemmas.List.Elements.{All-nil}
 use Rattle.am_alerts.specs.RoutingTree.{last_of}
@@ -14,18 +14,17 @@ use Rattle.am_model.specs.declared.group.GroupName.{GroupName}
 use Rattle.am_model.specs.Config.{AreAllowed, config_fault}
 use Rattle.am_board.specs.GroupNameCache.{AreKept}
 use Rattle.am_board.specs.Group.{names_of, AreRouted}
-use Rattle.std.proofs.lemmas.List.{length-map}
+use Rattle.std.proofs.lemmas.List.{drop_at, length-map}
 use Rattle.am_board.specs.declared.board.Board.TheInside.{Inside}
-use Rattle.am_model.specs.declared.config.TheConstants.{MAX_HISTORY}
 use Rattle.am_model.specs.declared.record.Call.{Call}
 use Rattle.am_model.specs.declared.record.Record.{Record}
 use Rattle.am_board.specs.declared.state.State as kept
-use Rattle.am_board.specs.Board.{IsSound}
+use Rattle.am_board.specs.Board.{IsSound, whole}
 use Rattle.am_board.specs.Refinement.{state_of, flush_state, EqualUpToRowOrder, IsNew, IsPrepared}
 use Rattle.am_model.specs.Laws.{IsConsistent}
 use Rattle.am_model.specs.Replay.{reply, after, after_call, replay, IsLegal}
 use Rattle.am_model.specs.State.{State, opening_state}
-use Rattle.am_board.specs.Step.{StateInvariant, AppliesCall, LeavesUnchanged}
+use Rattle.am_board.specs.Step.{MAX_CALLS, StateInvariant, AppliesCall, LeavesUnchanged}
 use Rattle.am_board.proofs.lemmas.invariant.GroupNameCache.{kept_after}
 use Rattle.am_board.proofs.lemmas.invariant.Learnt.{learnt_after}
 use Rattle.am_board.proofs.lemmas.invariant.Agreeing.{EqualUpToRowOrder-refl, EqualUpToRowOrder-trans, IsConsistent-agrees, reply-agrees, after_call-agrees}
@@ -45,6 +44,15 @@ abbrev pub IsFew : Config → State → Type 0
 IsFew config s =
     (length s.known ≤ config.limits.names) × (length s.groups ≤ config.limits.groups) × (length s.silences ≤ config.limits.silences)
 
+-- the whole history with another state
+abbrev pub whole_with : Inside → kept.State → List Record
+whole_with b s = b.past.items ++ s.history.items
+
+-- a record that is kept is one more of the whole history
+pub whole_more : (b : Inside) (s : kept.State) (r : Record) → s.history.items ≡ b.state.history.items ++ r ∷ [] → whole_with b s ≡ whole b ++ r ∷ []
+whole_more b s r more =
+    ap (λ (rs : List Record). b.past.items ++ rs) more ∙ sym (append_assoc b.past.items b.state.history.items (r ∷ []))
+
 module _ (b : Inside) (sound : IsSound b) where
   -- a call other than an insert and a silence passes none of these limits
   pub few_after : (call : Call) → IsInsert call ≡ false → IsSilence call ≡ false → IsFew b.config (after_call b.config (state_of b.state) call)
@@ -57,27 +65,39 @@ module _ (b : Inside) (sound : IsSound b) where
 
   -- the state after the board's history
   abbrev replayed : State
-  replayed = replay b.config b.state.history.items
+  replayed = replay b.config (whole b)
 
   pub consistent_now : IsConsistent (state_of b.state)
-  consistent_now = IsConsistent-agrees (state_of b.state) replayed sound.agrees (consistent_replay b.config b.state.history.items)
+  consistent_now = IsConsistent-agrees (state_of b.state) replayed sound.agrees (consistent_replay b.config (whole b))
 
   -- so many records are kept
   pub counted : vec_len b.state.history ≡ length b.state.history.items
   counted = b.state.history.ok.0
 
+  -- they are those that weren't handed out
+  pub kept_counted : vec_len b.state.history ≡ length (drop (length b.past.items) (whole b))
+  kept_counted = counted ∙ sym (ap (λ (h : List Record). length h) (drop_at b.past.items b.state.history.items (length b.past.items) refl))
+
+  -- so many calls were accepted: those whose records were handed out, and those whose records are kept
+  pub all_counted : b.handed + vec_len b.state.history ≡ length (whole b)
+  all_counted = omega (arith, sound.counted, counted, length-append b.past.items b.state.history.items)
+
+  -- no more calls were accepted than may be
+  pub few_calls : length (whole b) ≤ MAX_CALLS
+  few_calls = omega (arith, all_counted, sound.few, sound.kept, sound.limits.history.1)
+
   -- each call may rely on what holds of a board
   pub good : StateInvariant b.config b.state
   good =
-      let few : IsBounded b.config (length b.state.history.items) replayed = bounded b.config b.state.history.items in
+      let few : IsBounded b.config (length (whole b)) replayed = bounded b.config (whole b) in
       let inserts : b.state.inserts ≡ replayed.inserts = ap (λ (s : State). s.inserts) sound.agrees.rest in
       let numbers : b.state.next_number ≡ replayed.next_number = ap (λ (s : State). s.next_number) sound.agrees.rest in
       record {
         few = few_integrations b.config sound.configured;
         retention = retention_within b.config sound.configured;
         consistent = consistent_now;
-        inserts = omega (arith, few.inserts, inserts, counted);
-        numbers = omega (arith, few.next_number, numbers, counted);
+        inserts = omega (arith, few.inserts, inserts, few_calls);
+        numbers = omega (arith, few.next_number, numbers, few_calls);
         routed = sound.routed;
         prepared = sound.prepared;
         room = sound.room;
@@ -86,28 +106,32 @@ module _ (b : Inside) (sound : IsSound b) where
   -- the alerts over all groups are few, and so are the inserts
   pub few_alerts : sum_by (λ g. length g.members) (state_of b.state).groups ≤ 1_024 * b.state.inserts
   few_alerts =
-      let few : IsBounded b.config (length b.state.history.items) replayed = bounded b.config b.state.history.items in
+      let few : IsBounded b.config (length (whole b)) replayed = bounded b.config (whole b) in
       subst (λ (s : State). sum_by (λ g. length g.members) s.groups ≤ 1_024 * s.inserts) (sym sound.agrees.rest) (few.alerts sound.few_routes)
 
-  pub few_inserts : b.state.inserts ≤ MAX_HISTORY
-  few_inserts = omega (arith, good.inserts, sound.kept, sound.limits.history.1)
+  pub few_inserts : b.state.inserts ≤ MAX_CALLS
+  few_inserts = good.inserts
 
   module _ (r : Record) (new : kept.State) (accepts : AppliesCall b.config b.id r b.state new) where
     -- the reply is the one that the definitions give at the state after the history
     pub told_at : reply b.config b.id replayed r.call ≡ Some r.reply
     told_at = sym (reply-agrees (state_of b.state) replayed sound.agrees consistent_now.rows b.config b.id r.call) ∙ accepts.told
 
-    -- the history with the record is legal
-    pub legal_then : IsLegal b.config b.id new.history.items
+    -- the history with the record
+    history_then : whole_with b new ≡ whole b ++ r ∷ []
+    history_then = whole_more b new r accepts.history
+
+    -- it is legal
+    pub legal_then : IsLegal b.config b.id (whole_with b new)
     legal_then =
-        subst (IsLegal b.config b.id) (sym accepts.history)
-        ((legal_appends b.config b.id b.state.history.items r).1 (sound.legal, told_at))
+        subst (IsLegal b.config b.id) (sym history_then)
+        ((legal_appends b.config b.id (whole b) r).1 (sound.legal, told_at))
 
     -- the state is the replay of the history with the record
-    pub agrees_then : EqualUpToRowOrder (state_of new) (replay b.config new.history.items)
+    pub agrees_then : EqualUpToRowOrder (state_of new) (replay b.config (whole_with b new))
     agrees_then =
         let step : EqualUpToRowOrder (after b.config (state_of b.state) r) (after b.config replayed r) = after_call-agrees (state_of b.state) replayed sound.agrees consistent_now.rows b.config r.call in
-        subst (EqualUpToRowOrder (state_of new)) (sym (replay_appends b.config b.state.history.items r) ∙ sym (ap (replay b.config) accepts.history))
+        subst (EqualUpToRowOrder (state_of new)) (sym (replay_appends b.config (whole b) r) ∙ sym (ap (replay b.config) history_then))
         (EqualUpToRowOrder-trans (state_of new) (after b.config (state_of b.state) r) accepts.state (after b.config replayed r) step)
 
     fewer : IsFew b.config (after b.config (state_of b.state) r) → IsFew b.config (state_of new)
@@ -123,6 +147,8 @@ module _ (b : Inside) (sound : IsSound b) where
           few_routes = sound.few_routes;
           legal = legal_then;
           agrees = agrees_then;
+          counted = sound.counted;
+          few = sound.few;
           names = (fewer few).0;
           groups = (fewer few).1;
           silences = (fewer few).2;
@@ -136,6 +162,9 @@ module _ (b : Inside) (sound : IsSound b) where
         }
 
   module _ (new : kept.State) (stays : LeavesUnchanged b.config b.state new) where
+    same_whole : whole b ≡ whole_with b new
+    same_whole = ap (λ (rs : List Record). b.past.items ++ rs) (sym stays.history)
+
     same_opened : vec_len new.flushes ≡ vec_len b.state.flushes
     same_opened = opened_now new ∙ (ap (λ (s : State). length s.flushes) stays.state ∙ sym (opened_now b.state))
 
@@ -146,8 +175,10 @@ module _ (b : Inside) (sound : IsSound b) where
           limits = sound.limits;
           configured = sound.configured;
           few_routes = sound.few_routes;
-          legal = subst (IsLegal b.config b.id) (sym stays.history) sound.legal;
-          agrees = subst (λ (s : State). EqualUpToRowOrder s (replay b.config new.history.items)) (sym stays.state) (subst (λ (h : List Record). EqualUpToRowOrder (state_of b.state) (replay b.config h)) (sym stays.history) sound.agrees);
+          legal = subst (IsLegal b.config b.id) same_whole sound.legal;
+          agrees = subst (λ (s : State). EqualUpToRowOrder s (replay b.config (whole_with b new))) (sym stays.state) (subst (λ (h : List Record). EqualUpToRowOrder (state_of b.state) (replay b.config h)) same_whole sound.agrees);
+          counted = sound.counted;
+          few = sound.few;
           names = subst (λ (s : State). length s.known ≤ b.config.limits.names) (sym stays.state) sound.names;
           groups = subst (λ (s : State). length s.groups ≤ b.config.limits.groups) (sym stays.state) sound.groups;
           silences = subst (λ (s : State). length s.silences ≤ b.config.limits.silences) (sym stays.state) sound.silences;
@@ -170,6 +201,8 @@ sound_learnt b sources destinations learnt kept sound =
       few_routes = sound.few_routes;
       legal = sound.legal;
       agrees = sound.agrees;
+      counted = sound.counted;
+      few = sound.few;
       names = sound.names;
       groups = sound.groups;
       silences = sound.silences;
@@ -183,15 +216,19 @@ sound_learnt b sources destinations learnt kept sound =
     }
 
 -- a board that was just made is sound
-pub new_sound : (config : Config) (id : ℕ) (s : kept.State) (sources : SourceIndex) (destinations : List (Option (List GroupName))) → AreLearnt config.rules s.known.items sources → AreKept config s.known.items destinations → config_fault config ≡ None → last_of config.routes ≤ MAX_ROUTES → AreAllowed config.limits → IsNew s
-    → IsSound (record { config = config; id = id; state = s; sources = sources; destinations = destinations })
-new_sound config id s sources destinations learnt names configured few limits new =
+pub new_sound : (b : Inside) → AreLearnt b.config.rules b.state.known.items b.sources → AreKept b.config b.state.known.items b.destinations → config_fault b.config ≡ None → last_of b.config.routes ≤ MAX_ROUTES → AreAllowed b.config.limits → IsNew b.state → b.handed ≡ 0 → b.past.items ≡ [] → IsSound b
+new_sound b learnt names configured few limits new none nothing =
+    let config = b.config in
+    let s : kept.State = b.state in
+    let empty : whole b ≡ [] = λ i. nothing i ++ new.history i in
     record {
       limits = limits;
       configured = configured;
       few_routes = few;
-      legal = subst (IsLegal config id) (sym new.history) tt;
-      agrees = subst (λ (h : List Record). EqualUpToRowOrder (state_of s) (replay config h)) (sym new.history) (subst (λ (x : State). EqualUpToRowOrder x opening_state) (sym new.state) (EqualUpToRowOrder-refl opening_state));
+      legal = subst (IsLegal config b.id) (sym empty) tt;
+      agrees = subst (λ (h : List Record). EqualUpToRowOrder (state_of s) (replay config h)) (sym empty) (subst (λ (x : State). EqualUpToRowOrder x opening_state) (sym new.state) (EqualUpToRowOrder-refl opening_state));
+      counted = none ∙ sym (ap (λ (h : List Record). length h) nothing);
+      few = omega (arith, none);
       names = subst (λ (x : State). length x.known ≤ config.limits.names) (sym new.state) (omega arith);
       groups = subst (λ (x : State). length x.groups ≤ config.limits.groups) (sym new.state) (omega arith);
       silences = subst (λ (x : State). length x.silences ≤ config.limits.silences) (sym new.state) (omega arith);

@@ -34,7 +34,7 @@ use Rattle.am_model.proofs.lists.Sets.{any-map}
 
 -- ---- an update is needed exactly if the reason is one to ask
 
-needed-asks : (o : Option RowView) (firing resolved : List (List Label)) (send_resolved : Bool) (repeat t : ℕ)
+pub needed-asks : (o : Option RowView) (firing resolved : List (List Label)) (send_resolved : Bool) (repeat t : ℕ)
     → needed same_label_set (option_map log_row o) firing resolved send_resolved repeat t
     ≡ asks (reason_by o firing resolved send_resolved repeat t)
 needed-asks o firing resolved send_resolved repeat t =

@@ -2,8 +2,6 @@ use Rattle.std.proofs.Common.{◌≡◌, ◌∙◌, [], List, ap, sym, length, m
 use Rattle.std.proofs.lemmas.List.{length-map}
 use Rattle.std.proofs.lemmas.Result.{IfOk-weaker}
 use Rattle.am_terms.specs.declared.event.PreviewedBegin.{PreviewedBegin}
-use Rattle.am_timeline.specs.declared.runs.Fold.{Fold}
-use Rattle.am_timeline.specs.declared.runs.Run.{Run}
 use Rattle.am_timeline.specs.Runs.{flush_by, folds_of, group_of, with_runs}
 use Rattle.am_timeline.proofs.Folds.{folds-are, runs_of-length}
 use Rattle.am_timeline.proofs.runs.folded.Goals as goal

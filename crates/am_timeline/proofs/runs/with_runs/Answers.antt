@@ -1,5 +1,4 @@
 use Rattle.std.proofs.Common.{◌≡◌, ◌∙◌, ◌<◌, ◌==◌, ◌+◌, ◌∷◌, ◌++◌, [], ℕ, Bool, true, List, Option, Some, ap, sym, refl, drop, get_or, length, map, arith, if◌then◌else◌}
-use Rattle.std.specs.HashMap.{get}
 use Rattle.std.specs.Option.{option_map_or}
 use Rattle.std.proofs.lemmas.List.{drop_more}
 use Rattle.am_model.specs.declared.group.GroupName.{GroupName}
@@ -46,10 +45,10 @@ loop-place-preserved c =
     let b = c.index-begins-place.result in
     let before = c.loop-place.invariant.0 in
     let held = c.loop-place.invariant.1 in
-    let key = c.in_ok-copy.ensures ∙ ap (λ (p : PreviewedBegin). p.preview.group) (sym c.index-begins-place.is) in
-    let first = c.is_alone-is_first.ensures ∙ ap (λ (o : Option Run). option_map_or (λ (r : Run). r.count == 1) o true) (c.get.ensures.value ∙ held (get_or begins c.loop-place.place b).preview.group ∙ ap (λ (p : PreviewedBegin). run_before p.preview.group before) (sym c.index-begins-place.is)) in (
+    let group : (get_or begins c.loop-place.place b).preview.group ≡ b.preview.group = ap (λ (p : PreviewedBegin). p.preview.group) (sym c.index-begins-place.is) in
+    let first = c.in_ok-is_first.ensures.first ∙ ap (λ (o : Option Run). option_map_or (λ (r : Run). r.count == 1) o true) (held _ ∙ ap (λ (n : GroupName). run_before n before) group) in (
       (b.preview.group, _) ∷ before,
-      λ name. held_more name _ b.preview.group before _ _ _ (c.in_ok-insert.ensures.updates.0 name) key (held name),
+      λ name. held_more name _ b.preview.group before _ _ _ (c.in_ok-is_first.ensures.last name) group (held name),
       more c.loop-place.folds.items _ before begins c.args.runs.now c.loop-place.place b _ _ _ _ (omega (arith, c.loop-place-test.true)) c.requires
           c.index-begins-place.is refl first c.in_ok-push.ensures.items c.loop-place.invariant.2,
     )

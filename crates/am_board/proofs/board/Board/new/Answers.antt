@@ -1,4 +1,4 @@
-use Rattle.std.proofs.Common.{◌≡◌, ℕ, List, [], Ok, sym, ap, ◌∙◌, subst}
+use Rattle.std.proofs.Common.{◌≡◌, ℕ, List, [], ◌++◌, Ok, refl, sym, ap, ◌∙◌, subst}
 use Rattle.std.specs.Prelude.{Result}
 use Rattle.std.specs.Option.{option_map}
 use Rattle.am_alerts.proofs.Faults.{some_from_err}
@@ -15,8 +15,8 @@ use Rattle.am_board.proofs.lemmas.invariant.Sound.{new_sound}
 use Rattle.am_board.proofs.lemmas.invariant.Staying.{no_fault}
 use Rattle.am_board.proofs.board.Board.new.Goals as goal
 
-opened : (config : Config) (id : ℕ) (history : List Record) → history ≡ [] → ◌≡◌ {A = Result BoardData BoardFault} (Ok (record { config = config; id = id; history = history })) (Ok (opening config id))
-opened config id history none = ap (λ h. Ok (record { config = config; id = id; history = h })) none
+opened : (config : Config) (id : ℕ) (past kept : List Record) → past ≡ [] → kept ≡ [] → ◌≡◌ {A = Result BoardData BoardFault} (Ok (record { config = config; id = id; handed = past; history = past ++ kept })) (Ok (opening config id))
+opened config id past kept nothing none = λ i. Ok (record { config = config; id = id; handed = nothing i; history = nothing i ++ none i })
 
 pub returns-in-Err : goal.returns-in-Err
 returns-in-Err c =
@@ -24,12 +24,12 @@ returns-in-Err c =
 
 pub invariant_of-result : goal.invariant_of-result
 invariant_of-result c =
-    new_sound c.args.config c.args.id c.in_ok-new-in-Ok.field-0 c.new-in-Ok.result c.new-in-Ok-2.result (c.new-in-Ok.ensures c.args.config.rules c.in_ok-new-in-Ok.field-0.known.items)
+    new_sound _ (c.new-in-Ok.ensures c.args.config.rules c.in_ok-new-in-Ok.field-0.known.items)
     (subst (AreKept c.args.config c.in_ok-new-in-Ok.field-0.known.items) (sym c.new-in-Ok-2.ensures) (kept_none c.args.config c.in_ok-new-in-Ok.field-0.known.items)) (no_fault (config_fault c.args.config) tt tt c.in-Ok.ensures.fault) c.in-Ok.ensures.few c.in-Ok.ensures.limits
-    c.in_ok-new-in-Ok.ensures
+    c.in_ok-new-in-Ok.ensures refl c.new-in-Ok-3.ensures
 
 pub returns-in_ok-new-in-Ok : goal.returns-in_ok-new-in-Ok
 returns-in_ok-new-in-Ok c =
     let none = no_fault (config_fault c.args.config) tt tt c.in-Ok.ensures.fault in
-    opened c.args.config c.args.id c.in_ok-new-in-Ok.field-0.history.items c.in_ok-new-in-Ok.ensures.history
+    opened c.args.config c.args.id c.new-in-Ok-3.result.items c.in_ok-new-in-Ok.field-0.history.items c.new-in-Ok-3.ensures c.in_ok-new-in-Ok.ensures.history
     ∙ sym (ap (λ o. ok_unless (option_map BadConfig o) (opening c.args.config c.args.id)) none)

@@ -1,4 +1,6 @@
-use Rattle.am_board.proofs.lemmas.invariant.Calls.{noted_now, sound_noted}
+use Rattle.std.proofs.Common.{◌≡◌, ap, arith}
+use Rattle.am_board.specs.History.{BoardData}
+use Rattle.am_board.proofs.lemmas.invariant.Calls.{note_caused, noted_caused, noted_now, sound_noted}
 use Rattle.am_board.proofs.lemmas.invariant.Sound.{good}
 use Rattle.am_board.proofs.board.Board.note.Goals as goal
 
@@ -14,3 +16,10 @@ pub returns-clause-noted : goal.returns-clause-noted
 returns-clause-noted c =
     noted_now c.self.inside c.self.invariant c.args.self.now c.self.view_is c.note_success.new.state c.args.pass c.args.now c.args.ticket.now c.args.place
     _ c.note_success.result c.note_success.ensures
+
+pub returns-clause-cause : goal.returns-clause-cause
+returns-clause-cause c =
+    let id = ap (λ (d : BoardData). d.id) c.self.view_is in
+    let ours : c.args.ticket.now.desk ≡ c.args.self.now.id = omega (arith, c.desk.ensures, c.if-desk-self.false, id) in
+    note_caused _ _ (noted_caused c.self.inside c.self.invariant c.args.self.now c.self.view_is c.note_success.new.state c.args.pass c.args.now c.args.ticket.now c.args.place ours)
+    _ _ c.note_success.result c.note_success.ensures

@@ -40,7 +40,7 @@ loop-next-smaller g c =
     let reached = c.loop-next.invariant.reached in
     let kept = config_kept (setting_in c.args.self.now) reached.0 (scene_in c.args.self.now) (scene_in was) reached.1 in
     subst (λ (config : Config). steps_left config.limits.history (scene_in is) < steps_left config.limits.history (scene_in was)) kept
-    (step_falls (setting_in was) (scene_in was) (scene_in is) c.in-Some.next (sym c.next.ensures ∙ c.in-Some.is)
+    (step_falls (setting_in was) (scene_in was) (scene_in is) was.board.whole c.in-Some.next (sym c.next.ensures ∙ c.in-Some.is)
     (ap config_fault kept ∙ c.requires.faultless) c.in_ok-step-in-Some.ensures.allowed c.in_ok-step-in-Some.ensures.done)
 
 pub returns-in-None : goal.returns-in-None

@@ -1,4 +1,4 @@
-use Rattle.std.proofs.Common.{◌≡◌, ℕ, refl, sym, ap, ◌∙◌, ◌++◌, List, length}
+use Rattle.std.proofs.Common.{◌≡◌, ℕ, refl, sym, ap, ◌∙◌, ◌++◌, List, length, subst}
 use Rattle.std.proofs.lemmas.List.FromFn.{length-range_with_len}
 use Rattle.am_board.specs.History.{reply_of, state_at}
 use Rattle.am_model.specs.Begin.{begun}
@@ -21,33 +21,34 @@ use Rattle.am_rehearsal.proofs.previewing.PreviewingBoard.begin.Goals as goal
 pub invariant_of-self-2 : goal.invariant_of-self-2
 invariant_of-self-2 c =
     let was = c.args.self.now in
-    let takes = takes_group (reply_of c.in-Ok.begun) in
-    let is_to_do = c.in_ok-preview.preview in
+    let takes = takes_group (reply_of c.in-Ok.both.0) in
+    let is_to_do = c.in-Ok.both.1 in
+    let shown = subst (λ (front : List Record). front ++ c.history-place.result.now ≡ was.board.history) was.whole c.history-place.ensures.history in
     let previews =
     c.tell.ensures.previews
     ∙ (ap (λ (l : List PreviewedBegin). l ++ preview_where takes (length c.history-place.result.now) is_to_do) c.reserve.ensures.items
-    ∙ ap (λ (h : List Record). was.begins.items ++ preview_where takes (length h) is_to_do) c.history-place.ensures.history) in
+    ∙ ap (λ (h : List Record). was.begins.items ++ preview_where takes (length h) is_to_do) shown) in
     let stands =
-    stands_told BOARD_ID was.begins.items was.board c.begin.new.self (was.ours, was.previews) (entry 0 (Begin c.args.now) (reply_of c.in-Ok.begun)) is_to_do
-    c.in_ok-preview.ensures c.in-Ok.ensures.recorded c.tell.new.begins.items previews in
-    record { ours = stands.0; previews = stands.1; begun = c.tell.ensures.begun }
+    stands_told BOARD_ID was.begins.items was.board c.begin_previewed.new.self (was.ours, was.whole, was.previews) (entry 0 (Begin c.args.now) (reply_of c.in-Ok.both.0)) is_to_do
+    c.in-Ok.ensures.previewed c.in-Ok.ensures.recorded c.tell.new.begins.items previews in
+    record { ours = stands.0; whole = stands.1; previews = stands.2; begun = c.tell.ensures.begun }
 
 pub returns-clause-input_trace : goal.returns-clause-input_trace
 returns-clause-input_trace c =
-    input_trace-same c.args.self.now.board c.begin.new.self (entry 0 (Begin c.args.now) (reply_of c.in-Ok.begun), refl, c.in-Ok.ensures.recorded)
+    input_trace-same c.args.self.now.board c.begin_previewed.new.self (entry 0 (Begin c.args.now) (reply_of c.in-Ok.both.0), refl, c.in-Ok.ensures.recorded)
 
 pub returns-clause-taken : goal.returns-clause-taken
 returns-clause-taken c =
     let was = c.args.self.now in
-    let told : Reply = reply_of c.in-Ok.begun in
-    let shown = c.in_ok-preview.preview in
+    let told : Reply = reply_of c.in-Ok.both.0 in
+    let shown = c.in-Ok.both.1 in
     let count : ℕ = length (begin_indices was.events.items) in
     let replied : begun was.board.config was.board.id (state_at was.board) (moment (state_at was.board) c.args.now) ≡ told = cc (c.in-Ok.ensures.reply) in
     let counted : c.reserve.new.self.len ≡ count =
     c.reserve.new.self.ok.0 ∙ (ap (λ (l : List PreviewedBegin). length l) c.reserve.ensures.items
     ∙ (sym was.begins.ok.0 ∙ sym (ap (λ (l : List ℕ). length l) was.begun ∙ length-range_with_len 0 was.begins.len)))
     in
-    taken_by was.board c.begin.new.self was.events.items c.tell.new.events.items c.args.now c.in-Ok.begun c.own.result c.own.ensures c.in-Ok.ensures.fresh
+    taken_by was.board c.begin_previewed.new.self was.events.items c.tell.new.events.items c.args.now c.in-Ok.both.0 c.own.result c.own.ensures c.in-Ok.ensures.fresh
     (record {
       allowed = c.in-Ok.ensures.cause;
       replied = replied;
@@ -56,7 +57,7 @@ returns-clause-taken c =
           c.tell.ensures.events
           ∙ (ap (λ (l : List Event). l ++ begun_where shown (takes_group told) c.reserve.new.self.len) c.reserve-2.ensures.items
           ∙ (ap (λ (n : ℕ). was.events.items ++ begun_where shown (takes_group told) n) counted
-          ∙ ap (λ (l : List Event). was.events.items ++ l) (begun_shown was.board c.args.now count told shown replied c.in_ok-preview.ensures)));
+          ∙ ap (λ (l : List Event). was.events.items ++ l) (begun_shown was.board c.args.now count told shown replied c.in-Ok.ensures.previewed)));
     })
 
 pub returns-in-Err-clause-cause : goal.returns-in-Err-clause-cause

@@ -18,10 +18,10 @@ invariant_of-self c =
     let was = c.args.self.now in
     let ticket = c.args.own in
     let stands =
-    stands_over BOARD_ID was.begins.items was.board c.finish_own.new.self (was.ours, was.previews) c.finish_own.result
+    stands_over BOARD_ID was.begins.items was.board c.finish_own.new.self (was.ours, was.whole, was.previews) c.finish_own.result
     (IfOk-weaker c.finish_own.result _ _ (λ finished recorded. (entry 0 (Finish c.args.now ticket.number ticket.outcomes) (Finished finished), refl, recorded)) c.finish_own.ensures.recorded)
     c.finish_own.ensures.refused in
-    record { ours = stands.0; previews = stands.1; begun = was.begun }
+    record { ours = stands.0; whole = stands.1; previews = stands.2; begun = was.begun }
 
 pub returns-in-Ok-clause-input_trace : goal.returns-in-Ok-clause-input_trace
 returns-in-Ok-clause-input_trace c =

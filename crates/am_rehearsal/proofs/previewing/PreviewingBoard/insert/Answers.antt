@@ -13,10 +13,10 @@ pub invariant_of-self : goal.invariant_of-self
 invariant_of-self c =
     let was = c.args.self.now in
     let stands =
-    stands_over BOARD_ID was.begins.items was.board c.insert.new.self (was.ours, was.previews) c.insert.result
+    stands_over BOARD_ID was.begins.items was.board c.insert.new.self (was.ours, was.whole, was.previews) c.insert.result
     (IfOk-weaker c.insert.result _ _ (λ inserted recorded. (entry 0 (Insert c.args.now c.args.alert) (Inserted inserted), refl, recorded)) c.insert.ensures.recorded)
     c.insert.ensures.refused in
-    record { ours = stands.0; previews = stands.1; begun = was.begun }
+    record { ours = stands.0; whole = stands.1; previews = stands.2; begun = was.begun }
 
 pub returns-clause-input_trace : goal.returns-clause-input_trace
 returns-clause-input_trace c =

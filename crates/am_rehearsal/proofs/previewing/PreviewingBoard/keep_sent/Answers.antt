@@ -10,6 +10,7 @@ invariant_of-self-2 c =
     let more = c.push_reserved.ensures.items ∙ ap (λ (l : List Event). l ++ Sent c.args.begin c.args.report ∷ []) c.reserve.ensures.items in
     record {
       ours = was.ours;
+      whole = was.whole;
       previews = was.previews;
       begun = begun_same was.events.items c.push_reserved.new.self.items c.args.begin c.args.report more ∙ was.begun;
     }

@@ -16,6 +16,7 @@ invariant_of-result c =
     let opened = unless_value _ _ _ c.in_ok-board.ensures in
     record {
       ours = ap (λ (b : BoardData). b.id) opened;
+      whole = ap (λ (b : BoardData). b.handed) opened;
       previews = c.new-2.ensures.items ∙ sym (ap (λ (b : BoardData). previews_of b.config b.history) opened);
       begun = ap begin_indices c.new-3.ensures.items ∙ sym (ap (λ (n : ℕ). range_with_len 0 n) (c.new-2.result.ok.0 ∙ ap length c.new-2.ensures.items));
     }

@@ -15,10 +15,10 @@ pub invariant_of-self : goal.invariant_of-self
 invariant_of-self c =
     let was = c.args.self.now in
     let stands =
-    stands_over BOARD_ID was.begins.items was.board c.note.new.self (was.ours, was.previews) c.note.result
+    stands_over BOARD_ID was.begins.items was.board c.note.new.self (was.ours, was.whole, was.previews) c.note.result
     (on_ok_weaker c.note.result (λ noted. (noted.0, ap (λ (r : Record). takes_group r.reply) noted.1.2, noted.2)) c.note.ensures.noted)
     c.note.ensures.refused in
-    record { ours = stands.0; previews = stands.1; begun = was.begun }
+    record { ours = stands.0; whole = stands.1; previews = stands.2; begun = was.begun }
 
 pub returns-in-Ok-clause-input_trace : goal.returns-in-Ok-clause-input_trace
 returns-in-Ok-clause-input_trace c =

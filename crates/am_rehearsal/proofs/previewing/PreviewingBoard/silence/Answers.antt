@@ -12,10 +12,10 @@ pub invariant_of-self : goal.invariant_of-self
 invariant_of-self c =
     let was = c.args.self.now in
     let stands =
-    stands_over BOARD_ID was.begins.items was.board c.silence.new.self (was.ours, was.previews) c.silence.result
+    stands_over BOARD_ID was.begins.items was.board c.silence.new.self (was.ours, was.whole, was.previews) c.silence.result
     (IfOk-weaker c.silence.result _ _ (λ silenced recorded. (entry 0 (call_of_silence c.args.now c.args.silence) (Silenced silenced), refl, recorded)) c.silence.ensures.recorded)
     c.silence.ensures.refused in
-    record { ours = stands.0; previews = stands.1; begun = was.begun }
+    record { ours = stands.0; whole = stands.1; previews = stands.2; begun = was.begun }
 
 pub returns-clause-input_trace : goal.returns-clause-input_trace
 returns-clause-input_trace c =

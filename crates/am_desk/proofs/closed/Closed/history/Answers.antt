@@ -1,0 +1,15 @@
+use Rattle.std.proofs.Common.{◌≡◌, ◌++◌, List, length, ap, ◌∙◌, subst, arith}
+use Rattle.am_board.specs.History.{BoardData}
+use Rattle.am_model.specs.declared.record.Record.{Record}
+use Rattle.am_desk.proofs.closed.Closed.history.Goals as goal
+
+pub returns-clause-history : goal.returns-clause-history
+returns-clause-history c =
+    subst (λ (front : List Record). front ++ c.history.result.now ≡ c.self.inside.board.history) c.self.invariant c.history.ensures.history
+    ∙ ap (λ (b : BoardData). b.history) c.self.view_is
+
+pub returns-clause-within : goal.returns-clause-within
+returns-clause-within c =
+    let shown = ap (λ (h : List Record). length h) (returns-clause-history c) in
+    let most = ap (λ (b : BoardData). b.config.limits.history) c.self.view_is in
+    omega (arith, c.history.ensures.within, shown, most)

@@ -1,0 +1,118 @@
+-- Previews of two flushes that are alike have the same lines.
+use Rattle.std.proofs.Common.{◌≡◌, ◌∙◌, ◌+◌, ◌++◌, ◌&&◌, ◌||◌, ◌==◌, ◌∷◌, [], Bool, ℕ, List, Option, Some, None, true, false, not, ap, codes, refl, sym, length, if◌then◌else◌}
+use Rattle.std.specs.Prelude.{IfSome}
+use Rattle.std.specs.Cmp.Lexicographic.{pointwise}
+use Rattle.std.specs.List.{list_all}
+use Rattle.std.specs.Option.{IsSomeAnd}
+use Rattle.std.proofs.lemmas.Bool.{and_parts}
+use Rattle.am_model.specs.declared.config.Config.{Config}
+use Rattle.am_model.specs.declared.group.GroupName.{GroupName}
+use Rattle.am_model.specs.declared.preview.MutedAlert.{MutedAlert}
+use Rattle.am_model.specs.declared.preview.Preview.{Preview}
+use Rattle.am_model.specs.declared.reason.Reason.{Reason}
+use Rattle.am_model.specs.look_back.Reasons.{asks}
+use Rattle.am_model.specs.Notice.{NoticeData}
+use Rattle.am_terms.specs.declared.event.PreviewedBegin.{PreviewedBegin}
+use Rattle.am_terms.specs.TimeFormatData.{TimeFormatData}
+use Rattle.am_timeline.specs.Alike.{AreAlike, is_unasked}
+use Rattle.am_timeline.specs.Playback.{PlaybackData, notices_at}
+use Rattle.am_timeline.specs.Runs.{lines_by, sends_nothing, start_frame}
+use Rattle.am_timeline.specs.Timeline.{FrameData, begun_lines, asked_lines, is_sent_nothing, muted_line, no_integrations_line, not_sent_line, nothing_left, nothing_left_line, quiet_line, quiet_lines, reason_text}
+
+-- lists are the same by a test that tells of elements that they are
+same_from : {X : Type 0} {E : X → X → Bool} → ((a b : X) → E a b ≡ true → a ≡ b) → (xs ys : List X) → pointwise E xs ys ≡ true → xs ≡ ys
+same_from each [] [] h = refl
+same_from each [] (y ∷ ys) h = cc
+same_from each (x ∷ xs) [] h = cc
+same_from each (x ∷ xs) (y ∷ ys) h =
+    let parts = and_parts _ _ h in
+    let first = each x y parts.0 in
+    let rest = same_from each xs ys parts.1 in
+    λ i. first i ∷ rest i
+
+-- the same, by the answer of the test
+pub same_by : {X : Type 0} {E : X → X → Bool} → ((a b : X) → E a b ≡ true → a ≡ b) → (xs ys : List X) (r : Bool) → r ≡ pointwise E xs ys → r ≡ true → xs ≡ ys
+same_by each xs ys r is h = same_from each xs ys (sym is ∙ h)
+
+-- a preview
+abbrev preview_of : ℕ → GroupName → List MutedAlert → List Reason → Preview
+preview_of moment group muted reasons = record { moment = moment; group = group; muted = muted; reasons = reasons }
+
+-- a line on an integration that isn't asked is the same at another time, with other notices
+quiet_line-timeless : (config : Config) (times : TimeFormatData) (frame : FrameData) (t u : ℕ) (g : GroupName) (m : List MutedAlert) (rs : List Reason)
+    (some others : List NoticeData) (position : ℕ) (r : Reason) → is_unasked r ≡ true
+    → quiet_line config times frame (preview_of t g m rs) some position r ≡ quiet_line config times frame (preview_of u g m rs) others position r
+quiet_line-timeless config times frame t u g m rs some others position r h = by (asks r) h
+  where
+    told : List ℕ
+    told = not_sent_line config times frame (preview_of t g m rs) position (codes "all resolved, which it isn't sent")
+
+    quiet : List ℕ
+    quiet = not_sent_line config times frame (preview_of t g m rs) position (reason_text times r)
+
+    by : (b : Bool) → not b ≡ true
+        → (if b then (if is_sent_nothing some position then told else []) else quiet)
+        ≡ (if b then (if is_sent_nothing others position then told else []) else quiet)
+    by true h = cc
+    by false h = refl
+
+-- the same of the lines on integrations of which none is asked
+quiet_lines-timeless : (config : Config) (times : TimeFormatData) (frame : FrameData) (t u : ℕ) (g : GroupName) (m : List MutedAlert) (rs : List Reason)
+    (some others : List NoticeData) (position : ℕ) (reasons : List Reason) → list_all is_unasked reasons ≡ true
+    → quiet_lines config times frame (preview_of t g m rs) some position reasons
+    ≡ quiet_lines config times frame (preview_of u g m rs) others position reasons
+quiet_lines-timeless config times frame t u g m rs some others position [] h = refl
+quiet_lines-timeless config times frame t u g m rs some others position (r ∷ reasons) h =
+    let parts = and_parts _ _ h in
+    let first = quiet_line-timeless config times frame t u g m rs some others position r parts.0 in
+    let rest = quiet_lines-timeless config times frame t u g m rs some others (position + 1) reasons parts.1 in
+    λ i. first i ++ rest i
+
+-- the lines on a flush with this preview and these notices
+abbrev shown : Config → TimeFormatData → FrameData → Preview → List NoticeData → List ℕ
+shown config times frame o notices =
+    if nothing_left o.reasons then nothing_left_line config times frame o
+    else muted_line config times frame o ++ asked_lines config times frame o notices
+
+-- they are the same at another time, with other notices, where no integration is asked
+shown-timeless : (config : Config) (times : TimeFormatData) (frame : FrameData) (t u : ℕ) (g : GroupName) (m : List MutedAlert) (rs : List Reason)
+    (some others : List NoticeData) → list_all is_unasked rs ≡ true
+    → shown config times frame (preview_of t g m rs) some ≡ shown config times frame (preview_of u g m rs) others
+shown-timeless config times frame t u g m rs some others h =
+    let o = preview_of t g m rs in
+    ap (λ (lines : List ℕ). if nothing_left rs then nothing_left_line config times frame o
+    else muted_line config times frame o ++ (if length rs == 0 then no_integrations_line config times frame o (codes "no integrations") else lines))
+    (quiet_lines-timeless config times frame t u g m rs some others 0 rs h)
+
+-- they are the same where the previews are alike
+shown-alike : (config : Config) (times : TimeFormatData) (frame : FrameData) (o p : Preview) (some others : List NoticeData) → AreAlike o p
+    → shown config times frame o some ≡ shown config times frame p others
+shown-alike config times frame o p some others alike =
+    shown-timeless config times frame o.moment p.moment o.group o.muted o.reasons some others alike.3
+    ∙ (λ i. shown config times frame (preview_of p.moment (alike.0 i) (alike.1 i) (alike.2 i)) others)
+
+-- begins with previews that are alike are compared by the same lines, where neither sends anything or all have lines
+pub lines_by-alike : (all : Bool) (playback : PlaybackData) (times : TimeFormatData) (b c : PreviewedBegin) → AreAlike b.preview c.preview
+    → (all || (sends_nothing playback.history b && sends_nothing playback.history c)) ≡ true
+    → lines_by all playback times c ≡ lines_by all playback times b
+lines_by-alike all playback times b c alike h = by all h
+  where
+    same : begun_lines playback times start_frame c ≡ begun_lines playback times start_frame b
+    same =
+        sym (shown-alike playback.config times start_frame b.preview c.preview (notices_at playback.history b.place) (notices_at playback.history c.place) alike)
+
+    quiet : (x y : Bool) → (x && y) ≡ true
+        → (if y then begun_lines playback times start_frame c else []) ≡ (if x then begun_lines playback times start_frame b else [])
+    quiet true true h = same
+    quiet true false h = cc
+    quiet false y h = cc
+
+    by : (a : Bool) → (a || (sends_nothing playback.history b && sends_nothing playback.history c)) ≡ true
+        → lines_by a playback times c ≡ lines_by a playback times b
+    by true h = same
+    by false h = quiet (sends_nothing playback.history b) (sends_nothing playback.history c) h
+
+-- what is kept of a begin has the lines of another one
+pub lines-kept : {X : Type 0} (f : X → List ℕ) (o : Option X) (kept lines : List ℕ) → IfSome o (λ b. kept ≡ f b) → IsSomeAnd o (λ b. f b ≡ lines) → kept ≡ lines
+lines-kept f None kept lines is same = absurd same
+lines-kept f (Some b) kept lines is same = is ∙ same

@@ -1,0 +1,255 @@
+-- Json: the timeline as JSON. Each line is an object.
+use Rattle.std.specs.Prelude.{ℕ, ◌+◌, Bool, not, ◌&&◌, ◌==◌, nat_lt, nat_le, List, [], ◌∷◌, ◌++◌, length, map, codes, Option, slice_get}
+use Rattle.std.specs.Prelude.{if◌then◌else◌}
+use Rattle.std.specs.Char.{encode_utf8}
+use Rattle.std.specs.List.{flat_map}
+use Rattle.std.specs.Option.{option_map_or}
+use Rattle.std.specs.Str.{chars}
+use Rattle.serde_json.specs.Data.{Data, number, string, array, object, unsigned, Members, no_members, put}
+use Rattle.serde_json.specs.View.{items_of}
+use Rattle.serde_json.specs.Written.{compact_text}
+use Rattle.am_alerts.specs.AlertData.{AlertData}
+use Rattle.am_alerts.specs.declared.labels.Label.{Label}
+use Rattle.am_mute.specs.declared.mute.MuteCause.{MuteCause}
+use Rattle.am_mute.specs.declared.mute.MuteCause.TheVariants.{Silenced, Inhibited}
+use Rattle.am_retry.specs.declared.outcome.Outcome.{Outcome}
+use Rattle.am_retry.specs.declared.outcome.Outcome.TheVariants.{Delivered, Refused, Expired, Starved}
+use Rattle.am_model.specs.declared.config.Config.{Config}
+use Rattle.am_model.specs.declared.group.GroupName.{GroupName}
+use Rattle.am_model.specs.declared.preview.MutedAlert.{MutedAlert}
+use Rattle.am_model.specs.declared.preview.Preview.{Preview}
+use Rattle.am_model.specs.declared.reason.Reason.{Reason}
+use Rattle.am_model.specs.declared.reason.Reason.TheVariants.{FirstNotice, NewAlert, AllResolved, NewlyResolved, Repeat, NothingLeft}
+use Rattle.am_model.specs.declared.reason.Reason.TheVariants.{NothingFiring, NotYet, RouteMuted}
+use Rattle.am_model.specs.Configured.{route_of, integration_text}
+use Rattle.am_model.specs.look_back.Reasons.{asks}
+use Rattle.am_model.specs.Notice.{NoticeData}
+use Rattle.am_terms.specs.declared.event.Event.{Event}
+use Rattle.am_terms.specs.declared.event.Event.TheVariants.{Begun, Sent}
+use Rattle.am_terms.specs.declared.event.PreviewedBegin.{PreviewedBegin}
+use Rattle.am_terms.specs.TimeFormatData.{TimeFormatData}
+use Rattle.am_timeline.specs.Shown.{hex_text}
+use Rattle.am_timeline.specs.Playback.{PlaybackData, SentData, is_delivered, notices_at, sent_of}
+use Rattle.am_timeline.specs.Timeline.{expiry_before, expiry_if_first, is_late, is_sent_nothing, labels_of, nothing_left, reason_words}
+
+-- a member of an object: its name and its value
+abbrev pub Member : Type 0
+Member = List ℕ × Data
+
+-- a member whose value is a text
+abbrev pub text_at : List ℕ → List ℕ → Member
+text_at name text = (name, string text)
+
+-- a member whose value is a whole number
+abbrev pub number_at : List ℕ → ℕ → Member
+number_at name n = (name, number (unsigned n))
+
+-- members put into an object one after another: each goes to its place in the order of the names, and in place of one of its name
+unfoldable pub put_all : Members → List Member → Members
+put_all old [] = old
+put_all old (m ∷ more) = put_all (put m.0 m.1 old) more
+
+-- an object into which these members were put
+abbrev pub object_of : List Member → Data
+object_of members = object (put_all no_members members)
+
+-- a label: its name and its value
+abbrev pub label_member : Label → Member
+label_member l = text_at l.name l.value
+
+-- a label set: an object of its labels
+abbrev pub set_data : List Label → Data
+set_data labels = object_of (map label_member labels)
+
+-- the label sets of alerts
+abbrev pub sets_data : List AlertData → Data
+sets_data alerts = array (items_of (map (λ a. set_data (labels_of a)) alerts))
+
+-- that an alert is silenced, and until when
+abbrev pub silenced_members : ℕ → List Member
+silenced_members until = text_at (codes "cause") (codes "silenced") ∷ number_at (codes "until") until ∷ []
+
+-- that an alert is inhibited, on account of which alert, and by which rule
+abbrev pub inhibited_members : ℕ → List Label → List Member
+inhibited_members rule by =
+    text_at (codes "cause") (codes "inhibited") ∷ (codes "by", set_data by) ∷ number_at (codes "rule") rule ∷ []
+
+-- why an alert is muted
+abbrev pub cause_members : MuteCause → List Member
+cause_members (Silenced id until) = silenced_members until
+cause_members (Inhibited rule by) = inhibited_members rule by
+
+-- a muted alert: its label set, and why it is muted
+abbrev pub muted_alert_data : MutedAlert → Data
+muted_alert_data m = object_of ((codes "labels", set_data m.labels) ∷ cause_members m.cause)
+
+-- muted alerts
+abbrev pub muted_data : List MutedAlert → Data
+muted_data muted = array (items_of (map muted_alert_data muted))
+
+-- what each line begins with: what happened, when, and of which group
+unfoldable pub event_members : Config → TimeFormatData → List ℕ → ℕ → GroupName → List Member
+event_members config times event at group =
+    text_at (codes "event") event ∷ number_at (codes "at") at ∷ text_at (codes "time") (times.text at)
+    ∷ text_at (codes "route") (route_of config group).name ∷ (codes "group", set_data group.labels) ∷ []
+
+-- a group's receiver
+abbrev pub receiver_member : Config → GroupName → Member
+receiver_member config group = text_at (codes "receiver") (route_of config group).receiver
+
+-- a group's receiver and an integration of that
+unfoldable pub integration_members : Config → GroupName → ℕ → List Member
+integration_members config group position =
+    receiver_member config group ∷ text_at (codes "integration") (integration_text config group position) ∷ []
+
+-- a reason with a time
+abbrev pub timed_members : List ℕ → List ℕ → ℕ → List Member
+timed_members words name at = text_at (codes "reason") words ∷ number_at name at ∷ []
+
+-- why an integration is asked, or why not
+abbrev pub reason_members : Reason → List Member
+reason_members FirstNotice = text_at (codes "reason") (reason_words FirstNotice) ∷ []
+reason_members NewAlert = text_at (codes "reason") (reason_words NewAlert) ∷ []
+reason_members AllResolved = text_at (codes "reason") (reason_words AllResolved) ∷ []
+reason_members NewlyResolved = text_at (codes "reason") (reason_words NewlyResolved) ∷ []
+reason_members Repeat = text_at (codes "reason") (reason_words Repeat) ∷ []
+reason_members NothingLeft = text_at (codes "reason") (reason_words NothingLeft) ∷ []
+reason_members NothingFiring = text_at (codes "reason") (reason_words NothingFiring) ∷ []
+reason_members (NotYet from) = timed_members (codes "nothing new") (codes "from") from
+reason_members (RouteMuted until) = timed_members (codes "route muted") (codes "until") until
+
+-- that the log entry expired
+abbrev pub expiry_members : ℕ → List Member
+expiry_members at = timed_members (codes "log entry expired") (codes "expired") at
+
+-- why a notice was sent, where the log entry had expired at this moment, if it had
+abbrev pub sent_reason_members : Option ℕ → Reason → List Member
+sent_reason_members expiry reason = option_map_or expiry_members (expiry_if_first expiry reason) (reason_members reason)
+
+-- what happened to a notice
+abbrev pub sent_event : Outcome → List ℕ
+sent_event outcome = if is_delivered outcome then codes "notice" else codes "failed"
+
+-- what a notice came to
+abbrev pub outcome_word : Outcome → List ℕ
+outcome_word Delivered = codes "delivered"
+outcome_word Refused = codes "refused"
+outcome_word Expired = codes "expired"
+outcome_word Starved = codes "starved"
+
+-- the deadline of a notice whose sending ended after it
+abbrev pub late_members : SentData → List Member
+late_members s = if is_late s then number_at (codes "deadline") s.notice.deadline ∷ [] else []
+
+-- how a sending went: its outcome, how many attempts it took, since when, and the deadline that it missed
+abbrev pub outcome_members : SentData → List Member
+outcome_members s =
+    text_at (codes "outcome") (outcome_word s.outcome) ∷ number_at (codes "attempts") s.report.attempts
+    ∷ number_at (codes "since") s.begin.preview.moment ∷ late_members s
+
+-- the alerts of a notice that fire, and those that are resolved
+abbrev pub content_members : NoticeData → List Member
+content_members n = (codes "firing", sets_data n.firing) ∷ (codes "resolved", sets_data n.resolved) ∷ []
+
+-- a notice whose sending came to its end: to whom, and how it went
+unfoldable pub sending_members : Config → TimeFormatData → SentData → List Member
+sending_members config times s =
+    event_members config times (sent_event s.outcome) s.report.ended s.notice.group
+    ++ integration_members config s.notice.group s.notice.integration ++ outcome_members s
+
+-- the same with the reason that it was sent for, and its alerts
+unfoldable pub sent_members : PlaybackData → TimeFormatData → SentData → Reason → List Member
+sent_members playback times s reason =
+    sending_members playback.config times s ++ sent_reason_members (expiry_before playback s) reason ++ content_members s.notice
+
+-- a begin, of which this is told
+abbrev pub begun_members : Config → TimeFormatData → List ℕ → Preview → List Member
+begun_members config times event o = event_members config times event o.moment o.group
+
+-- the muted alerts of a begin
+abbrev pub muted_member : Preview → Member
+muted_member o = (codes "muted", muted_data o.muted)
+
+-- a begin that some alerts of its group are muted at
+unfoldable pub muted_members : Config → TimeFormatData → Preview → List Member
+muted_members config times o = begun_members config times (codes "muted") o ++ muted_member o ∷ []
+
+-- a begin at which nothing is left of its group: no alerts, or muted ones
+unfoldable pub left_members : Config → TimeFormatData → Preview → List Member
+left_members config times o =
+    begun_members config times (codes "quiet") o ++ text_at (codes "reason") (codes "nothing left") ∷ muted_member o ∷ []
+
+-- a group's receiver that is told nothing, since it has no integrations
+unfoldable pub unasked_members : Config → TimeFormatData → Preview → List Member
+unasked_members config times o =
+    begun_members config times (codes "quiet") o ++ receiver_member config o.group ∷ text_at (codes "reason") (codes "no integrations") ∷ []
+
+-- why an integration is told nothing
+abbrev pub quiet_reason_members : Reason → List Member
+quiet_reason_members reason =
+    if asks reason then text_at (codes "reason") (codes "all resolved, which it isn't sent") ∷ [] else reason_members reason
+
+-- an integration that is told nothing, and why
+unfoldable pub quiet_members : Config → TimeFormatData → Preview → ℕ → Reason → List Member
+quiet_members config times o position reason =
+    begun_members config times (codes "quiet") o ++ integration_members config o.group position ++ quiet_reason_members reason
+
+-- a character of a line: a control character that JSON allows, from U+007F to U+009F, by its number, as `\u0085`
+abbrev pub char_uncontrolled : ℕ → List ℕ
+char_uncontrolled c = if nat_le 127 c && nat_lt c 160 then codes "\\u00" ++ hex_text c else encode_utf8 c
+
+-- a text without control characters: each of its characters
+unfoldable pub uncontrolled : List ℕ → List ℕ
+uncontrolled text = flat_map char_uncontrolled (chars text)
+
+-- the line of an object with these members: its JSON text without blanks, and a line feed
+abbrev pub members_line : Members → List ℕ
+members_line members = uncontrolled (compact_text (object members)) ++ codes "\n"
+
+-- the line of an object into which these members were put
+abbrev pub object_line : List Member → List ℕ
+object_line members = members_line (put_all no_members members)
+
+-- the line on a notice whose sending came to its end, with the reason that was told of its integration; nothing where none was
+abbrev pub json_of_sent : PlaybackData → TimeFormatData → SentData → List ℕ
+json_of_sent playback times s =
+    option_map_or (λ reason. object_line (sent_members playback times s reason))
+    (slice_get s.begin.preview.reasons s.notice.integration) []
+
+-- the line on the muted alerts of a begin, if there are any
+abbrev pub json_of_muted : Config → TimeFormatData → Preview → List ℕ
+json_of_muted config times o = if length o.muted == 0 then [] else object_line (muted_members config times o)
+
+-- the line on an integration at a begin: nothing where there is something to send
+abbrev pub json_of_quiet : Config → TimeFormatData → Preview → List NoticeData → ℕ → Reason → List ℕ
+json_of_quiet config times o notices position reason =
+    if asks reason && not (is_sent_nothing notices position) then [] else object_line (quiet_members config times o position reason)
+
+-- the lines on the integrations from a position on, at a begin
+abbrev pub json_of_reasons : Config → TimeFormatData → Preview → List NoticeData → ℕ → List Reason → List ℕ
+json_of_reasons config times o notices position [] = []
+json_of_reasons config times o notices position (reason ∷ reasons) =
+    json_of_quiet config times o notices position reason ++ json_of_reasons config times o notices (position + 1) reasons
+
+-- the lines on the integrations at a begin at which something is left, or of which there is none
+abbrev pub json_of_asked : Config → TimeFormatData → Preview → List NoticeData → List ℕ
+json_of_asked config times o notices =
+    if length o.reasons == 0 then object_line (unasked_members config times o)
+    else json_of_reasons config times o notices 0 o.reasons
+
+-- the lines on a begin: which alerts are muted, and who is told nothing
+abbrev pub json_of_begun : PlaybackData → TimeFormatData → PreviewedBegin → List ℕ
+json_of_begun playback times begin =
+    if nothing_left begin.preview.reasons then object_line (left_members playback.config times begin.preview)
+    else json_of_muted playback.config times begin.preview
+    ++ json_of_asked playback.config times begin.preview (notices_at playback.history begin.place)
+
+-- the lines on an event
+abbrev pub json_of_event : PlaybackData → TimeFormatData → Event → List ℕ
+json_of_event playback times (Begun begin) = option_map_or (json_of_begun playback times) (slice_get playback.begins begin) []
+json_of_event playback times (Sent begin report) =
+    option_map_or (json_of_sent playback times) (sent_of playback (Sent begin report)) []
+
+-- JSON: the lines on all events
+abbrev pub json_text : PlaybackData → TimeFormatData → List ℕ
+json_text playback times = flat_map (json_of_event playback times) playback.events

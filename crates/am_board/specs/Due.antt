@@ -2,7 +2,7 @@
 use Rattle.std.specs.Prelude.{◌≡◌, ◌<◌, ℕ, Bool, true, false, Option, Some, None, List, All, IsTrue, length, slice_index_or}
 use Rattle.std.specs.List.{list_any, IsDistinct}
 use Rattle.std.specs.Map.{keys_of, values_of}
-use Rattle.std.specs.Ordering.{is_eq, ordering_then, nat_cmp}
+use Rattle.std.specs.Ordering.{is_eq, on, flip_args, then_cmp, nat_cmp}
 use Rattle.std.specs.declared.cmp.Ordering.{Ordering}
 use Rattle.am_model.specs.State.{FlushState, is_flushing, name_cmp, same_name}
 use Rattle.am_model.specs.declared.group.GroupName.{GroupName}
@@ -12,9 +12,9 @@ use Rattle.am_board.specs.declared.group.Group.{Group}
 use Rattle.am_board.specs.GroupList.{name_of}
 use Rattle.am_board.specs.Keyed.{AreKeyed}
 
--- the order of keys: by due moment, then by name
+-- the order of keys: by due moment, then by name, in reverse
 abbrev pub key_cmp : DueKey → DueKey → Ordering
-key_cmp a b = ordering_then (nat_cmp a.due b.due) (name_cmp a.name b.name)
+key_cmp = flip_args (then_cmp (on (λ k. k.due) nat_cmp) (on (λ k. k.name) name_cmp))
 
 -- whether a key is among these
 abbrev pub has_key : List DueKey → DueKey → Bool

@@ -6,6 +6,8 @@ pub mod Board
 pub mod GroupNameCache
 -- the keys of the set of due times, and what the set has while it is complete
 pub mod Due
+-- the laws of the order of those keys
+pub mod DueOrder
 -- the numbers of faults
 pub mod Faults
 -- between the code of a finish or a note and its definition: what it puts into the stored log

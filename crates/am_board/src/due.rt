@@ -5,24 +5,58 @@
 //! the key's time. A call that changes a due time removes the old key, and a maintenance by which
 //! groups go rebuilds the set, so stale keys don't pile up. A finish never allocates, so it doesn't
 //! touch the set: a group with an open flush keeps its key, and a begin passes over it.
-ghost use Rattle.std.specs.Prelude.{◌≡◌, false};
+//!
+//! Why the order is reversed: a tree's node is searched from its first key on. A begin takes the
+//! key that is due first and puts one back that is due late, mostly. At the end the one is taken
+//! without a search, and near the start the place of the other is found by few comparisons.
+ghost use Rattle.std.specs.Prelude.{◌≡◌, ◌-◌, IfSome, Some, false, length, refl, slice_get, true};
 ghost use Rattle.am_model.specs.State.{same_name};
-ghost use Rattle.am_board.specs.Due.{key_at, AreDue, HasKey};
+ghost use Rattle.am_board.specs.Due.{key_at, key_cmp, AreDue, HasKey};
+ghost use Rattle.am_board.specs.DueOrder.{key_cmp_total, key_po, same_key-ties};
 ghost use Rattle.am_board.specs.declared.due.DueKey.{DueKey};
 
 use crate::group::{Group, GroupName};
 use std::alloc::Global;
+use std::cmp::Ordering;
 use std::collections::BTreeSet;
 
-/// The due time of the group of a name. Keys are ordered by time, then by name.
-#[derive(Debug, Drop, PartialEq, Eq, PartialOrd, Ord)]
+/// The due time of the group of a name. Keys are ordered in reverse: the latest time comes first,
+/// and of one time the greatest name.
+#[derive(Debug, Drop, PartialEq, Eq)]
 pub(crate) struct DueKey {
     pub(crate) due: u64,
     pub(crate) name: GroupName,
 }
 
-/// The due times of groups, in order. A key can be stale: its group is gone, or due at another
-/// time.
+impl PartialOrd for DueKey {
+    ghost partial_cmp = { λ a b. Some (key_cmp a b) };
+
+    ghost laws = { key_po };
+
+    fn partial_cmp(&self, other: &DueKey) -> Option<Ordering> {
+        Some(self.cmp(other))
+    }
+}
+
+impl Ord for DueKey {
+    ghost cmp = { key_cmp };
+
+    ghost total = { key_cmp_total };
+
+    ghost matches_partial_cmp = { λ a b. refl };
+
+    ghost matches_eq = { λ a b. same_key-ties a b };
+
+    fn cmp(&self, other: &DueKey) -> Ordering {
+        other
+            .due
+            .cmp(&self.due)
+            .then_with(|| other.name.cmp(&self.name))
+    }
+}
+
+/// The due times of groups, the one that is due first last. A key can be stale: its group is gone,
+/// or due at another time.
 ///
 /// The set only saves time: no call fails because a key lacks memory. The set is incomplete then,
 /// and isn't used until it is rebuilt.
@@ -67,13 +101,41 @@ impl DueSet {
         if from == to || !self.whole {
             return;
         }
+        match self.take(name, from) {
+            Some(mut key) => {
+                key.due = to;
+                self.insert(key);
+            }
+            None => self.lose(),
+        }
+    }
+
+    /// Takes a key out, unless memory lacks.
+    ///
+    /// A begin changes the key that is due first, mostly: it goes without a search.
+    fn take(&mut self, name: &GroupName, due: u64) -> Option<DueKey>
+        ensures key { IfSome result (λ key. key ≡ key_at name.now due) }
+        ensures keeps { (key : DueKey) → same_name key.name name.now ≡ false → HasKey self.old key → HasKey self.new key }
+    {
+        if self.is_last(name, due) {
+            return self.keys.pop_last();
+        }
         let Ok(name) = name.copy(self.alloc) else {
-            return self.lose();
+            return None;
         };
-        let mut key = DueKey { due: from, name };
+        let key = DueKey { due, name };
         self.keys.remove(&key);
-        key.due = to;
-        self.insert(key);
+        Some(key)
+    }
+
+    /// Whether the last key, which is due first, is that of the group of this name.
+    fn is_last(&self, name: &GroupName, due: u64) -> bool
+        ensures { result ≡ true → slice_get self.now.keys.keys (length self.now.keys.keys - 1) ≡ Some (key_at name.now due) }
+    {
+        match self.keys.last() {
+            Some(key) => key.due == due && key.name == *name,
+            None => false,
+        }
     }
 
     /// Drops stale keys after so many groups went, and completes the set if memory allows.

@@ -44,7 +44,7 @@ impl Groups {
 /// Returns the place of the group to take at `t`, by the complete set of keys.
 ///
 /// It is the group of the first key that isn't stale and whose group has no open flush, if it is
-/// due.
+/// due. The key that is due first stands last.
 fn first_by_keys(
     groups: &IndexMap<GroupName, Group>,
     keys: &BTreeSet<DueKey>,
@@ -58,7 +58,7 @@ fn first_by_keys(
     ensures first { IsFirst (values_of groups.now.entries) result
         (first_of (map flush_state flushes.now) t (map group_state (values_of groups.now.entries))) }
 {
-    for key in keys {
+    for key in keys.iter().rev() {
         if key.due > t {
             return None;
         }

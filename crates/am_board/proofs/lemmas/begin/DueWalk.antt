@@ -1,5 +1,5 @@
 -- A walk over keys in order: what the first one that passes tells of all groups.
-use Rattle.std.proofs.Common.{◌≡◌, ℕ, zero, suc, ◌<◌, ◌≤◌, Bool, true, false, true≢false, cond, not, ◌&&◌, ◌||◌, nat_le, Option, Some, None, List, [], ◌∷◌, length, map, filter, get_or, refl, sym, inl, inr, ap, ◌∙◌, arith}
+use Rattle.std.proofs.Common.{◌≡◌, ℕ, zero, suc, ◌<◌, ◌≤◌, Bool, true, false, true≢false, cond, not, ◌&&◌, ◌||◌, nat_le, Option, Some, None, List, [], ◌∷◌, ◌++◌, length, map, filter, get_or, refl, sym, inl, inr, ap, ◌∙◌, arith}
 use Rattle.std.specs.Prelude.{◌⊎◌, All, IsTrue}
 use Rattle.std.specs.List.{AllByRecursion}
 use Rattle.std.specs.List.Sorted.{IsStrictlySortedBy}
@@ -15,10 +15,11 @@ use Rattle.am_model.specs.State.{FlushState, GroupState, is_flushing}
 use Rattle.am_model.proofs.lists.Distinct.{all_to}
 use Rattle.am_board.specs.Beginning.{may_take, first_of}
 use Rattle.am_board.specs.Due.{has_key, key_cmp, key_of, IsCurrent, IsFree}
+use Rattle.am_board.specs.DueOrder.{key_cmp_total}
 use Rattle.am_board.specs.Refinement.{group_state}
 use Rattle.am_board.specs.declared.due.DueKey.{DueKey}
 use Rattle.am_board.specs.declared.group.Group.{Group}
-use Rattle.am_board.proofs.lemmas.invariant.DueKeys.{key_cmp_total, key-is}
+use Rattle.am_board.proofs.lemmas.invariant.DueKeys.{key-is}
 
 -- ---- the least of those that pass, where each of them is one element or behind it
 
@@ -81,38 +82,54 @@ all_states : (P : GroupState → Type 0) (gs : List Group) → AllByRecursion (�
 all_states P [] h = tt
 all_states P (g ∷ gs) h = (h.0, all_states P gs h.1)
 
--- ---- keys in order
-
--- a key that is among those behind another is behind it
-behind_key : (k q : DueKey) (keys : List DueKey) → AllByRecursion (λ y. key_cmp k y ≡ Less) keys → has_key keys q ≡ true → key_cmp k q ≡ Less
-behind_key k q [] h e = absurd (true≢false (sym e))
-behind_key k q (y ∷ ys) h e =
-    elim (is_eq (key_cmp q y)) as (λ b. is_eq (key_cmp q y) ≡ b → (b || has_key ys q) ≡ true → key_cmp k q ≡ Less) [
-      | true ↦ λ tied there. ap (key_cmp k) (key-is q y tied) ∙ h.0
-      | false ↦ λ tied there. behind_key k q ys h.1 there
-    ] refl e
+-- ---- keys in order, where the one that is due first is last
 
 up : (o p : Ordering) (x y : ℕ) → MatchOrdering o (x < y) (x ≡ y) (y < x) → ordering_then o p ≡ Less → x ≤ y
 up Less p x y m e = omega (arith, m)
 up Equal p x y m e = omega (arith, m)
 up Greater p x y m e = absurd (true≢false (ap is_gt e))
 
--- and isn't due earlier
-later_key : (k q : DueKey) → key_cmp k q ≡ Less → k.due ≤ q.due
+-- a key that stands before another isn't due earlier
+later_key : (k q : DueKey) → key_cmp q k ≡ Less → k.due ≤ q.due
 later_key k q h = up (nat_cmp k.due q.due) _ k.due q.due (ranked k.due q.due (nat_cmp k.due q.due) refl) h
 
--- a key that is left is the next one or behind it
-next_or_behind : (k : DueKey) (keys : List DueKey) → IsStrictlySortedBy key_cmp (k ∷ keys) → (q : DueKey) → has_key (k ∷ keys) q ≡ true → (q ≡ k) ⊎ (key_cmp k q ≡ Less)
+-- what holds of a list holds of its last element, and of the others
+last_too : (P : DueKey → Type 0) (k : DueKey) (keys : List DueKey) → AllByRecursion P (keys ++ k ∷ []) → P k
+last_too P k [] h = h.0
+last_too P k (y ∷ ys) h = last_too P k ys h.1
+
+others_too : (P : DueKey → Type 0) (k : DueKey) (keys : List DueKey) → AllByRecursion P (keys ++ k ∷ []) → AllByRecursion P keys
+others_too P k [] h = tt
+others_too P k (y ∷ ys) h = (h.0, others_too P k ys h.1)
+
+-- a key that is left is the last one or stands before it
+next_or_behind : (k : DueKey) (keys : List DueKey) → IsStrictlySortedBy key_cmp (keys ++ k ∷ []) → (q : DueKey)
+    → has_key (keys ++ k ∷ []) q ≡ true → (q ≡ k) ⊎ (key_cmp q k ≡ Less)
 unfolding IsStrictlySortedBy
-next_or_behind k keys sorted q h =
-    elim (is_eq (key_cmp q k)) as (λ b. is_eq (key_cmp q k) ≡ b → (b || has_key keys q) ≡ true → (q ≡ k) ⊎ (key_cmp k q ≡ Less)) [
+next_or_behind k [] sorted q h =
+    elim (is_eq (key_cmp q k)) as (λ b. is_eq (key_cmp q k) ≡ b → (b || false) ≡ true → (q ≡ k) ⊎ (key_cmp q k ≡ Less)) [
       | true ↦ λ tied there. inl (key-is q k tied)
-      | false ↦ λ tied there. inr (behind_key k q keys sorted.0 there)
+      | false ↦ λ tied there. absurd (true≢false (sym there))
+    ] refl h
+next_or_behind k (y ∷ ys) sorted q h =
+    elim (is_eq (key_cmp q y)) as (λ b. is_eq (key_cmp q y) ≡ b → (b || has_key (ys ++ k ∷ []) q) ≡ true → (q ≡ k) ⊎ (key_cmp q k ≡ Less)) [
+      | true ↦ λ tied there. inr (ap (λ x. key_cmp x k) (key-is q y tied) ∙ last_too (λ z. key_cmp y z ≡ Less) k ys sorted.0)
+      | false ↦ λ tied there. next_or_behind k ys sorted.1 q there
     ] refl h
 
-pub rest_sorted : (k : DueKey) (keys : List DueKey) → IsStrictlySortedBy key_cmp (k ∷ keys) → IsStrictlySortedBy key_cmp keys
+pub rest_sorted : (k : DueKey) (keys : List DueKey) → IsStrictlySortedBy key_cmp (keys ++ k ∷ []) → IsStrictlySortedBy key_cmp keys
 unfolding IsStrictlySortedBy
-rest_sorted k keys sorted = sorted.1
+rest_sorted k [] sorted = tt
+rest_sorted k (y ∷ ys) sorted = (others_too (λ z. key_cmp y z ≡ Less) k ys sorted.0, rest_sorted k ys sorted.1)
+
+-- a key that isn't the last one is among the others
+among_others : (k q : DueKey) (keys : List DueKey) → is_eq (key_cmp q k) ≡ false → has_key (keys ++ k ∷ []) q ≡ true → has_key keys q ≡ true
+among_others k q [] apart h = sym (ap (λ b. b || false) apart) ∙ h
+among_others k q (y ∷ ys) apart h =
+    elim (is_eq (key_cmp q y)) as (λ b. (b || has_key (ys ++ k ∷ []) q) ≡ true → (b || has_key ys q) ≡ true) [
+      | true ↦ λ there. refl
+      | false ↦ λ there. among_others k q ys apart there
+    ] h
 
 -- ---- the walk, where these keys are left
 
@@ -137,7 +154,7 @@ module _ (fs : List FlushState) (t : ℕ) (gs : List Group) where
 
   module _ (k : DueKey) (keys : List DueKey) where
     -- the moment of the next key hasn't come
-    pub walk_late : IsStrictlySortedBy key_cmp (k ∷ keys) → t < k.due → AreAhead fs t gs (k ∷ keys) → first_of fs t (map group_state gs) ≡ None
+    pub walk_late : IsStrictlySortedBy key_cmp (keys ++ k ∷ []) → t < k.due → AreAhead fs t gs (keys ++ k ∷ []) → first_of fs t (map group_state gs) ≡ None
     walk_late sorted late ahead =
         nobody (λ j d within.
         not_true (may_take fs t (group_state (get_or gs j d))) (λ may.
@@ -152,21 +169,21 @@ module _ (fs : List FlushState) (t : ℕ) (gs : List Group) where
         due_by g may = leb-true g.due t (and_parts (nat_le g.due t) (not (is_flushing fs g.name)) may).0
 
     -- the next key is passed, since no group that has it may be taken
-    pub walk_passes : IsFree fs gs k None → AreAhead fs t gs (k ∷ keys) → AreAhead fs t gs keys
+    pub walk_passes : IsFree fs gs k None → AreAhead fs t gs (keys ++ k ∷ []) → AreAhead fs t gs keys
     walk_passes passed ahead j d within may =
         let q : DueKey = key_of (get_or gs j d) in
         let closed : not (is_flushing fs q.name) ≡ true = (and_parts (nat_le q.due t) (not (is_flushing fs q.name)) may).1 in
-        elim (is_eq (key_cmp q k)) as (λ b. is_eq (key_cmp q k) ≡ b → (b || has_key keys q) ≡ true → has_key keys q ≡ true) [
-          | true ↦ λ tied there.
+        elim (is_eq (key_cmp q k)) as (λ b. is_eq (key_cmp q k) ≡ b → has_key keys q ≡ true) [
+          | true ↦ λ tied.
               let same : q ≡ k = key-is q k tied in
               let open_now : is_flushing fs q.name ≡ true = ap (λ (x : DueKey). is_flushing fs x.name) same ∙ passed j d within same in
               absurd (true≢false (sym closed ∙ ap not open_now))
-          | false ↦ λ tied there. there
-        ] refl (ahead j d within may)
+          | false ↦ λ tied. among_others k q keys tied (ahead j d within may)
+        ] refl
 
     -- the group of the next key is taken
-    pub walk_takes : (i : ℕ) → IsStrictlySortedBy key_cmp (k ∷ keys) → IsFree fs gs k (Some i) → k.due ≤ t
-        → AreAhead fs t gs (k ∷ keys) → (d : Group) → first_of fs t (map group_state gs) ≡ Some (group_state (get_or gs i d))
+    pub walk_takes : (i : ℕ) → IsStrictlySortedBy key_cmp (keys ++ k ∷ []) → IsFree fs gs k (Some i) → k.due ≤ t
+        → AreAhead fs t gs (keys ++ k ∷ []) → (d : Group) → first_of fs t (map group_state gs) ≡ Some (group_state (get_or gs i d))
     walk_takes i sorted free due ahead d =
         let current : IsCurrent gs k (Some i) = free.0 in
         let closed : is_flushing fs k.name ≡ false = free.1 in
@@ -178,8 +195,8 @@ module _ (fs : List FlushState) (t : ℕ) (gs : List Group) where
         elim (next_or_behind k keys sorted (key_of (get_or gs j e)) (ahead j e within may_too)) [
           | inl same ↦ inl (ap (λ n. group_state (get_or gs n e)) (current.2 j e within same) ∙ ap group_state (get_or_default gs i e d current.0))
           | inr less ↦
-              let ahead_of : key_cmp (key_of g) (key_of (get_or gs j e)) ≡ Less = ap (λ q. key_cmp q (key_of (get_or gs j e))) is ∙ less in
-              inr (ap is_gt (key_cmp_total.antisymm (key_of (get_or gs j e)) (key_of g) ∙ ap ordering_reverse ahead_of), ap is_gt ahead_of)
+              let ahead_of : key_cmp (key_of (get_or gs j e)) (key_of g) ≡ Less = ap (key_cmp (key_of (get_or gs j e))) is ∙ less in
+              inr (ap is_gt (key_cmp_total.antisymm (key_of g) (key_of (get_or gs j e)) ∙ ap ordering_reverse ahead_of), ap is_gt ahead_of)
         ] in
         let stands : get_or (map group_state gs) i (group_state g) ≡ group_state g = get_or-map group_state gs i d (group_state g) current.0 in
         least_is due_cmp (may_take fs t) (group_state g) (map group_state gs) i (omega (arith, current.0, length-map gs group_state)) stands may

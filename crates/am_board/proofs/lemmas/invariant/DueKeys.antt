@@ -1,35 +1,35 @@
 -- Keys of groups: their order, and what the set of them has after a change.
-use Rattle.std.proofs.Common.{◌≡◌, ◌≢◌, ℕ, zero, suc, ◌+◌, ◌<◌, Bool, true, false, true≢false, cond, eqb, Some, List, [], ◌∷◌, ◌++◌, length, get_or, set, slice_get, refl, sym, ap, ◌∙◌, subst, arith, eqb-true, get_or-set_same, get_or-set_other}
-use Rattle.std.specs.Cmp.{IsTotalOrder, unsigned_ties}
+use Rattle.std.proofs.Common.{◌≡◌, ◌≢◌, ℕ, zero, suc, ◌+◌, ◌-◌, ◌<◌, Bool, true, false, true≢false, cond, eqb, Option, Some, None, List, [], ◌∷◌, ◌++◌, length, get_or, set, slice_get, refl, sym, ap, ◌∙◌, subst, arith, eqb-true, get_or-set_same, get_or-set_other}
+use Rattle.std.specs.Cmp.{unsigned_ties}
+use Rattle.std.specs.Prelude.{◌||◌, IfNone, IfSome, unwrap_or}
 use Rattle.std.specs.List.{AllByRecursion, IsDistinct}
 use Rattle.std.specs.Map.{keys_of, values_of}
 use Rattle.std.specs.Ordering.{is_eq, ordering_then, nat_cmp}
 use Rattle.std.specs.declared.cmp.Ordering.{Ordering}
 use Rattle.std.specs.declared.cmp.Ordering.TheVariants.{Less, Equal, Greater}
 use Rattle.std.proofs.Math.ListN.{length-set}
+use Rattle.std.proofs.Math.Seq.{get_or-append_seam}
 use Rattle.std.proofs.lemmas.Bool.{eqb-false}
-use Rattle.std.proofs.lemmas.Cmp.{nat_cmp_total, on_total, then_total}
-use Rattle.std.proofs.lemmas.List.{get_or-map, get_or_default, length-map}
+use Rattle.std.proofs.lemmas.List.{get_or-map, get_or_default, length-append, length-map}
+use Rattle.std.proofs.lemmas.List.Folds.{list_any-append}
+use Rattle.std.proofs.lemmas.Option.{slice_get-get_or}
 use Rattle.std.proofs.lemmas.List.Elements.{All-append, All-cons, All-nil, All-weaker, All-head, All-tail}
 use Rattle.indexmap.specs.Layout.{set_value_at}
 use Rattle.am_model.specs.State.{name_cmp, same_name}
 use Rattle.am_model.specs.declared.group.GroupName.{GroupName}
 use Rattle.am_model.proofs.lists.Alone.{IsAlone, alone-distinct}
 use Rattle.am_model.proofs.states.Alike.{same_name_equiv, same_name-is}
-use Rattle.am_model.proofs.states.InOrder.{name_cmp_total, same_name-ties}
+use Rattle.am_model.proofs.states.InOrder.{same_name-ties}
 use Rattle.am_board.specs.declared.due.DueKey.{DueKey}
 use Rattle.am_board.specs.declared.due.DueSet.{DueSet}
 use Rattle.am_board.specs.declared.group.Group.{Group}
-use Rattle.am_board.specs.Due.{key_at, key_cmp, key_of, HasKey, AreDue, IsTied}
+use Rattle.am_board.specs.Due.{has_key, key_at, key_cmp, key_of, HasKey, AreDue, IsTied}
 use Rattle.am_board.specs.Group.{names_of}
 use Rattle.am_board.specs.GroupList.{name_of}
 use Rattle.am_board.specs.Keyed.{AreKeyed}
 use Rattle.am_board.proofs.lemmas.invariant.Keyed.{value_at, values-set, AreKeyed-set}
 
 -- ---- the order of keys
-
-pub key_cmp_total : IsTotalOrder key_cmp
-key_cmp_total = then_total (on_total (λ (k : DueKey). k.due) nat_cmp_total) (on_total (λ (k : DueKey). k.name) name_cmp_total)
 
 -- one order after another ties only where the second one does
 then_apart : (o p : Ordering) → is_eq p ≡ false → is_eq (ordering_then o p) ≡ false
@@ -40,7 +40,12 @@ then_apart Greater p h = refl
 -- keys of different names differ
 pub other_key : (key : DueKey) (name : GroupName) (due : ℕ) → same_name key.name name ≡ false → is_eq (key_cmp (key_at name due) key) ≡ false
 other_key key name due apart =
-    then_apart (nat_cmp due key.due) (name_cmp name key.name) (sym (same_name-ties name key.name) ∙ (same_name_equiv.symm name key.name ∙ apart))
+    then_apart (nat_cmp key.due due) (name_cmp key.name name) (sym (same_name-ties key.name name) ∙ apart)
+
+pub unlike_key : (key : DueKey) (name : GroupName) (due : ℕ) → same_name key.name name ≡ false → is_eq (key_cmp key (key_at name due)) ≡ false
+unlike_key key name due apart =
+    then_apart (nat_cmp due key.due) (name_cmp name key.name)
+    (sym (same_name-ties name key.name) ∙ (same_name_equiv.symm name key.name ∙ apart))
 
 -- both orders tie where one after the other does
 tied_both : (o p : Ordering) → is_eq (ordering_then o p) ≡ true → (is_eq o ≡ true) × (is_eq p ≡ true)
@@ -51,15 +56,51 @@ tied_both Greater p h = absurd (true≢false (sym h))
 -- keys that tie are one
 pub key-is : (a b : DueKey) → is_eq (key_cmp a b) ≡ true → a ≡ b
 key-is a b tied =
-    let parts = tied_both (nat_cmp a.due b.due) (name_cmp a.name b.name) tied in
-    let due : a.due ≡ b.due = eqb-true a.due b.due (unsigned_ties a.due b.due ∙ parts.0) in
-    let name : a.name ≡ b.name = same_name-is a.name b.name (same_name-ties a.name b.name ∙ parts.1) in
-    λ i. record { due = due i; name = name i }
+    let parts = tied_both (nat_cmp b.due a.due) (name_cmp b.name a.name) tied in
+    let due : b.due ≡ a.due = eqb-true b.due a.due (unsigned_ties b.due a.due ∙ parts.0) in
+    let name : b.name ≡ a.name = same_name-is b.name a.name (same_name-ties b.name a.name ∙ parts.1) in
+    λ i. record { due = sym due i; name = sym name i }
+
+or_nothing : (b : Bool) → (b || false) ≡ b
+or_nothing true = refl
+or_nothing false = refl
 
 -- what was there is there, beside one more
 pub had_or : (b had : Bool) → had ≡ true → cond b true had ≡ true
 had_or true had h = refl
 had_or false had h = h
+
+-- ---- the last key goes
+
+-- the last of a list to which one was appended
+last_is : (keys : List DueKey) (k : DueKey) → slice_get (keys ++ k ∷ []) (length (keys ++ k ∷ []) - 1) ≡ Some k
+last_is keys k =
+    let count = length-append keys (k ∷ []) in
+    let place : length (keys ++ k ∷ []) - 1 ≡ length keys = omega (arith, count) in
+    ap (slice_get (keys ++ k ∷ [])) place
+    ∙ slice_get-get_or (keys ++ k ∷ []) (length keys) k (omega (arith, count))
+    ∙ ap (λ x. Some x) (get_or-append_seam keys k [] k)
+
+-- the key that goes is the one that was last
+pub popped_is : (o : Option DueKey) (old new : List DueKey) (key : DueKey) → slice_get old (length old - 1) ≡ Some key
+    → IfSome o (λ k. old ≡ new ++ k ∷ []) → IfSome o (λ k. k ≡ key)
+popped_is None old new key at removal = tt
+popped_is (Some k) old new key at removal =
+    let last : slice_get old (length old - 1) ≡ Some k = ap (λ (ks : List DueKey). slice_get ks (length ks - 1)) removal ∙ last_is new k in
+    ap (λ (o : Option DueKey). unwrap_or o k) (sym last ∙ at)
+
+-- and other keys stay
+pub popped_keeps : (o : Option DueKey) (old new : List DueKey) (key other : DueKey) → slice_get old (length old - 1) ≡ Some key
+    → IfSome o (λ k. old ≡ new ++ k ∷ []) → IfNone o (new ≡ old) → is_eq (key_cmp other key) ≡ false → has_key new other ≡ has_key old other
+popped_keeps None old new key other at removal same apart = ap (λ (ks : List DueKey). has_key ks other) same
+popped_keeps (Some k) old new key other at removal same apart =
+    let same : k ≡ key = popped_is (Some k) old new key at removal in
+    let is : is_eq (key_cmp other k) ≡ false = ap (λ (x : DueKey). is_eq (key_cmp other x)) same ∙ apart in
+    sym
+    (ap (λ (ks : List DueKey). has_key ks other) removal
+    ∙ list_any-append (λ x. is_eq (key_cmp other x)) new (k ∷ [])
+    ∙ ap (λ b. has_key new other || (b || false)) is
+    ∙ or_nothing (has_key new other))
 
 -- ---- the keys of the first groups
 

@@ -1,4 +1,5 @@
 use Rattle.std.proofs.Common.{map}
+use Rattle.std.specs.Iterator.Adapters.{rev_source}
 use Rattle.std.specs.List.Sorted.{IsStrictlySortedBy}
 use Rattle.std.specs.Map.{values_of}
 use Rattle.am_board.specs.Due.{key_cmp}
@@ -11,5 +12,5 @@ abbrev pub invariant-loop-key : goal.invariant-loop-key
 invariant-loop-key l =
     (goal.iterator-loop-key).can_next l.key-iterator
     × (goal.iterator-loop-key).is_finite l.key-iterator
-    × IsStrictlySortedBy key_cmp l.key-iterator
-    × AreAhead (map flush_state l.flushes) l.t (values_of l.groups.entries) l.key-iterator
+    × IsStrictlySortedBy key_cmp (rev_source l.key-iterator)
+    × AreAhead (map flush_state l.flushes) l.t (values_of l.groups.entries) (rev_source l.key-iterator)

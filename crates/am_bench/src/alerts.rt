@@ -1,8 +1,9 @@
 //! The alerts that are inserted, and the silences of some of them.
+use crate::requests::values;
 use crate::words::{Trouble, both};
 use am_alerts::alert::Alert;
 use am_alerts::labels::{LabelFault, Labels};
-use am_alerts::matcher::{Matcher, MatcherParts, Operator};
+use am_alerts::matcher::Matcher;
 use am_alerts::text::Text;
 use am_mute::silence::Silence;
 use std::alloc::{AllocError, Global};
@@ -108,14 +109,7 @@ pub fn spread(
 
 /// Matches the label sets in which this label has this value, in a list.
 pub fn matchers(alloc: Global, name: &str, value: &str) -> Result<Vec<Matcher>, Trouble> {
-    let matcher = matcher(alloc, name, value)?;
-    Ok(listed(alloc, matcher)?)
-}
-
-fn matcher(alloc: Global, name: &str, value: &str) -> Result<Matcher, Trouble> {
-    let (name, value) = both(text(alloc, name), text(alloc, value))?;
-    let op = Operator::Equal;
-    Matcher::new(alloc, MatcherParts { name, op, value }).map_err(|_| Trouble::NoMemory)
+    Ok(values::matchers(alloc, name, value)?)
 }
 
 /// The text of a name or a value.

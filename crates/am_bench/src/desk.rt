@@ -10,7 +10,7 @@ use am_board::config::{Config, MAX_GROUPS};
 use am_board::fault::{BoardFault, Fault};
 use am_board::notice::Report;
 use am_board::own_ticket::OwnTicket;
-use am_board::record::Maintained;
+use am_board::record::{Forgotten, Maintained};
 use am_mute::silence::Silence;
 use am_retry::Outcome;
 use std::alloc::Global;
@@ -107,6 +107,11 @@ impl Desk {
     /// Removes empty groups and expired rows.
     pub fn maintain(&mut self, alloc: Global, now: u64) -> Result<Maintained, Fault> {
         self.board.maintain(alloc, PASS, now)
+    }
+
+    /// Forgets alerts that are resolved and in no group, and silences that are over.
+    pub fn forget(&mut self, alloc: Global, now: u64) -> Result<Forgotten, Fault> {
+        self.board.forget(alloc, PASS, now)
     }
 }
 

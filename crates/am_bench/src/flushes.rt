@@ -5,7 +5,7 @@ use crate::desk::Desk;
 use crate::piece::{FIRST, SECOND, THIRD, flush, insert};
 use crate::watch::Watch;
 use crate::words::Trouble;
-use am_board::record::Maintained;
+use am_board::record::{Forgotten, Maintained};
 use std::alloc::Global;
 use std::rt::Clock;
 use std::time::CpuClock;
@@ -53,7 +53,7 @@ fn insert_twice(
     insert(rt, alloc, desk, "the same again", 0, same)
 }
 
-/// Inserts the same alerts with an end, flushes them, and collects what is left of them.
+/// Inserts the same alerts with an end, flushes them, collects what is left of them, and forgets them.
 fn end_all(
     rt: &(impl Print + Eprint + Clock + CpuClock),
     alloc: Global,
@@ -64,7 +64,8 @@ fn end_all(
     let ended = spread(alloc, alerts, groups, Some(SECOND))?;
     insert(rt, alloc, desk, "ends", SECOND, ended)?;
     let tally = flush(rt, alloc, desk, "resolved flush", THIRD, alerts)?;
-    collect(rt, alloc, desk, tally.flushed)
+    collect(rt, alloc, desk, tally.flushed)?;
+    forget(rt, alloc, desk, alerts)
 }
 
 /// Has the board drop so many empty groups and the rows of their flushes.
@@ -83,5 +84,24 @@ fn collect(
 fn tell_maintained(rt: &impl Print, maintained: Maintained) -> Result<(), Trouble> {
     let (groups, entries) = (maintained.groups, maintained.entries);
     println!(rt; "maintenance: groups {groups}, rows {entries}")?;
+    Ok(())
+}
+
+/// Has the board forget so many alerts.
+fn forget(
+    rt: &(impl Print + Eprint + Clock + CpuClock),
+    alloc: Global,
+    desk: &mut Desk,
+    alerts: usize,
+) -> Result<(), Trouble> {
+    let watch = Watch::start(rt);
+    let forgotten = desk.forget(alloc, EXPIRED)?;
+    watch.stop(rt, "forgetting", alerts);
+    tell_forgotten(rt, forgotten)
+}
+
+fn tell_forgotten(rt: &impl Print, forgotten: Forgotten) -> Result<(), Trouble> {
+    let (alerts, silences) = (forgotten.alerts, forgotten.silences);
+    println!(rt; "forgetting: alerts {alerts}, silences {silences}")?;
     Ok(())
 }

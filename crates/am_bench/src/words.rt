@@ -51,11 +51,11 @@ impl From<io::Error> for Trouble {
     }
 }
 
-/// Both values, or the first trouble. A value that comes alone is dropped here, so that callers have nothing to drop.
-pub fn both<A: Drop, B: Drop>(
-    one: Result<A, Trouble>,
-    other: Result<B, Trouble>,
-) -> Result<(A, B), Trouble> {
+/// Both values, or the first error. A value that comes alone is dropped here, so that callers have nothing to drop.
+pub fn both<A: Drop, B: Drop, E: Drop>(
+    one: Result<A, E>,
+    other: Result<B, E>,
+) -> Result<(A, B), E> {
     let one = one?;
     Ok((one, other?))
 }

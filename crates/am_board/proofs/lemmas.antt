@@ -1,5 +1,6 @@
 pub mod begin
 pub mod finish
+pub mod forget
 pub mod insert
 pub mod invariant
 pub mod maintain

@@ -1,5 +1,5 @@
 -- Group: stored groups, and the changes of one of them.
-use Rattle.std.specs.Prelude.{◌≡◌, ℕ, ◌+◌, ◌≤◌, ◌⊎◌, List, [], ◌∷◌, ◌++◌, map, length, All}
+use Rattle.std.specs.Prelude.{◌≡◌, ℕ, ◌+◌, ◌≤◌, ◌⊎◌, List, [], ◌∷◌, ◌++◌, map, All}
 use Rattle.std.specs.Prelude.{slice_index_or, slice_set}
 use Rattle.am_alerts.specs.RoutingTree.{RoutingTree, last_of}
 use Rattle.am_model.specs.declared.group.GroupName.{GroupName}

@@ -12,6 +12,8 @@ pub mod DueOrder
 pub mod Faults
 -- between the code of a finish or a note and its definition: what it puts into the stored log
 pub mod Finishing
+-- between the code of a forgetting and its definition: which label sets are in groups
+pub mod Forgetting
 -- stored groups, and the changes of one of them
 pub mod Group
 -- the stored groups, under their names, in the order in which they were made

@@ -3,7 +3,7 @@
 ghost use Rattle.std.specs.Prelude.{◌≡◌, ◌≢◌, ◌↔◌, None, Some, IfOk, IfErr, OnOk, OnErr, IsErrOf};
 ghost use Rattle.std.specs.Option.{option_map};
 ghost use Rattle.am_alerts.specs.Fault.{ok_unless};
-ghost use Rattle.am_model.specs.Causes.{insert_cause, silence_cause, begin_cause, maintain_cause, note_cause};
+ghost use Rattle.am_model.specs.Causes.{insert_cause, silence_cause, begin_cause, maintain_cause, forget_cause, note_cause};
 ghost use Rattle.am_model.specs.Config.{AreAllowed, config_fault};
 ghost use Rattle.am_board.specs.History.{opening, state_at, records_at, IsReplyAt, with_record, reply_of, IsFresh};
 ghost use Rattle.am_board.specs.History.{HandsBack, IsForeign, IsNotOpen};
@@ -17,10 +17,13 @@ use crate::destinations::GroupNameCache;
 use crate::fault::{BoardFault, Fault, FinishFault, NoteFault};
 use crate::finish::finish_flush;
 use crate::flush::find_flush;
+use crate::forget::{forget_idle, renew};
 use crate::insert::put_alert;
 use crate::maintain::sweep;
 use crate::note::note_success;
-use crate::record::{Call, Finished, Inserted, Maintained, Noted, Record, Reply, Silenced};
+use crate::record::{
+    Call, Finished, Forgotten, Inserted, Maintained, Noted, Record, Reply, Silenced,
+};
 use crate::silence::put_silence;
 use crate::state::State;
 use crate::ticket::Ticket;
@@ -287,6 +290,38 @@ impl Board {
         ensures refused { OnErr result (self.new ≡ self.old) }
     {
         sweep(&self.config, &mut self.state, pass, now)
+    }
+
+    /// Forgets the known alerts that are resolved and in no group, and the silences that are over.
+    ///
+    /// An alert is resolved if its end is at or before `now` (milliseconds), a silence is over if
+    /// its end is. A forgotten alert that is inserted again is a new one. A program that runs for
+    /// long calls it now and then, so that no limit of names or silences is reached by what is over
+    /// (Alertmanager's GC of alerts and of silences).
+    ///
+    /// # Errors
+    ///
+    /// In this order, and each changes nothing: `HistoryFull`, then `NoMemory`.
+    ///
+    /// Cost: one look-up for each alert of a group, and for each resolved one. Where an alert went,
+    /// the others are learned anew as inhibition sources.
+    pub fn forget(&mut self, alloc: Global, pass: u32, now: u64) -> Result<Forgotten, Fault>
+        ensures recorded { IfOk result
+            (λ forgotten. self.new ≡ with_record self.old (entry pass (Call.Forget now) (Reply.Forgotten forgotten))) }
+        ensures reply { IfOk result (λ forgotten. IsReplyAt self.old (Call.Forget now) (Reply.Forgotten forgotten)) }
+        ensures cause { IsCaused (forget_cause self.old.config (records_at self.old) (state_at self.old)) result }
+        ensures refused { OnErr result (self.new ≡ self.old) }
+    {
+        let forgotten = forget_idle(alloc, &self.config, &mut self.state, pass, now)?;
+        renew(
+            alloc,
+            &self.config,
+            self.state.known.as_slice(),
+            forgotten.alerts,
+            &mut self.sources,
+            &mut self.destinations,
+        );
+        Ok(forgotten)
     }
 
     /// Returns the configuration, which `Config::check` accepts.

@@ -1,4 +1,5 @@
-//! The names of the groups that known alerts go to. `insert` fills and reads this cache.
+//! The names of the groups that known alerts go to. `insert` fills and reads this cache. `forget`
+//! empties it where an alert goes, since names are by place.
 //!
 //! A name in it is the group's own shared copy where the group exists. It is not replaced when the
 //! group goes: the next group of that name takes it over. A group is found by its name each time,

@@ -1,16 +1,16 @@
 //! Known alerts: a table by label set. Contracts see it as the list in the order of arrival, so a
-//! look-up is `position` and a put is `upsert` of the definitions. `insert` changes it; nothing
-//! removes an alert.
+//! look-up is `position` and a put is `upsert` of the definitions. `insert` and `forget` change it.
 //!
 //! Invariant: each alert is under its labels.
-ghost use Rattle.std.specs.Prelude.{◌≡◌, ◌<◌, ◌≤◌, [], length, position, slice_index_or, IfSome, OnOk};
+ghost use Rattle.std.specs.Prelude.{◌≡◌, ◌<◌, ◌≤◌, [], count_by, length, not, position, slice_index_or, IfSome, OnOk};
 ghost use Rattle.am_alerts.specs.Labels.{same_label_set};
+ghost use Rattle.am_board.specs.Forgetting.{is_idle_but_for};
 ghost use Rattle.am_model.specs.Insert.{same_alert};
-ghost use Rattle.am_model.specs.Lists.{upsert};
+ghost use Rattle.am_model.specs.Lists.{upsert, without};
 
 use am_alerts::alert::Alert;
 use am_alerts::labels::Labels;
-use indexmap::IndexMap;
+use indexmap::{IndexMap, IndexSet};
 use std::alloc::{AllocError, Global};
 use std::marker::Model;
 
@@ -96,4 +96,26 @@ impl Known {
             }
         }
     }
+
+    /// Removes the alerts that are resolved at `t` and whose label set isn't one of these. Returns
+    /// how many.
+    pub(crate) fn drop_idle(&mut self, sets: &IndexSet<Labels>, t: u64) -> usize
+        ensures items { self.new.items ≡ without (is_idle_but_for sets.now.keys t) self.old.items }
+        ensures count { result ≡ count_by (is_idle_but_for sets.now.keys t) self.old.items }
+    {
+        let before = self.alerts.len();
+        self.alerts.retain(
+            |_labels: &Labels, alert: &mut Alert| -> bool
+                ensures { (result ≡ not (is_idle_but_for sets.entry.now.keys t alert.old)) × (alert.new ≡ alert.old) }
+            { !is_idle(alert, sets, t) },
+        );
+        before - self.alerts.len()
+    }
+}
+
+/// Whether an alert is resolved at `t`, and its label set isn't one of these.
+fn is_idle(alert: &Alert, sets: &IndexSet<Labels>, t: u64) -> bool
+    ensures { result ≡ is_idle_but_for sets.now.keys t alert.now }
+{
+    alert.resolved_at(t) && !sets.contains(alert.labels())
 }

@@ -10,8 +10,8 @@
 //!   tables as plain lists in the order of arrival, with their capacity.
 //! - `due`, `order`, `destinations`: indexes and caches, which only save time. No contract above
 //!   them mentions them.
-//! - `insert`, `silence`, `begin` (with `unmuted`, `dedup`, `plan`), `note`, `finish`, `maintain`:
-//!   one module for each call, named after it.
+//! - `insert`, `silence`, `begin` (with `unmuted`, `dedup`, `plan`), `note`, `finish`, `maintain`,
+//!   `forget`: one module for each call, named after it.
 //!
 //! Each module of a call has one function over the plain state with the exact contract. It relies
 //! on `StateInvariant` and ensures `AppliesCall` or `LeavesUnchanged` (specs/Step.antt). The
@@ -29,6 +29,7 @@ mod due;
 pub mod fault;
 mod finish;
 mod flush;
+mod forget;
 pub mod group;
 mod groups;
 pub mod history;

@@ -8,3 +8,7 @@ pub mod Names
 pub mod Decoding
 -- texts of matchers: what is written plainly, with a quote or with an escape
 pub mod MatcherTexts
+-- a JSON value tells one matcher, one rule, one configuration at most
+pub mod Once
+-- what a configuration without a fault has, and one whose matchers look for no pattern
+pub mod Configured

@@ -1,26 +1,29 @@
 -- What the JSON value of a configuration tells, a line for each member.
-use Rattle.std.specs.Prelude.{◌≡◌, ℕ, List, [], ◌∷◌, Some, true, false, codes, MatchOption}
+use Rattle.std.specs.Prelude.{◌≡◌, ◌≤◌, ◌++◌, ◌&&◌, ℕ, Bool, List, [], ◌∷◌, Some, None, true, false, codes, length, IsTrue, MatchOption}
 use Rattle.std.specs.Borrow.{Bor}
-use Rattle.std.specs.List.{list_any}
+use Rattle.std.specs.List.{list_all, list_any}
 use Rattle.std.specs.Str.{bytes_eq}
 use Rattle.serde_json.specs.Data.{Data, no_items, item, string, Members, no_members, member}
 use Rattle.serde_json.specs.Find.{as_array, as_object, as_str}
-use Rattle.am_alerts.specs.Labels.{IsReadOf, labels_in}
-use Rattle.am_alerts.specs.RoutingTree.{tree_of}
+use Rattle.am_alerts.specs.Labels.{IsReadOf, labels_in, read_fault}
+use Rattle.am_alerts.specs.Matcher.{compare_texts, has_pattern, matcher_fault}
+use Rattle.am_alerts.specs.RoutingTree.{children_of, level_fault, tree_of}
 use Rattle.am_alerts.specs.declared.labels.Label.{Label}
+use Rattle.am_alerts.specs.declared.limits.TheConstants.{MAX_MATCHERS, MAX_NAMES}
 use Rattle.am_alerts.specs.declared.matcher.MatcherParts.{MatcherParts}
 use Rattle.am_alerts.specs.declared.route.Child.{Child}
 use Rattle.am_alerts.specs.declared.route.GroupBy.{GroupBy}
 use Rattle.am_alerts.specs.declared.route.GroupBy.TheVariants.{All, Names}
 use Rattle.am_alerts.specs.declared.route.Route.{Route}
-use Rattle.am_model.specs.Config.{greatest_limits}
+use Rattle.am_model.specs.Config.{config_fault, greatest_limits}
 use Rattle.am_model.specs.declared.config.Config.{Config}
 use Rattle.am_model.specs.declared.config.Integration.{Integration}
 use Rattle.am_model.specs.declared.config.Limits.{Limits}
 use Rattle.am_model.specs.declared.config.Receiver.{Receiver}
-use Rattle.am_mute.specs.Inhibit.{RuleData}
-use Rattle.am_cli.specs.Decoding.{IsText, IsFlag, IsNumber, IsDuration, IsInterval, IsList, Has, HasOr}
+use Rattle.am_mute.specs.Inhibit.{RuleData, rule_fault}
+use Rattle.am_cli.specs.Decoding.{IsText, IsFlag, IsNumber, IsDuration, IsInterval, IsList, IsObject, Has, HasOr}
 use Rattle.am_cli.specs.MatcherText.{IsMatcherText, operator_text}
+use Rattle.am_cli.specs.Read.{has_only}
 use Rattle.am_cli.specs.declared.reader.Dialect.{Dialect}
 use Rattle.am_cli.specs.declared.reader.Dialect.TheVariants.{Lenient, Strict}
 
@@ -38,10 +41,11 @@ abbrev pub DecodesToPairs : Dialect → Data → List (Bor (List ℕ) × Bor (Li
 DecodesToPairs Lenient value pairs = IsList IsPair value pairs
 DecodesToPairs Strict value pairs = MatchOption (as_object value) (IsList IsPair value pairs) (λ members. members ≡ text_members pairs)
 
--- the labels of these pairs, of which those without a value are dropped
+-- the labels of these pairs, which have no fault; those without a value are dropped
 pub record DecodesToLabels (dialect : Dialect) (value : Data) (labels : List Label) : Type 0 where
   pub pairs : List (Bor (List ℕ) × Bor (List ℕ))
   pub written : DecodesToPairs dialect value pairs
+  pub sound : read_fault (labels_in pairs) ≡ None
   pub read : IsReadOf (labels_in pairs) labels
 
 -- a name, an operator and a value: an array of three texts
@@ -49,24 +53,43 @@ abbrev pub IsMatcher : Data → MatcherParts → Type 0
 IsMatcher value m = as_array value ≡ Some (item (string m.name) (item (string (operator_text m.op)) (item (string m.value) no_items)))
 
 -- in the strict dialect one text can stand for a matcher too
-abbrev pub DecodesToMatcher : Dialect → Data → MatcherParts → Type 0
-DecodesToMatcher Lenient value m = IsMatcher value m
-DecodesToMatcher Strict value m = MatchOption (as_str value) (IsMatcher value m) (λ text. IsMatcherText text m)
+abbrev pub IsMatcherIn : Dialect → Data → MatcherParts → Type 0
+IsMatcherIn Lenient value m = IsMatcher value m
+IsMatcherIn Strict value m = MatchOption (as_str value) (IsMatcher value m) (λ text. IsMatcherText text m)
 
-pub record DecodesToRule (dialect : Dialect) (value : Data) (rule : RuleData) : Type 0 where
-  pub members : Members
-  pub object : as_object value ≡ Some members
+-- parts of which a matcher can be made
+pub record IsSound (m : MatcherParts) : Type 0 where
+  pub faultless : matcher_fault m ≡ None
+  pub pattern : IsTrue (has_pattern m)
+
+pub record DecodesToMatcher (dialect : Dialect) (value : Data) (m : MatcherParts) : Type 0 where
+  pub written : IsMatcherIn dialect value m
+  pub sound : IsSound m
+
+-- what the members of an inhibition rule tell
+pub record HasRule (dialect : Dialect) (members : Members) (rule : RuleData) : Type 0 where
+  pub only : IsTrue (has_only dialect (codes "source" ∷ codes "target" ∷ codes "equal" ∷ []) members)
   pub source : HasOr (IsList (DecodesToMatcher dialect)) [] (codes "source") members rule.source
   pub target : HasOr (IsList (DecodesToMatcher dialect)) [] (codes "target") members rule.target
   pub equal : HasOr (IsList IsText) [] (codes "equal") members rule.equal
+  pub sound : rule_fault rule ≡ None
+
+abbrev pub DecodesToRule : Dialect → Data → RuleData → Type 0
+DecodesToRule dialect value rule = IsObject (HasRule dialect) value rule
+
+-- whether no matcher of a rule looks for a pattern
+abbrev pub rule_compares_texts : RuleData → Bool
+rule_compares_texts rule = compare_texts rule.source && compare_texts rule.target
 
 -- what stands in `group_by` for all labels, and alone
 abbrev pub all_labels : List ℕ
 all_labels = codes "..."
 
+-- the labels by which a route groups: all, or those of some names
 abbrev pub IsGroupBy : Data → GroupBy → Type 0
 IsGroupBy value All = as_array value ≡ Some (item (string all_labels) no_items)
-IsGroupBy value (Names names) = IsList IsText value names × (list_any (λ name. bytes_eq name all_labels) names ≡ false)
+IsGroupBy value (Names names) =
+    IsList IsText value names × (list_any (λ name. bytes_eq name all_labels) names ≡ false) × (length names ≤ MAX_NAMES)
 
 -- what the root and its children have alike: all of a route but its name
 pub record DecodesToOptions (members : Members) (route : Route) : Type 0 where
@@ -76,49 +99,89 @@ pub record DecodesToOptions (members : Members) (route : Route) : Type 0 where
   pub group_interval : HasOr IsInterval 300000 (codes "group_interval") members route.group_interval
   pub repeat_interval : HasOr IsInterval 14400000 (codes "repeat_interval") members route.repeat_interval
 
-pub record DecodesToRoot (value : Data) (route : Route) : Type 0 where
-  pub members : Members
-  pub object : as_object value ≡ Some members
+-- the names of these members
+abbrev pub option_names : List (List ℕ)
+option_names =
+    codes "receiver" ∷ codes "group_by" ∷ codes "group_wait" ∷ codes "group_interval" ∷ codes "repeat_interval" ∷ []
+
+-- what the members of the root tell
+pub record HasRoot (dialect : Dialect) (members : Members) (route : Route) : Type 0 where
+  pub only : IsTrue (has_only dialect option_names members)
   pub options : DecodesToOptions members route
   pub name : route.name ≡ codes "root"
 
-pub record DecodesToChild (dialect : Dialect) (value : Data) (child : Child) : Type 0 where
-  pub members : Members
-  pub object : as_object value ≡ Some members
+abbrev pub DecodesToRoot : Dialect → Data → Route → Type 0
+DecodesToRoot dialect value route = IsObject (HasRoot dialect) value route
+
+-- what the members of a child tell
+pub record HasChild (dialect : Dialect) (members : Members) (child : Child) : Type 0 where
+  pub only : IsTrue (has_only dialect (option_names ++ codes "name" ∷ codes "matchers" ∷ codes "continue" ∷ []) members)
   pub options : DecodesToOptions members child.route
   pub name : Has IsText (codes "name") members child.route.name
   pub matchers : HasOr (IsList (DecodesToMatcher dialect)) [] (codes "matchers") members child.matchers
+  pub few : length child.matchers ≤ MAX_MATCHERS
   pub goes_on : HasOr IsFlag false (codes "continue") members child.goes_on
 
-pub record DecodesToIntegration (value : Data) (integration : Integration) : Type 0 where
-  pub members : Members
-  pub object : as_object value ≡ Some members
+abbrev pub DecodesToChild : Dialect → Data → Child → Type 0
+DecodesToChild dialect value child = IsObject (HasChild dialect) value child
+
+-- what the members of an integration tell
+pub record HasIntegration (dialect : Dialect) (members : Members) (integration : Integration) : Type 0 where
+  pub only : IsTrue (has_only dialect (codes "kind" ∷ codes "send_resolved" ∷ []) members)
   pub kind : Has IsText (codes "kind") members integration.kind
   pub send_resolved : HasOr IsFlag true (codes "send_resolved") members integration.send_resolved
 
-pub record DecodesToReceiver (value : Data) (receiver : Receiver) : Type 0 where
-  pub members : Members
-  pub object : as_object value ≡ Some members
-  pub name : Has IsText (codes "name") members receiver.name
-  pub integrations : Has (IsList DecodesToIntegration) (codes "integrations") members receiver.integrations
+abbrev pub DecodesToIntegration : Dialect → Data → Integration → Type 0
+DecodesToIntegration dialect value integration = IsObject (HasIntegration dialect) value integration
 
-pub record DecodesToLimits (value : Data) (limits : Limits) : Type 0 where
-  pub members : Members
-  pub object : as_object value ≡ Some members
+-- what the members of a receiver tell
+pub record HasReceiver (dialect : Dialect) (members : Members) (receiver : Receiver) : Type 0 where
+  pub only : IsTrue (has_only dialect (codes "name" ∷ codes "integrations" ∷ []) members)
+  pub name : Has IsText (codes "name") members receiver.name
+  pub integrations : Has (IsList (DecodesToIntegration dialect)) (codes "integrations") members receiver.integrations
+
+abbrev pub DecodesToReceiver : Dialect → Data → Receiver → Type 0
+DecodesToReceiver dialect value receiver = IsObject (HasReceiver dialect) value receiver
+
+-- the names of limits
+abbrev pub limit_names : List (List ℕ)
+limit_names = codes "names" ∷ codes "groups" ∷ codes "silences" ∷ codes "flushes" ∷ codes "history" ∷ []
+
+-- what the members of limits tell
+pub record HasLimits (dialect : Dialect) (members : Members) (limits : Limits) : Type 0 where
+  pub only : IsTrue (has_only dialect limit_names members)
   pub names : HasOr IsNumber greatest_limits.names (codes "names") members limits.names
   pub groups : HasOr IsNumber greatest_limits.groups (codes "groups") members limits.groups
   pub silences : HasOr IsNumber greatest_limits.silences (codes "silences") members limits.silences
   pub flushes : HasOr IsNumber greatest_limits.flushes (codes "flushes") members limits.flushes
   pub history : HasOr IsNumber greatest_limits.history (codes "history") members limits.history
 
-pub record DecodesToConfig (dialect : Dialect) (value : Data) (config : Config) : Type 0 where
-  pub members : Members
-  pub object : as_object value ≡ Some members
+abbrev pub DecodesToLimits : Dialect → Data → Limits → Type 0
+DecodesToLimits dialect value limits = IsObject (HasLimits dialect) value limits
+
+-- the names of the members of a configuration
+abbrev pub config_names : List (List ℕ)
+config_names =
+    codes "retention" ∷ codes "limits" ∷ codes "receivers" ∷ codes "route" ∷ codes "children" ∷ codes "inhibit" ∷ []
+
+-- what the members of a configuration tell, whether or not a dispatcher may have it
+pub record HasParts (dialect : Dialect) (members : Members) (config : Config) : Type 0 where
+  pub only : IsTrue (has_only dialect config_names members)
   pub retention : HasOr IsDuration 432000000 (codes "retention") members config.retention
-  pub limits : HasOr DecodesToLimits greatest_limits (codes "limits") members config.limits
-  pub receivers : Has (IsList DecodesToReceiver) (codes "receivers") members config.receivers
-  pub root : Has DecodesToRoot (codes "route") members config.routes.root
+  pub limits : HasOr (DecodesToLimits dialect) greatest_limits (codes "limits") members config.limits
+  pub receivers : Has (IsList (DecodesToReceiver dialect)) (codes "receivers") members config.receivers
+  pub root : Has (DecodesToRoot dialect) (codes "route") members config.routes.root
   pub children : List Child
   pub listed : HasOr (IsList (DecodesToChild dialect)) [] (codes "children") members children
   pub tree : config.routes ≡ tree_of config.routes.root children
+  pub sound : level_fault config.routes ≡ None
   pub rules : HasOr (IsList (DecodesToRule dialect)) [] (codes "inhibit") members config.rules
+
+pub record DecodesToConfig (dialect : Dialect) (value : Data) (config : Config) : Type 0 where
+  pub parts : IsObject (HasParts dialect) value config
+  pub sound : config_fault config ≡ None
+
+-- whether no matcher of a configuration looks for a pattern
+abbrev pub config_compares_texts : Config → Bool
+config_compares_texts config =
+    list_all (λ c. compare_texts c.matchers) (children_of config.routes) && list_all rule_compares_texts config.rules

@@ -1,7 +1,7 @@
 -- What JSON values tell: texts, numbers, answers, lists, and members with what stands for one that isn't there.
 use Rattle.std.specs.Prelude.{◌≡◌, ℕ, Bool, List, [], ◌∷◌, Option, Some, None, IsSomeAnd, MatchOption, codes}
 use Rattle.serde_json.specs.Data.{Data, Items, no_items, item, Members}
-use Rattle.serde_json.specs.Find.{as_array, as_bool, as_str, get_member}
+use Rattle.serde_json.specs.Find.{as_array, as_bool, as_object, as_str, get_member}
 use Rattle.am_cli.specs.Read.{number_in, duration_in, interval_in}
 use Rattle.am_retry.specs.declared.outcome.Answer.{Answer}
 use Rattle.am_retry.specs.declared.outcome.Answer.TheVariants.{Done, Again, Never}
@@ -43,6 +43,10 @@ DecodeEach decodes_to (item value values) (x ∷ xs) = decodes_to value x × Dec
 -- an array of what tells the items of a list
 abbrev pub IsList : {X : Type 0} → (Data → X → Type 0) → Data → List X → Type 0
 IsList decodes_to value xs = MatchOption (as_array value) ⊥ (λ items. DecodeEach decodes_to items xs)
+
+-- an object whose members tell this
+abbrev pub IsObject : {X : Type 0} → (Members → X → Type 0) → Data → X → Type 0
+IsObject has value x = MatchOption (as_object value) ⊥ (λ members. has members x)
 
 -- the member of this name is there, and tells this
 abbrev pub Has : {X : Type 0} → (Data → X → Type 0) → List ℕ → Members → X → Type 0

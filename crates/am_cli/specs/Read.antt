@@ -1,23 +1,25 @@
 -- What a reader is at, and how it refuses.
-use Rattle.std.specs.Prelude.{◌≡◌, ◌==◌, ℕ, Bool, List, Option, None, Some, String, if◌then◌else◌}
-use Rattle.std.specs.Prelude.{option_and_then, option_map, string_bytes, IsUtf8}
+use Rattle.std.specs.Prelude.{◌≡◌, ◌==◌, ◌&&◌, ℕ, Bool, true, false, List, Option, None, Some, String, if◌then◌else◌}
+use Rattle.std.specs.Prelude.{option_and_then, option_map, IsTrue, IsUtf8}
 use Rattle.std.specs.Borrow.{Bor}
-use Rattle.std.specs.List.{list_all, list_any}
+use Rattle.std.specs.List.{list_any}
 use Rattle.std.specs.Result.{result_ok}
 use Rattle.std.specs.Str.{bytes_eq}
 use Rattle.std.specs.declared.alloc.Global.{Global}
-use Rattle.serde_json.specs.Data.{Data}
+use Rattle.serde_json.specs.Data.{Data, Members, no_members, member}
 use Rattle.serde_json.specs.Events.{items_len}
 use Rattle.serde_json.specs.Find.{as_array, as_number, as_str, as_u64}
 use Rattle.serde_json.specs.Read.{read}
 use Rattle.serde_json.specs.declared.value.Value.{Value}
 use Rattle.am_alerts.specs.Duration.{duration_of, within_limit}
+use Rattle.am_alerts.specs.Labels.{stands_in}
 use Rattle.am_cli.specs.declared.fault.InputFault.{InputFault}
 use Rattle.am_cli.specs.declared.fault.InputFault.TheVariants.{Refused, NoMemory}
 use Rattle.am_cli.specs.declared.fault.ParseFault.{ParseFault}
 use Rattle.am_cli.specs.declared.fault.ParseFault.TheVariants as parse
 use Rattle.am_cli.specs.declared.fault.FaultKind.{FaultKind}
 use Rattle.am_cli.specs.declared.reader.Dialect.{Dialect}
+use Rattle.am_cli.specs.declared.reader.Dialect.TheVariants.{Lenient, Strict}
 
 -- a JSON value, and the dialect in which it is read
 pub record ReaderData : Type 0 where
@@ -45,6 +47,15 @@ interval_in value = option_and_then (λ duration. if duration == 0 then None els
 abbrev pub HasItems : Data → ℕ → Type 0
 HasItems value count = option_map items_len (as_array value) ≡ Some count
 
+-- whether a fault refuses a value; the other is want of memory
+abbrev pub is_refusal : InputFault → Bool
+is_refusal (Refused place by) = true
+is_refusal NoMemory = false
+
+-- a value that is refused tells none of these; want of memory says nothing of it
+abbrev pub Excludes : {X : Type 0} → (X → Type 0) → InputFault → Type 0
+Excludes {X = X} Tells fault = IsTrue (is_refusal fault) → (x : X) → Tells x → ⊥
+
 -- refused by this kind of fault, or for want of memory to tell the place
 abbrev pub IsRefusedBy : FaultKind → InputFault → Type 0
 IsRefusedBy fault_kind (Refused place by) = by ≡ fault_kind
@@ -67,6 +78,12 @@ RefusesText input parse.NoMemory = Unit {0}
 abbrev pub is_one_of : List (Bor (List ℕ)) → List ℕ → Bool
 is_one_of names name = list_any (λ known. bytes_eq known.now name) names
 
--- whether the name of each of these members is one of these
-abbrev pub are_named : List (Bor (List ℕ)) → List (String Global × Value) → Bool
-are_named names members = list_all (λ m. is_one_of names (string_bytes m.0)) members
+-- whether each member has one of these names
+abbrev pub are_named : List (List ℕ) → Members → Bool
+are_named names no_members = true
+are_named names (member name value rest) = stands_in name names && are_named names rest
+
+-- whether the names of members are known: in the strict dialect each has one of these names
+abbrev pub has_only : Dialect → List (List ℕ) → Members → Bool
+has_only Lenient names ms = true
+has_only Strict names ms = are_named names ms

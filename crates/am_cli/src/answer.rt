@@ -5,9 +5,12 @@ use am_retry::Answer;
 
 /// The word for an answer: `done`, `again` or `never`.
 impl<'v> FromJson<'v> for Answer {
+    ghost use Rattle.std.specs.Prelude.{true};
     ghost use Rattle.am_cli.specs.Decoding.{IsAnswer};
 
     ghost decodes_to = { λ dialect value answer. IsAnswer value answer };
+
+    ghost never_refused = { λ _. true };
 
     fn read(reader: &Reader<'v, '_>) -> Result<Answer, InputFault> {
         match reader.text()? {

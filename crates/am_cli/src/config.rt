@@ -4,11 +4,12 @@
 //! fails, `refusal` looks for the pointer of the fault. So a retention of zero is a fault of the
 //! whole configuration, and a `group_interval` or `repeat_interval` of zero is one of its own
 //! value.
-ghost use Rattle.std.specs.Prelude.{◌≡◌, IfOk, None, codes};
-ghost use Rattle.am_alerts.specs.RoutingTree.{tree_of};
+ghost use Rattle.std.specs.Prelude.{◌≡◌, ◌≢◌, IfErr, IfOk, IsTrue, None, codes};
+ghost use Rattle.am_alerts.specs.RoutingTree.{level_fault, tree_of};
 ghost use Rattle.am_model.specs.Config.{config_fault, greatest_limits};
-ghost use Rattle.am_cli.specs.Configured.{DecodesToConfig, DecodesToLimits};
-ghost use Rattle.am_cli.specs.Decoding.{IsNumber, HasOr};
+ghost use Rattle.am_cli.specs.Configured.{DecodesToConfig, DecodesToLimits, HasParts, config_compares_texts};
+ghost use Rattle.am_cli.specs.Decoding.{IsNumber, IsObject, HasOr};
+ghost use Rattle.am_cli.specs.Read.{Excludes};
 ghost use Rattle.serde_json.specs.View.{members_view, view};
 
 use crate::duration::duration_or;
@@ -29,6 +30,8 @@ const RETENTION: u64 = 432_000_000;
 pub fn read_config(reader: &Reader<'_, '_>) -> Result<Config, InputFault>
     ensures fault { IfOk result (λ config. config_fault config ≡ None) }
     ensures told { IfOk result (DecodesToConfig reader.now.dialect (view reader.now.value)) }
+    ensures refused { IfErr result (Excludes (λ config.
+        DecodesToConfig reader.now.dialect (view reader.now.value) config × IsTrue (config_compares_texts config))) }
 {
     let config = read_parts(reader)?;
     match config.check() {
@@ -39,7 +42,9 @@ pub fn read_config(reader: &Reader<'_, '_>) -> Result<Config, InputFault>
 
 /// Reads the parts of a configuration.
 fn read_parts(reader: &Reader<'_, '_>) -> Result<Config, InputFault>
-    ensures { IfOk result (DecodesToConfig reader.now.dialect (view reader.now.value)) }
+    ensures told { IfOk result (IsObject (HasParts reader.now.dialect) (view reader.now.value)) }
+    ensures refused { IfErr result (Excludes (λ config.
+        DecodesToConfig reader.now.dialect (view reader.now.value) config × IsTrue (config_compares_texts config))) }
 {
     let config = reader.object()?;
     config.only(&[
@@ -76,7 +81,9 @@ fn make_routes(
     root: Route,
     children: Vec<Child>,
 ) -> Result<Routes, InputFault>
-    ensures { IfOk result (λ routes. routes ≡ tree_of root children.items) }
+    ensures made { IfOk result (λ routes. routes ≡ tree_of root children.items) }
+    ensures sound { IfOk result (λ routes. level_fault routes ≡ None) }
+    ensures refused { IfErr result (λ _. level_fault (tree_of root children.items) ≢ None) }
 {
     if children.len() > MAX_CHILDREN {
         return Err(refuse_routes(reader, RouteFault::TooMany));
@@ -89,7 +96,10 @@ fn make_routes(
 
 /// The limits of a configuration, or the greatest where it tells none.
 fn read_limits(config: &Object<'_, '_>) -> Result<Limits, InputFault>
-    ensures { IfOk result (HasOr DecodesToLimits greatest_limits (codes "limits") (members_view config.now.members)) }
+    ensures told { IfOk result (HasOr (DecodesToLimits config.now.dialect) greatest_limits (codes "limits")
+        (members_view config.now.members)) }
+    ensures refused { IfErr result (Excludes (HasOr (DecodesToLimits config.now.dialect) greatest_limits (codes "limits")
+        (members_view config.now.members))) }
 {
     match config.optional("limits") {
         None => Ok(Limits::default()),
@@ -98,7 +108,11 @@ fn read_limits(config: &Object<'_, '_>) -> Result<Limits, InputFault>
 }
 
 impl<'v> FromJson<'v> for Limits {
-    ghost decodes_to = { λ dialect value limits. DecodesToLimits value limits };
+    ghost use Rattle.std.specs.Prelude.{true};
+
+    ghost decodes_to = { λ dialect value limits. DecodesToLimits dialect value limits };
+
+    ghost never_refused = { λ _. true };
 
     fn read(reader: &Reader<'v, '_>) -> Result<Limits, InputFault> {
         let limits = reader.object()?;
@@ -115,15 +129,19 @@ impl<'v> FromJson<'v> for Limits {
 }
 
 fn read_limit(limits: &Object<'_, '_>, name: &str, absent: usize) -> Result<usize, InputFault>
-    ensures { IfOk result (HasOr IsNumber absent name.now (members_view limits.now.members)) }
+    ensures told { IfOk result (HasOr IsNumber absent name.now (members_view limits.now.members)) }
+    ensures refused { IfErr result (Excludes (HasOr IsNumber absent name.now (members_view limits.now.members))) }
 {
     Ok(limits.number_or(name, absent as u64)? as usize)
 }
 
 impl<'v> FromJson<'v> for Receiver {
     ghost use Rattle.am_cli.specs.Configured.{DecodesToReceiver};
+    ghost use Rattle.std.specs.Prelude.{true};
 
-    ghost decodes_to = { λ dialect value receiver. DecodesToReceiver value receiver };
+    ghost decodes_to = { λ dialect value receiver. DecodesToReceiver dialect value receiver };
+
+    ghost never_refused = { λ _. true };
 
     fn read(reader: &Reader<'v, '_>) -> Result<Receiver, InputFault> {
         let receiver = reader.object()?;
@@ -139,8 +157,11 @@ impl<'v> FromJson<'v> for Receiver {
 
 impl<'v> FromJson<'v> for Integration {
     ghost use Rattle.am_cli.specs.Configured.{DecodesToIntegration};
+    ghost use Rattle.std.specs.Prelude.{true};
 
-    ghost decodes_to = { λ dialect value integration. DecodesToIntegration value integration };
+    ghost decodes_to = { λ dialect value integration. DecodesToIntegration dialect value integration };
+
+    ghost never_refused = { λ _. true };
 
     fn read(reader: &Reader<'v, '_>) -> Result<Integration, InputFault> {
         let integration = reader.object()?;

@@ -1,8 +1,10 @@
 //! Label sets in JSON. Readers of alerts and expectations call it.
-ghost use Rattle.std.specs.Prelude.{IfOk};
-ghost use Rattle.am_alerts.specs.Labels.{labels_in};
+ghost use Rattle.std.specs.Prelude.{◌≡◌, IfErr, IfOk};
+ghost use Rattle.am_alerts.specs.declared.labels.LabelFault.{LabelFault};
 ghost use Rattle.serde_json.specs.View.{view};
 ghost use Rattle.am_cli.specs.Configured.{DecodesToLabels, DecodesToPairs};
+ghost use Rattle.am_cli.specs.Read.{Excludes};
+ghost use Rattle.am_cli.specs.declared.fault.InputFault.{InputFault};
 
 use crate::fault::{FaultKind, InputFault};
 use crate::reader::{Dialect, FromJson, Reader};
@@ -11,9 +13,12 @@ use am_alerts::limits::MAX_LABEL_BYTES;
 
 /// The name of a label and its value: an array of two texts.
 impl<'v> FromJson<'v> for (&'v str, &'v str) {
+    ghost use Rattle.std.specs.Prelude.{true};
     ghost use Rattle.am_cli.specs.Configured.{IsPair};
 
     ghost decodes_to = { λ dialect value pair. IsPair value pair };
+
+    ghost never_refused = { λ _. true };
 
     fn read(reader: &Reader<'v, '_>) -> Result<(&'v str, &'v str), InputFault> {
         let (name, value) = reader.pair()?;
@@ -22,9 +27,12 @@ impl<'v> FromJson<'v> for (&'v str, &'v str) {
 }
 
 impl<'v> FromJson<'v> for Labels {
+    ghost use Rattle.std.specs.Prelude.{true};
     ghost use Rattle.am_cli.specs.Configured.{DecodesToLabels};
 
     ghost decodes_to = { λ dialect value labels. DecodesToLabels dialect value labels };
+
+    ghost never_refused = { λ _. true };
 
     fn read(reader: &Reader<'v, '_>) -> Result<Labels, InputFault> {
         read_labels(reader)
@@ -35,23 +43,45 @@ impl<'v> FromJson<'v> for Labels {
 /// whose members are the labels. Refused as a whole, or in the strict dialect at the label at fault: of
 /// two of one name the second.
 pub fn read_labels(reader: &Reader<'_, '_>) -> Result<Labels, InputFault>
-    ensures { IfOk result (DecodesToLabels reader.now.dialect (view reader.now.value)) }
+    ensures told { IfOk result (DecodesToLabels reader.now.dialect (view reader.now.value)) }
+    ensures refused { IfErr result (Excludes (DecodesToLabels reader.now.dialect (view reader.now.value))) }
 {
     let pairs = read_pairs(reader)?;
     match Labels::read(reader.alloc(), pairs.as_slice()) {
         Ok(labels) => Ok(labels),
-        Err(LabelFault::NoMemory) => Err(InputFault::NoMemory),
-        Err(fault) => Err(refuse_pairs(reader, pairs.as_slice(), fault)),
+        Err(fault) => Err(refuse_labels(reader, pairs.as_slice(), fault)),
     }
 }
 
 fn read_pairs<'v>(reader: &Reader<'v, '_>) -> Result<Vec<(&'v str, &'v str)>, InputFault>
-    ensures { IfOk result (λ pairs. DecodesToPairs reader.now.dialect (view reader.now.value) pairs.items) }
+    ensures told { IfOk result (λ pairs. DecodesToPairs reader.now.dialect (view reader.now.value) pairs.items) }
+    ensures refused { IfErr result (Excludes (DecodesToPairs reader.now.dialect (view reader.now.value))) }
 {
-    if reader.dialect() == Dialect::Strict && reader.is_object() {
+    match reader.dialect() {
+        Dialect::Lenient => reader.list::<(&str, &str)>(),
+        Dialect::Strict => read_strict_pairs(reader),
+    }
+}
+
+/// The members of an object, or else the pairs of an array.
+fn read_strict_pairs<'v>(reader: &Reader<'v, '_>) -> Result<Vec<(&'v str, &'v str)>, InputFault>
+    ensures told { IfOk result (λ pairs. DecodesToPairs Dialect.Strict (view reader.now.value) pairs.items) }
+    ensures refused { IfErr result (Excludes (DecodesToPairs Dialect.Strict (view reader.now.value))) }
+{
+    if reader.is_object() {
         return reader.object()?.texts();
     }
     reader.list::<(&str, &str)>()
+}
+
+/// The fault that refuses pairs which are no label set for this cause.
+fn refuse_labels(reader: &Reader<'_, '_>, pairs: &[(&str, &str)], cause: LabelFault) -> InputFault
+    ensures { cause ≡ LabelFault.NoMemory → result ≡ InputFault.NoMemory }
+{
+    match cause {
+        LabelFault::NoMemory => InputFault::NoMemory,
+        _ => refuse_pairs(reader, pairs, cause),
+    }
 }
 
 fn refuse_pairs(reader: &Reader<'_, '_>, pairs: &[(&str, &str)], fault: LabelFault) -> InputFault {

@@ -1,8 +1,12 @@
 //! Matchers and inhibition rules in JSON. `config`, and readers of silences, call it.
-ghost use Rattle.std.specs.Prelude.{◌≡◌, IfOk, IfSome, IsSomeAnd};
+ghost use Rattle.std.specs.Prelude.{◌≡◌, ◌≢◌, IfErr, IfOk, IsSomeAnd, IsTrue, MatchOption};
 ghost use Rattle.serde_json.specs.View.{view};
 ghost use Rattle.serde_json.specs.Find.{as_str};
-ghost use Rattle.am_cli.specs.Configured.{IsMatcher};
+ghost use Rattle.am_alerts.specs.Matcher.{compares_texts};
+ghost use Rattle.am_alerts.specs.declared.matcher.MatcherParts.{MatcherParts};
+ghost use Rattle.am_alerts.specs.declared.matcher.Operator.{Operator};
+ghost use Rattle.am_cli.specs.Configured.{DecodesToMatcher, IsMatcher, IsSound};
+ghost use Rattle.am_cli.specs.Read.{Excludes};
 ghost use Rattle.am_cli.specs.MatcherText.{IsMatcherText, operator_text};
 
 use crate::fault::{FaultKind, InputFault};
@@ -22,22 +26,40 @@ const OPERATOR: usize = 1;
 /// Where the value stands.
 const VALUE: usize = 2;
 
-/// Three texts, or in the strict dialect also one.
+/// Three texts, or in the strict dialect also one. A pattern may be refused for its size.
 impl<'v> FromJson<'v> for Matcher {
+    ghost use Rattle.am_alerts.specs.Matcher.{compares_texts};
     ghost use Rattle.am_cli.specs.Configured.{DecodesToMatcher};
 
     ghost decodes_to = { λ dialect value matcher. DecodesToMatcher dialect value matcher };
 
+    ghost never_refused = { λ matcher. compares_texts matcher.op };
+
     fn read(reader: &Reader<'v, '_>) -> Result<Matcher, InputFault> {
-        if reader.dialect() == Dialect::Strict && reader.is_text() {
-            return read_one_text(reader);
+        match reader.dialect() {
+            Dialect::Lenient => read_three_texts(reader),
+            Dialect::Strict => read_strict(reader),
         }
-        read_three_texts(reader)
     }
 }
 
+/// One text, or else three.
+fn read_strict(reader: &Reader<'_, '_>) -> Result<Matcher, InputFault>
+    ensures told { IfOk result (DecodesToMatcher Dialect.Strict (view reader.now.value)) }
+    ensures refused { IfErr result (Excludes (λ m.
+        DecodesToMatcher Dialect.Strict (view reader.now.value) m × IsTrue (compares_texts m.op))) }
+{
+    if reader.is_text() {
+        return read_one_text(reader);
+    }
+    read_three_texts(reader)
+}
+
 fn read_one_text(reader: &Reader<'_, '_>) -> Result<Matcher, InputFault>
-    ensures { IfOk result (λ matcher. IsSomeAnd (as_str (view reader.now.value)) (λ text. IsMatcherText text matcher)) }
+    ensures told { IfOk result (λ matcher. IsSomeAnd (as_str (view reader.now.value)) (λ text. IsMatcherText text matcher)) }
+    ensures sound { IfOk result IsSound }
+    ensures refused { IfErr result (Excludes (λ m. IsSomeAnd (as_str (view reader.now.value)) (λ text. IsMatcherText text m)
+        × IsSound m × IsTrue (compares_texts m.op))) }
 {
     let Some(parts) = parts_of_text(reader.alloc(), reader.text()?)? else {
         return Err(reader.refuse(FaultKind::BadValue));
@@ -50,7 +72,10 @@ fn read_one_text(reader: &Reader<'_, '_>) -> Result<Matcher, InputFault>
 }
 
 fn read_three_texts(reader: &Reader<'_, '_>) -> Result<Matcher, InputFault>
-    ensures { IfOk result (IsMatcher (view reader.now.value)) }
+    ensures told { IfOk result (IsMatcher (view reader.now.value)) }
+    ensures sound { IfOk result IsSound }
+    ensures refused { IfErr result (Excludes (λ m.
+        IsMatcher (view reader.now.value) m × IsSound m × IsTrue (compares_texts m.op))) }
 {
     let place = reader.place();
     let (name, operator, value) = reader.three_texts()?;
@@ -83,7 +108,7 @@ fn part_at_fault(fault: MatcherFault, name: &str) -> usize {
 
 /// The operator that is written so.
 fn operator_of(text: &str) -> Option<Operator>
-    ensures { IfSome result (λ op. operator_text op ≡ text.now) }
+    ensures { MatchOption result ((op : Operator) → operator_text op ≢ text.now) (λ op. operator_text op ≡ text.now) }
 {
     match text {
         "=" => Some(Operator::Equal),
@@ -95,9 +120,11 @@ fn operator_of(text: &str) -> Option<Operator>
 }
 
 impl<'v> FromJson<'v> for InhibitRule {
-    ghost use Rattle.am_cli.specs.Configured.{DecodesToRule};
+    ghost use Rattle.am_cli.specs.Configured.{DecodesToRule, rule_compares_texts};
 
     ghost decodes_to = { λ dialect value rule. DecodesToRule dialect value rule };
+
+    ghost never_refused = { λ rule. rule_compares_texts rule };
 
     fn read(reader: &Reader<'v, '_>) -> Result<InhibitRule, InputFault> {
         let rule = reader.object()?;

@@ -4,9 +4,11 @@
 //! They are read as Alertmanager's classic parser does: escapes count with quotes and without, and
 //! a backslash that escapes nothing is itself. A comma outside of quotes, a backslash at the end
 //! and a lone quote are rejected. What the name can be is the matcher's own rule.
-ghost use Rattle.std.specs.Prelude.{◌≡◌, ◌≢◌, ◌<◌, ◌≤◌, ◌++◌, ℕ, List, Some, true, false, length, slice_index, string_bytes};
-ghost use Rattle.std.specs.Prelude.{IfOk, IfSome, option_map};
+ghost use Rattle.std.specs.Prelude.{◌≡◌, ◌≢◌, ◌<◌, ◌≤◌, ◌++◌, ℕ, List, None, Some, true, false, length, slice_index, string_bytes};
+ghost use Rattle.std.specs.Prelude.{IfOk, IfSome, MatchOption, option_map};
 ghost use Rattle.std.specs.List.{position};
+ghost use Rattle.am_alerts.specs.declared.matcher.MatcherParts.{MatcherParts};
+ghost use Rattle.am_alerts.specs.declared.matcher.Operator.{Operator};
 ghost use Rattle.am_cli.specs.MatcherText.{IsMatcherText, IsUnquoted, begins_operator, operator_text, unescaped};
 
 use am_alerts::matcher::{MatcherParts, Operator};
@@ -20,7 +22,8 @@ use std::alloc::{AllocError, Global};
 /// quote in it and no comma, which would begin another matcher. In both forms `\"`, `\\` and `\n` stand
 /// for a quote, a backslash and a line feed, and another backslash for itself; none stands at the end.
 pub fn parts_of_text(alloc: Global, text: &str) -> Result<Option<MatcherParts>, AllocError>
-    ensures { IfOk result (λ parts. IfSome parts (IsMatcherText text.now)) }
+    ensures { IfOk result (λ parts.
+        MatchOption parts ((m : MatcherParts) → IsMatcherText text.now m → ⊥) (IsMatcherText text.now)) }
 {
     let Some((name, op, written)) = split(text) else {
         return Ok(None);
@@ -43,6 +46,8 @@ fn split(text: &str) -> Option<(&str, Operator, &str)>
     ensures is { IfSome result (λ parts. text.now ≡ parts.0.now ++ (operator_text parts.1 ++ parts.2.now)) }
     ensures begins { IfSome result (λ parts. position begins_operator text.now ≡ Some (length parts.0.now)) }
     ensures longest { IfSome result (λ parts. parts.1 ≡ Operator.Equal → slice_index parts.2.now 0 ≢ 126) }
+    ensures none { result ≡ None → (name value : List ℕ) (op : Operator) → text.now ≡ name ++ (operator_text op ++ value)
+        → position begins_operator text.now ≢ Some (length name) }
 {
     let (name, rest) = text.split_at(operator_place(text)?);
     let (op, value) = operator_in(rest)?;
@@ -60,6 +65,7 @@ fn operator_place(text: &str) -> Option<usize>
 fn operator_in(text: &str) -> Option<(Operator, &str)>
     ensures is { IfSome result (λ read. text.now ≡ operator_text read.0 ++ read.1.now) }
     ensures longest { IfSome result (λ read. read.0 ≡ Operator.Equal → slice_index read.1.now 0 ≢ 126) }
+    ensures none { result ≡ None → (value : List ℕ) (op : Operator) → text.now ≢ operator_text op ++ value }
 {
     if let Some(value) = text.strip_prefix("=~") {
         return Some((Operator::Like, value));
@@ -78,7 +84,8 @@ fn operator_in(text: &str) -> Option<(Operator, &str)>
 
 /// What stands in the quotes of a value, or the whole where it is in none and needs none.
 fn without_quotes(written: &str) -> Option<&str>
-    ensures { IfSome result (λ inner. IsUnquoted written.now inner.now) }
+    ensures { MatchOption result ((inner : List ℕ) → IsUnquoted written.now inner → ⊥)
+        (λ inner. IsUnquoted written.now inner.now) }
 {
     match written.strip_prefix('"') {
         Some(quoted) => quoted.strip_suffix('"'),

@@ -7,17 +7,19 @@
 //! A type that is read (`FromJson`) has a relation `decodes_to` between a JSON value and itself,
 //! with a line for each field and its default. The reader of a list hands the relation of its items
 //! on. It is a relation and not a function: a reference to a text and a built pattern have no value
-//! to compute.
-ghost use Rattle.std.specs.Prelude.{◌≡◌, ◌<◌, ◌≤◌, [], Some, IfErr, IfOk, IfSome, MatchOption};
-ghost use Rattle.std.specs.Prelude.{find, is_ok, is_some, not, option_map, string_bytes, vec_len};
+//! to compute. What decodes to a value that is `never_refused` is read, unless memory is refused.
+ghost use Rattle.std.specs.Prelude.{◌≡◌, ◌≢◌, ◌<◌, ◌≤◌, [], length, Some, IfErr, IfOk, IfSome, MatchOption};
+ghost use Rattle.std.specs.Prelude.{List, ℕ, IsTrue, find, is_ok, is_some, map, not, option_map, string_bytes, vec_len};
+ghost use Rattle.std.specs.List.{list_all};
 ghost use Rattle.std.specs.BTreeMap.{keys};
 ghost use Rattle.std.specs.Option.{option_copied};
 ghost use Rattle.std.specs.Result.{result_ok};
-ghost use Rattle.serde_json.specs.Data.{no_items, item, string};
+ghost use Rattle.serde_json.specs.Data.{Data, no_items, item, string};
 ghost use Rattle.serde_json.specs.Find.{as_array, as_bool, as_null, as_object, as_str, get_member};
 ghost use Rattle.serde_json.specs.Read.{read as read_text};
 ghost use Rattle.serde_json.specs.View.{items_view, members_view, view};
-ghost use Rattle.am_cli.specs.Read.{HasItems, IsRefusedBy, RefusesText, are_named, is_one_of, number_in};
+ghost use Rattle.std.specs.Borrow.{Bor};
+ghost use Rattle.am_cli.specs.Read.{Excludes, HasItems, IsRefusedBy, RefusesText, are_named, has_only, is_one_of, number_in};
 ghost use Rattle.am_cli.specs.Configured.{text_members};
 ghost use Rattle.am_cli.specs.Decoding.{Has, HasOr, IsList, IsText};
 
@@ -83,16 +85,21 @@ impl<'v, 'p> Model for Object<'v, 'p> {
 
 /// What is read from a JSON value.
 pub trait FromJson<'v>: Drop + Sized {
-    ghost use Rattle.std.specs.Prelude.{⊤};
+    ghost use Rattle.std.specs.Prelude.{⊤, Bool, false};
     ghost use Rattle.serde_json.specs.Data.{Data};
     ghost use Rattle.am_cli.specs.declared.reader.Dialect.{Dialect};
 
     // What a JSON value tells in a dialect; where nothing is said here, nothing is known of it.
     ghost decodes_to: { Dialect → Data → Self → Type 0 } = { λ _ _ _. ⊤ };
 
+    // Whether what tells this is never refused; where nothing is said here, it may be.
+    ghost never_refused: { Self → Bool } = { λ _. false };
+
     /// Reads it. The first fault is answered, at its place.
     fn read(reader: &Reader<'v, '_>) -> Result<Self, InputFault>
-        ensures { IfOk result (decodes_to reader.now.dialect (view reader.now.value)) };
+        ensures told { IfOk result (decodes_to reader.now.dialect (view reader.now.value)) }
+        ensures refused { IfErr result (Excludes (λ x.
+            decodes_to reader.now.dialect (view reader.now.value) x × IsTrue (never_refused x))) };
 }
 
 /// The JSON value that these bytes are.
@@ -260,6 +267,8 @@ impl<'v, 'p> Reader<'v, 'p> {
     pub fn list<T: FromJson<'v>>(&self) -> Result<Vec<T>, InputFault>
         ensures count { IfOk result (λ items. HasItems (view self.now.value) (vec_len items)) }
         ensures told { IfOk result (λ items. IsList (T.decodes_to self.now.dialect) (view self.now.value) items.items) }
+        ensures refused { IfErr result (Excludes (λ (items : List T).
+            IsList (T.decodes_to self.now.dialect) (view self.now.value) items × IsTrue (list_all T.never_refused items))) }
     {
         let mut items = Vec::new(self.alloc);
         let values = self.array()?;
@@ -275,6 +284,8 @@ impl<'v, 'p> Reader<'v, 'p> {
         ensures count { IfOk result (λ items. HasItems (view self.now.value) (vec_len items)) }
         ensures told { IfOk result (λ items. IsList (T.decodes_to self.now.dialect) (view self.now.value) items.items) }
         ensures bound { IfOk result (λ items. vec_len items ≤ most) }
+        ensures refused { IfErr result (Excludes (λ (items : List T). IsList (T.decodes_to self.now.dialect) (view self.now.value) items
+            × IsTrue (list_all T.never_refused items) × (length items ≤ most))) }
     {
         let items = self.list::<T>()?;
         if items.len() > most {
@@ -289,6 +300,8 @@ impl<'v, 'p> Reader<'v, 'p> {
             ≡ Some (item (view pair.0.value) (item (view pair.1.value) no_items))) }
         ensures dialect { IfOk result (λ pair. (pair.0.dialect ≡ self.now.dialect) × (pair.1.dialect ≡ self.now.dialect)) }
         ensures refused { IfErr result (IsRefusedBy FaultKind.WrongType) }
+        ensures no_pair { IfErr result (λ _. (first second : Data) →
+            as_array (view self.now.value) ≢ Some (item first (item second no_items))) }
     {
         match self.array()? {
             [first, second] => Ok((self.item(0, first), self.item(1, second))),
@@ -301,6 +314,8 @@ impl<'v, 'p> Reader<'v, 'p> {
         ensures texts { IfOk result (λ texts. as_array (view self.now.value)
             ≡ Some (item (string texts.0.now) (item (string texts.1.now) (item (string texts.2.now) no_items)))) }
         ensures refused { IfErr result (IsRefusedBy FaultKind.WrongType) }
+        ensures no_texts { IfErr result (λ _. (first second third : List ℕ) → as_array (view self.now.value)
+            ≢ Some (item (string first) (item (string second) (item (string third) no_items)))) }
     {
         match self.array()? {
             [first, second, third] => {
@@ -346,13 +361,20 @@ impl<'v> Object<'v, '_> {
     /// In the strict dialect refuses, as `Unknown`, the first member, by name, that has none of these
     /// names.
     pub fn only(&self, names: &[&str]) -> Result<(), InputFault>
-        ensures lenient { self.now.dialect ≡ Dialect.Lenient → result ≡ Ok tt }
-        ensures strict { self.now.dialect ≡ Dialect.Strict → is_ok result ≡ are_named names.now self.now.members }
+        ensures known { is_ok result ≡ has_only self.now.dialect (map (λ name. name.now) names.now) (members_view self.now.members) }
         ensures refused { IfErr result (IsRefusedBy FaultKind.Unknown) }
     {
-        if self.dialect == Dialect::Lenient {
-            return Ok(());
+        match self.dialect {
+            Dialect::Lenient => Ok(()),
+            Dialect::Strict => self.refuse_unnamed(names),
         }
+    }
+
+    /// Refuses the first member, by name, that has none of these names.
+    fn refuse_unnamed(&self, names: &[&str]) -> Result<(), InputFault>
+        ensures known { is_ok result ≡ are_named (map (λ name. name.now) names.now) (members_view self.now.members) }
+        ensures refused { IfErr result (IsRefusedBy FaultKind.Unknown) }
+    {
         match unnamed(self.members, names) {
             None => Ok(()),
             Some(name) => {
@@ -364,7 +386,9 @@ impl<'v> Object<'v, '_> {
 
     /// The names of the members with their texts, by name. `Kind` for a member that is none.
     pub fn texts(&self) -> Result<Vec<(&'v str, &'v str)>, InputFault>
-        ensures { IfOk result (λ texts. members_view self.now.members ≡ text_members texts.items) }
+        ensures texts { IfOk result (λ texts. members_view self.now.members ≡ text_members texts.items) }
+        ensures refused { IfErr result (Excludes (λ (texts : List (Bor (List ℕ) × Bor (List ℕ))).
+            members_view self.now.members ≡ text_members texts)) }
     {
         let mut texts = Vec::new(self.alloc);
         for (name, value) in self.members.iter() {
@@ -453,6 +477,9 @@ impl<'v> Object<'v, '_> {
             (λ member. HasItems member (vec_len items))) }
         ensures told { IfOk result (λ items.
             HasOr (IsList (T.decodes_to self.now.dialect)) [] name.now (members_view self.now.members) items.items) }
+        ensures refused { IfErr result (Excludes (λ (items : List T).
+            HasOr (IsList (T.decodes_to self.now.dialect)) [] name.now (members_view self.now.members) items
+            × IsTrue (list_all T.never_refused items))) }
     {
         match self.optional(name) {
             None => Ok(Vec::new(self.alloc)),
@@ -465,6 +492,9 @@ impl<'v> Object<'v, '_> {
         ensures told { IfOk result (λ items.
             HasOr (IsList (T.decodes_to self.now.dialect)) [] name.now (members_view self.now.members) items.items) }
         ensures bound { IfOk result (λ items. vec_len items ≤ most) }
+        ensures refused { IfErr result (Excludes (λ (items : List T).
+            HasOr (IsList (T.decodes_to self.now.dialect)) [] name.now (members_view self.now.members) items
+            × IsTrue (list_all T.never_refused items) × (length items ≤ most))) }
     {
         match self.optional(name) {
             None => Ok(Vec::new(self.alloc)),
@@ -474,7 +504,8 @@ impl<'v> Object<'v, '_> {
 
     /// A copy of a text that must be there, or `Missing`.
     pub fn required_text(&self, name: &str) -> Result<Text, InputFault>
-        ensures { IfOk result (Has IsText name.now (members_view self.now.members)) }
+        ensures told { IfOk result (Has IsText name.now (members_view self.now.members)) }
+        ensures refused { IfErr result (Excludes (Has IsText name.now (members_view self.now.members))) }
     {
         Ok(Text::new(self.alloc, self.required(name)?.text()?)?)
     }
@@ -503,9 +534,12 @@ pub fn is_one_of(names: &[&str], name: &str) -> bool
 }
 
 impl<'v> FromJson<'v> for Text {
+    ghost use Rattle.std.specs.Prelude.{true};
     ghost use Rattle.am_cli.specs.Decoding.{IsText};
 
     ghost decodes_to = { λ dialect value text. IsText value text };
+
+    ghost never_refused = { λ _. true };
 
     fn read(reader: &Reader<'v, '_>) -> Result<Text, InputFault> {
         Ok(Text::new(reader.alloc(), reader.text()?)?)

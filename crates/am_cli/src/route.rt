@@ -3,13 +3,14 @@
 //! In `group_by` a `...` must be alone: a second one is rejected too. Names that are listed twice
 //! count twice for the limit of 64. In the lenient dialect `name`, `matchers` and `continue` of the
 //! root are ignored.
-ghost use Rattle.std.specs.Prelude.{◌≡◌, [], IfOk, List, ℕ, codes};
+ghost use Rattle.std.specs.Prelude.{◌≡◌, [], IfErr, IfOk, List, ℕ, codes};
 ghost use Rattle.std.specs.List.{list_any};
 ghost use Rattle.std.specs.Str.{bytes_eq};
 ghost use Rattle.am_alerts.specs.declared.route.GroupBy.TheVariants.{Names};
 ghost use Rattle.am_cli.specs.Configured.{IsGroupBy, all_labels, DecodesToOptions, DecodesToRoot};
 ghost use Rattle.am_cli.specs.Routed.{routed};
 ghost use Rattle.am_cli.specs.Decoding.{HasOr};
+ghost use Rattle.am_cli.specs.Read.{Excludes};
 ghost use Rattle.serde_json.specs.View.{members_view, view};
 
 use crate::duration::{duration_or, interval_or};
@@ -45,7 +46,8 @@ struct Options {
 
 impl Options {
     fn read(route: &Object<'_, '_>) -> Result<Options, InputFault>
-        ensures { (name : List ℕ) → IfOk result (λ options. DecodesToOptions (members_view route.now.members) (routed name options)) }
+        ensures told { (name : List ℕ) → IfOk result (λ options. DecodesToOptions (members_view route.now.members) (routed name options)) }
+        ensures refused { IfErr result (Excludes (DecodesToOptions (members_view route.now.members))) }
     {
         let receiver = route.required_text("receiver")?;
         let group_by = read_group_by(route)?;
@@ -84,7 +86,8 @@ impl Options {
 
 /// Reads the root route.
 pub fn read_root(reader: &Reader<'_, '_>) -> Result<Route, InputFault>
-    ensures { IfOk result (DecodesToRoot (view reader.now.value)) }
+    ensures told { IfOk result (DecodesToRoot reader.now.dialect (view reader.now.value)) }
+    ensures refused { IfErr result (Excludes (DecodesToRoot reader.now.dialect (view reader.now.value))) }
 {
     let root = reader.object()?;
     root.only(&[
@@ -99,9 +102,12 @@ pub fn read_root(reader: &Reader<'_, '_>) -> Result<Route, InputFault>
 }
 
 impl<'v> FromJson<'v> for Child {
+    ghost use Rattle.am_alerts.specs.Matcher.{compare_texts};
     ghost use Rattle.am_cli.specs.Configured.{DecodesToChild};
 
     ghost decodes_to = { λ dialect value child. DecodesToChild dialect value child };
+
+    ghost never_refused = { λ child. compare_texts child.matchers };
 
     fn read(reader: &Reader<'v, '_>) -> Result<Child, InputFault> {
         let child = reader.object()?;
@@ -129,7 +135,8 @@ impl<'v> FromJson<'v> for Child {
 
 /// The labels by which a route groups.
 fn read_group_by(route: &Object<'_, '_>) -> Result<GroupBy, InputFault>
-    ensures { IfOk result (HasOr IsGroupBy (Names []) (codes "group_by") (members_view route.now.members)) }
+    ensures told { IfOk result (HasOr IsGroupBy (Names []) (codes "group_by") (members_view route.now.members)) }
+    ensures refused { IfErr result (Excludes (HasOr IsGroupBy (Names []) (codes "group_by") (members_view route.now.members))) }
 {
     match route.optional("group_by") {
         None => Ok(GroupBy::Names(Sequence::empty(route.alloc()))),
@@ -139,7 +146,8 @@ fn read_group_by(route: &Object<'_, '_>) -> Result<GroupBy, InputFault>
 
 /// Names of labels. `...` stands for all of them, and alone.
 fn read_names(member: &Reader<'_, '_>) -> Result<GroupBy, InputFault>
-    ensures { IfOk result (IsGroupBy (view member.now.value)) }
+    ensures told { IfOk result (IsGroupBy (view member.now.value)) }
+    ensures refused { IfErr result (Excludes (IsGroupBy (view member.now.value))) }
 {
     let names = member.list_up_to::<Text>(MAX_NAMES)?;
     if !has_all_labels(names.as_slice()) {

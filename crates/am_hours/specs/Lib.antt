@@ -1,3 +1,5 @@
+-- the pieces of a zone's clock
+pub mod Clocks
 -- times at which an interval of Alertmanager's holds
 pub mod Intervals
 -- a law on clocks
@@ -8,6 +10,8 @@ pub mod Merging
 pub mod Muting
 -- stretches of a local clock
 pub mod Pieces
+-- what the texts of an interval mean
+pub mod Reading
 -- what a zone's clock shows where a piece begins
 pub mod Showing
 -- zones

@@ -1,13 +1,16 @@
 //! A zone's local clock from a start on, as pieces: each at one offset from UTC, in one month.
-ghost use Rattle.std.specs.Prelude.{◌≡◌, ◌≤◌, ◌<◌, IfOk, IsTrue, true};
+ghost use Rattle.std.specs.Prelude.{◌≡◌, ◌≤◌, ◌<◌, ◌↔◌, ◌+ℤ◌, ◌*ℤ◌, Err, IfErr, IfOk, IfSome, IsTrue, true};
 ghost use Rattle.std.specs.Int.{int_div_euclid};
 ghost use Rattle.std.specs.List.{All, list_all};
 ghost use Rattle.std.specs.Prelude.{pos};
-ghost use Rattle.jiff.specs.Words.{plain_zone};
+ghost use Rattle.jiff.specs.Words.{next_at, plain_zone};
+ghost use Rattle.am_hours.specs.Clocks.{IsNoClock, IsNoPiece, IsPieceOf, stays, until_next};
 ghost use Rattle.am_hours.specs.Pieces.{are_in_row, is_sound};
 ghost use Rattle.am_hours.specs.Showing.{BeginsAsShown};
+ghost use Rattle.am_hours.specs.declared.clock.ClockFault.TheVariants.{TooLong};
+ghost use Rattle.am_hours.specs.declared.clock.TheConstants.{MAX_HORIZON};
 
-use crate::local::{LocalTime, days_told, instant_at, milliseconds_at};
+use crate::local::{LocalTime, days_told, instant_at, left_in_month, milliseconds_at};
 use crate::piece::Piece;
 use jiff::Timestamp;
 use jiff::tz::TimeZone;
@@ -32,12 +35,22 @@ pub enum ClockFault {
 }
 
 impl From<AllocError> for ClockFault {
+    ghost use Rattle.std.specs.Prelude.{◌≡◌};
+    ghost use Rattle.am_hours.specs.declared.clock.ClockFault.TheVariants.{NoMemory};
+
+    ghost from_gives = { λ given fault. fault ≡ NoMemory };
+
     fn from(_: AllocError) -> ClockFault {
         ClockFault::NoMemory
     }
 }
 
 impl From<AllocFailed<Piece>> for ClockFault {
+    ghost use Rattle.std.specs.Prelude.{◌≡◌};
+    ghost use Rattle.am_hours.specs.declared.clock.ClockFault.TheVariants.{NoMemory};
+
+    ghost from_gives = { λ given fault. fault ≡ NoMemory };
+
     fn from(_: AllocFailed<Piece>) -> ClockFault {
         ClockFault::NoMemory
     }
@@ -78,11 +91,15 @@ impl Clock {
         ensures horizon { IfOk result (λ clock. clock.horizon ≡ horizon) }
         ensures shown { IfOk result (λ clock.
             All (BeginsAsShown (plain_zone zone.entry) (int_div_euclid start.nanosecond (pos 1000000))) clock.pieces) }
+        ensures pieces { IfOk result (λ clock.
+            All (IsPieceOf (plain_zone zone.entry) (int_div_euclid start.nanosecond (pos 1000000)) horizon) clock.pieces) }
+        ensures long { (result ≡ Err TooLong) ↔ (MAX_HORIZON < horizon) }
+        ensures refused { IfErr result (IsNoClock (plain_zone zone.entry) (int_div_euclid start.nanosecond (pos 1000000)) horizon) }
     {
         if horizon > MAX_HORIZON {
             return Err(ClockFault::TooLong);
         }
-        let origin = milliseconds_at(start)?;
+        let origin = milliseconds_at(start);
         let mut pieces = Vec::new(alloc);
         let mut at = 0u64;
         while at < horizon {
@@ -118,36 +135,49 @@ fn piece_from(zone: TimeZone<'_>, origin: i64, at: u64, horizon: u64) -> Result<
     ensures to { IfOk result (λ piece. piece.to ≤ horizon) }
     ensures sound { IfOk result (λ piece. IsTrue (is_sound piece)) }
     ensures shown { IfOk result (BeginsAsShown (plain_zone zone.entry) origin) }
+    ensures piece { IfOk result (IsPieceOf (plain_zone zone.entry) origin horizon) }
+    ensures refused { IfErr result (IsNoPiece (plain_zone zone.entry) ((origin +ℤ pos at) *ℤ pos 1000000)) }
 {
     let now = instant_at(origin, at)?;
-    let shown = LocalTime::of(zone.to_datetime(now))?;
-    let left = shown.left_in_month().min(until_change(zone, now)?);
-    if left == 0 {
-        return Err(ClockFault::BadZone);
-    }
-    let to = horizon.min(at.saturating_add(left));
+    let civil = zone.to_datetime(now);
+    let shown = LocalTime::of(civil)?;
+    let stays = shorter(left_in_month(civil), until_change(zone, now)?);
+    let days_told = days_told(zone, &shown)?;
     Ok(Piece {
         from: at,
-        to,
+        to: horizon.min(at + stays),
         time: shown.time,
         day: shown.day,
         month: shown.month,
         weekday: shown.weekday,
         year: shown.year,
-        days_told: days_told(zone, &shown)?,
+        days_told,
     })
 }
 
-/// The milliseconds to the zone's next change, or very many where there is none.
-fn until_change(zone: TimeZone<'_>, now: Timestamp) -> Result<u64, ClockFault> {
+/// How long a clock stays as it is: to the end of the month, or to its next change if that is earlier.
+fn shorter(left: u64, change: Option<u64>) -> u64
+    ensures { result ≡ stays left change }
+{
+    match change {
+        None => left,
+        Some(change) => left.min(change),
+    }
+}
+
+/// The milliseconds to the zone's next change, if there is one.
+fn until_change(zone: TimeZone<'_>, now: Timestamp) -> Result<Option<u64>, ClockFault>
+    ensures value { result ≡ until_next (next_at (plain_zone zone.entry) now.nanosecond) now.nanosecond }
+    ensures some { IfOk result (λ change. IfSome change (λ left. 0 < left)) }
+{
     match zone.following(now).next() {
-        None => Ok(u64::MAX),
+        None => Ok(None),
         Some(change) => {
-            let then = change.timestamp().as_millisecond();
-            match then.checked_sub(now.as_millisecond()) {
-                None => Err(ClockFault::BadZone),
-                Some(left) => u64::try_from(left).map_err(|_| ClockFault::BadZone),
+            let (then, now) = (change.timestamp().as_millisecond(), now.as_millisecond());
+            if then <= now {
+                return Err(ClockFault::BadZone);
             }
+            Ok(Some(then.abs_diff(now)))
         }
     }
 }

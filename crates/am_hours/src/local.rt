@@ -1,7 +1,10 @@
 //! What a zone's clock shows at an instant, and how long its months are.
-ghost use Rattle.std.specs.Prelude.{◌≡◌, ◌≤◌, ◌<◌, ◌+ℤ◌, ◌*ℤ◌, pos, FitsSigned, IfOk};
-ghost use Rattle.std.specs.Int.{int_div_euclid, w64};
+ghost use Rattle.std.specs.Prelude.{◌≡◌, ◌≤◌, ◌<◌, ◌+ℤ◌, ◌*ℤ◌, ◌≤ℤ◌, ◌<ℤ◌, ◌↔◌, ◌^◌, pos, neg_ℤ, int_div, IfErr, IfOk, IsOk};
+ghost use Rattle.std.specs.Int.{int_div_euclid};
+ghost use Rattle.jiff.specs.Words.{civil_nanos, IsBetween, IsTimestampNanos, nanos_of_seconds, plain_zone};
+ghost use Rattle.am_hours.specs.Clocks.{AreTold, days_between, left_in_month, month_later, month_start, offset_in, second_of};
 ghost use Rattle.am_hours.specs.Showing.{IsLocal, milliseconds_in};
+ghost use Rattle.am_hours.specs.declared.clock.ClockFault.TheVariants.{OutOfRange};
 
 use crate::clock::ClockFault;
 use crate::piece::DAY;
@@ -22,8 +25,6 @@ pub(crate) struct LocalTime {
     pub(crate) weekday: u64,
     /// The milliseconds from midnight.
     pub(crate) time: u64,
-    /// The days of the month.
-    days: u64,
 }
 
 impl LocalTime {
@@ -33,84 +34,99 @@ impl LocalTime {
         ensures day { IfOk result (λ local. local.day ≤ 31) }
         ensures weekday { IfOk result (λ local. local.weekday < 7) }
         ensures time { IfOk result (λ local. local.time < 86400000) }
+        ensures year { IfOk result (λ _. pos 0 <ℤ shown.date.year) }
+        ensures refused { IfErr result (λ fault. fault ≡ OutOfRange) }
+        ensures early { IfErr result (λ _. shown.date.year ≤ℤ pos 0) }
     {
-        let local = LocalTime {
-            year: number(shown.year() as i64)?,
-            month: number(shown.month() as i64)?,
-            day: number(shown.day() as i64)?,
-            weekday: (number(shown.weekday().to_monday_zero_offset() as i64)? + 1) % 7,
-            time: number(milliseconds_of(shown))?,
-            days: number(shown.days_in_month() as i64)?,
-        };
-        if local.year == 0 || local.day > 31 || local.time >= DAY {
+        if shown.year() < 1 {
             return Err(ClockFault::OutOfRange);
         }
-        Ok(local)
-    }
-
-    /// Returns the milliseconds to the end of the month, on a clock whose offset stays.
-    pub(crate) fn left_in_month(&self) -> u64 {
-        let days = self.days.saturating_add(1).saturating_sub(self.day);
-        days.saturating_mul(DAY).saturating_sub(self.time)
+        Ok(LocalTime {
+            year: shown.year() as u64,
+            month: shown.month() as u64,
+            day: shown.day() as u64,
+            weekday: (shown.weekday().to_monday_zero_offset() as u64 + 1) % 7,
+            time: milliseconds_of(shown),
+        })
     }
 }
 
-/// Returns the milliseconds since 1970 at an instant, without parts of a millisecond.
-pub(crate) fn milliseconds_at(instant: Timestamp) -> Result<i64, ClockFault>
-    ensures value { IfOk result (λ at. at ≡ int_div_euclid instant.nanosecond (pos 1000000)) }
-    ensures fits { IfOk result (λ at. FitsSigned w64 at) }
+/// Returns the milliseconds to the end of the month, on a clock whose offset stays.
+pub(crate) fn left_in_month(shown: DateTime) -> u64
+    ensures value { result ≡ left_in_month shown }
+    ensures some { 0 < result }
+    ensures bound { result ≤ 11059200000 }
 {
-    match i64::try_from(instant.as_nanosecond().div_euclid(1_000_000)) {
-        Err(_) => Err(ClockFault::OutOfRange),
-        Ok(at) => Ok(at),
-    }
+    let days = shown.days_in_month() as u64 + 1 - shown.day() as u64;
+    days * DAY - milliseconds_of(shown)
+}
+
+/// Returns the milliseconds since 1970 at an instant, without parts of a millisecond.
+pub(crate) fn milliseconds_at(instant: Timestamp) -> i64
+    ensures { result ≡ int_div_euclid instant.nanosecond (pos 1000000) }
+{
+    instant.as_nanosecond().div_euclid(1_000_000) as i64
 }
 
 /// Returns the instant at a moment, in milliseconds from an instant in milliseconds since 1970.
 pub(crate) fn instant_at(origin: i64, at: u64) -> Result<Timestamp, ClockFault>
-    ensures { IfOk result (λ instant. instant.nanosecond ≡ (origin +ℤ pos at) *ℤ pos 1000000) }
+    ensures value { IfOk result (λ instant. instant.nanosecond ≡ (origin +ℤ pos at) *ℤ pos 1000000) }
+    ensures refused { IfErr result (λ fault. fault ≡ OutOfRange) }
+    ensures succeeds { IsOk result ↔ IsTimestampNanos ((origin +ℤ pos at) *ℤ pos 1000000) }
 {
-    let Ok(at) = i64::try_from(at) else {
-        return Err(ClockFault::OutOfRange);
-    };
-    match origin.checked_add(at) {
-        None => Err(ClockFault::OutOfRange),
-        Some(millisecond) => {
-            Timestamp::from_millisecond(millisecond).map_err(|_| ClockFault::OutOfRange)
-        }
+    match Timestamp::from_nanosecond((origin as i128 + at as i128) * 1_000_000) {
+        Err(_) => Err(ClockFault::OutOfRange),
+        Ok(instant) => Ok(instant),
     }
 }
 
 /// Returns the days of a month as Alertmanager counts them: the whole 24 hours from its first
 /// midnight to a month later on the clock (`timeinterval.daysInMonth`).
-pub(crate) fn days_told(zone: TimeZone<'_>, local: &LocalTime) -> Result<u64, ClockFault> {
-    let first = instant_of(zone, month_start(local.year, local.month)?)?;
-    let shown = LocalTime::of(zone.to_datetime(second_at(first)?))?;
-    let next = instant_of(zone, month_later(&shown)?)?;
-    let seconds = number(next.saturating_sub(first))?;
-    Ok(seconds / DAY_SECONDS)
+pub(crate) fn days_told(zone: TimeZone<'_>, local: &LocalTime) -> Result<u64, ClockFault>
+    ensures told { AreTold (plain_zone zone.entry) (pos local.now.year) local.now.month result }
+    ensures refused { IfErr result (λ fault. fault ≡ OutOfRange) }
+{
+    let first = second_of(zone, month_start(local.year, local.month)?)?;
+    let shown = zone.to_datetime(second_at(first)?);
+    let next = second_of(zone, month_later(&LocalTime::of(shown)?)?)?;
+    days_between(first, next)
+}
+
+/// The whole days from one second to another.
+fn days_between(first: i64, next: i64) -> Result<u64, ClockFault>
+    ensures value { result ≡ days_between first next }
+    ensures refused { IfErr result (λ fault. fault ≡ OutOfRange) }
+{
+    if next < first {
+        return Err(ClockFault::OutOfRange);
+    }
+    Ok(next.abs_diff(first) / DAY_SECONDS)
 }
 
 /// The local seconds a month behind a date and time, as Go's `Time.AddDate(0, 1, 0)`: a day that
 /// the month hasn't runs over into the next.
-fn month_later(local: &LocalTime) -> Result<i64, ClockFault> {
+fn month_later(local: &LocalTime) -> Result<i64, ClockFault>
+    requires year { local.now.year < 2 ^ 32 }
+    requires day { local.now.day ≤ 31 }
+    requires time { local.now.time < 86400000 }
+    ensures value { result ≡ month_later (pos local.now.year) local.now.month local.now.day local.now.time }
+    ensures refused { IfErr result (λ fault. fault ≡ OutOfRange) }
+{
     let start = if local.month < 12 {
         month_start(local.year, local.month + 1)?
     } else {
-        month_start(local.year.saturating_add(1), 1)?
+        month_start(local.year + 1, 1)?
     };
-    let days = local.day.saturating_sub(1);
-    let seconds = days
-        .saturating_mul(DAY_SECONDS)
-        .saturating_add(local.time / 1_000);
-    match i64::try_from(seconds) {
-        Err(_) => Err(ClockFault::OutOfRange),
-        Ok(seconds) => Ok(start.saturating_add(seconds)),
-    }
+    let seconds = local.day.saturating_sub(1) * DAY_SECONDS + local.time / 1_000;
+    Ok(start + seconds as i64)
 }
 
 /// The local seconds since 1970 at which a month begins.
-fn month_start(year: u64, month: u64) -> Result<i64, ClockFault> {
+fn month_start(year: u64, month: u64) -> Result<i64, ClockFault>
+    ensures value { result ≡ month_start (pos year) month }
+    ensures refused { IfErr result (λ fault. fault ≡ OutOfRange) }
+    ensures bound { IfOk result (IsBetween (neg_ℤ (pos 377705023201)) (pos 253402207200)) }
+{
     let (Ok(year), Ok(month)) = (i16::try_from(year), i8::try_from(month)) else {
         return Err(ClockFault::OutOfRange);
     };
@@ -120,38 +136,54 @@ fn month_start(year: u64, month: u64) -> Result<i64, ClockFault> {
     }
 }
 
-fn local_seconds(local: DateTime) -> Result<i64, ClockFault> {
+/// The seconds since 1970 that a clock shows at a date and time.
+fn local_seconds(local: DateTime) -> Result<i64, ClockFault>
+    ensures value { IfOk result (λ seconds. seconds ≡ int_div (civil_nanos local) (pos 1000000000)) }
+    ensures refused { IfErr result (λ fault. fault ≡ OutOfRange) }
+    ensures succeeds { IsOk result ↔ IsTimestampNanos (civil_nanos local) }
+{
     match Offset::UTC.to_timestamp(local) {
         Err(_) => Err(ClockFault::OutOfRange),
         Ok(instant) => Ok(instant.as_second()),
     }
 }
 
-/// The instant, in seconds since 1970, that Go's `time.Date` gives for local seconds: by the offset
-/// at the instant that the offset at these seconds of UTC leads to.
-fn instant_of(zone: TimeZone<'_>, local: i64) -> Result<i64, ClockFault> {
-    let guess = local.saturating_sub(offset_at(zone, local)?);
-    Ok(local.saturating_sub(offset_at(zone, guess)?))
+/// The second, since 1970, that Go's `time.Date` gives for local seconds: by the offset at the
+/// second that the offset at these seconds of UTC leads to.
+fn second_of(zone: TimeZone<'_>, local: i64) -> Result<i64, ClockFault>
+    ensures value { result ≡ second_of (plain_zone zone.entry) local }
+    ensures refused { IfErr result (λ fault. fault ≡ OutOfRange) }
+{
+    let guess = local - offset_in(zone, local)?;
+    Ok(local - offset_in(zone, guess)?)
 }
 
-fn offset_at(zone: TimeZone<'_>, second: i64) -> Result<i64, ClockFault> {
+/// The offset at a second since 1970.
+fn offset_in(zone: TimeZone<'_>, second: i64) -> Result<i64, ClockFault>
+    ensures value { result ≡ offset_in (plain_zone zone.entry) second }
+    ensures refused { IfErr result (λ fault. fault ≡ OutOfRange) }
+    ensures second { IfOk result (λ _. IsBetween (neg_ℤ (pos 377705023201)) (pos 253402207200) second) }
+    ensures near { IfOk result (IsBetween (neg_ℤ (pos 93599)) (pos 93599)) }
+{
     Ok(zone.to_offset(second_at(second)?).seconds() as i64)
 }
 
-fn second_at(second: i64) -> Result<Timestamp, ClockFault> {
-    Timestamp::from_second(second).map_err(|_| ClockFault::OutOfRange)
+fn second_at(second: i64) -> Result<Timestamp, ClockFault>
+    ensures value { IfOk result (λ instant. instant.nanosecond ≡ nanos_of_seconds second) }
+    ensures refused { IfErr result (λ fault. fault ≡ OutOfRange) }
+    ensures succeeds { IsOk result ↔ IsTimestampNanos (nanos_of_seconds second) }
+{
+    match Timestamp::from_second(second) {
+        Err(_) => Err(ClockFault::OutOfRange),
+        Ok(instant) => Ok(instant),
+    }
 }
 
 /// The milliseconds from midnight.
-fn milliseconds_of(shown: DateTime) -> i64
-    ensures { result ≡ pos (milliseconds_in shown) }
+fn milliseconds_of(shown: DateTime) -> u64
+    ensures value { result ≡ milliseconds_in shown }
+    ensures bound { result < 86400000 }
 {
-    let seconds = shown.hour() as i64 * 3_600 + shown.minute() as i64 * 60 + shown.second() as i64;
-    seconds * 1_000 + shown.subsec_nanosecond() as i64 / 1_000_000
-}
-
-fn number(number: i64) -> Result<u64, ClockFault>
-    ensures { IfOk result (λ made. pos made ≡ number) }
-{
-    u64::try_from(number).map_err(|_| ClockFault::OutOfRange)
+    let seconds = shown.hour() as u64 * 3_600 + shown.minute() as u64 * 60 + shown.second() as u64;
+    seconds * 1_000 + shown.subsec_nanosecond() as u64 / 1_000_000
 }

@@ -2,9 +2,11 @@
 //! `UnmarshalYAML` functions of its package `timeinterval`.
 //!
 //! Letters count in either case. Exception: Alertmanager also takes `İ` for `i`, and this doesn't.
-ghost use Rattle.std.specs.Prelude.{◌≡◌, ◌≢◌, ◌≤◌, ◌<◌, pos, neg_ℤ, length, IfOk, IfSome};
+ghost use Rattle.std.specs.Prelude.{◌≡◌, ◌≢◌, ◌≤◌, ◌<◌, [], ◌∷◌, map, pos, neg_ℤ, length, Ok, Err, IfOk, IfSome, MatchResult};
 ghost use Rattle.jiff.specs.Words.{IsBetween};
 ghost use Rattle.am_hours.specs.Intervals.{IsGoodDayPlace, IsGoodDayRange};
+ghost use Rattle.am_hours.specs.Reading.{day_in, day_place, days_of, digits_in, ends_of, in_short_month, minute_in, month_in, months_of, number_in};
+ghost use Rattle.am_hours.specs.Reading.{numbers_from, or_zero, place_among, places_from, times_of, weekdays_of, years_of};
 
 use crate::interval::{DayPlace, DayRange, InclusiveRange, TimeRange};
 use thiserror::Error;
@@ -62,6 +64,7 @@ const MONTHS: [&str; 12] = [
 /// - `BadWeekday`: a part isn't the English name of a day.
 /// - `EndBeforeStart`: as in `saturday:sunday`.
 pub fn read_weekdays(text: &str) -> Result<InclusiveRange, RangeFault>
+    ensures value { result ≡ weekdays_of text.now }
     ensures ordered { IfOk result (λ range. range.first ≤ range.last) }
     ensures days { IfOk result (λ range. range.last < 7) }
 {
@@ -80,7 +83,8 @@ pub fn read_weekdays(text: &str) -> Result<InclusiveRange, RangeFault>
 /// - `BadMonth`: a part is neither the English name of a month nor a whole number.
 /// - `EndBeforeStart`: as in `november:february`.
 pub fn read_months(text: &str) -> Result<InclusiveRange, RangeFault>
-    ensures { IfOk result (λ range. range.first ≤ range.last) }
+    ensures value { result ≡ months_of text.now }
+    ensures ordered { IfOk result (λ range. range.first ≤ range.last) }
 {
     let (first, last) = parts_of(text)?;
     let first = month_of(first)?;
@@ -95,7 +99,8 @@ pub fn read_months(text: &str) -> Result<InclusiveRange, RangeFault>
 /// - `BadYear`: a part isn't a whole number.
 /// - `EndBeforeStart`: as in `2027:2026`.
 pub fn read_years(text: &str) -> Result<InclusiveRange, RangeFault>
-    ensures { IfOk result (λ range. range.first ≤ range.last) }
+    ensures value { result ≡ years_of text.now }
+    ensures ordered { IfOk result (λ range. range.first ≤ range.last) }
 {
     let (first, last) = parts_of(text)?;
     let first = whole_number(first).ok_or(RangeFault::BadYear)?;
@@ -112,7 +117,8 @@ pub fn read_years(text: &str) -> Result<InclusiveRange, RangeFault>
 /// - `EndBeforeStart`: the end is before the start in a month of 28 days, which is taken for each
 ///   month here. So `29:-1` is refused too.
 pub fn read_days(text: &str) -> Result<DayRange, RangeFault>
-    ensures { IfOk result IsGoodDayRange }
+    ensures value { result ≡ days_of text.now }
+    ensures good { IfOk result IsGoodDayRange }
 {
     let (first, last) = parts_of(text)?;
     let first = day_of(first)?;
@@ -135,6 +141,7 @@ pub fn read_days(text: &str) -> Result<DayRange, RangeFault>
 /// - `BadTime`: a text has another form.
 /// - `EndBeforeStart`: the end isn't behind the start.
 pub fn read_times(from: &str, to: &str) -> Result<TimeRange, RangeFault>
+    ensures value { result ≡ times_of from.now to.now }
     ensures ordered { IfOk result (λ range. range.from < range.to) }
     ensures day { IfOk result (λ range. range.to ≤ 1440) }
 {
@@ -147,7 +154,9 @@ pub fn read_times(from: &str, to: &str) -> Result<TimeRange, RangeFault>
 }
 
 /// The parts before and behind a colon, or the whole text twice.
-fn parts_of(text: &str) -> Result<(&str, &str), RangeFault> {
+fn parts_of(text: &str) -> Result<(&str, &str), RangeFault>
+    ensures { MatchResult result (λ ends. ends_of text.now ≡ Ok (ends.0.now, ends.1.now)) (λ fault. ends_of text.now ≡ Err fault) }
+{
     match text.split_once(':') {
         None => Ok((text, text)),
         Some((_, last)) if last.contains(':') => Err(RangeFault::BadForm),
@@ -156,6 +165,7 @@ fn parts_of(text: &str) -> Result<(&str, &str), RangeFault> {
 }
 
 fn ordered(first: u64, last: u64) -> Result<InclusiveRange, RangeFault>
+    ensures value { result ≡ places_from first last }
     ensures ordered { IfOk result (λ range. range.first ≤ range.last) }
     ensures last { IfOk result (λ range. range.last ≡ last) }
 {
@@ -167,7 +177,8 @@ fn ordered(first: u64, last: u64) -> Result<InclusiveRange, RangeFault>
 
 /// A range of numbers. One below 0 is read as 0, which no month and no year of a clock is either.
 fn numbers(first: i64, last: i64) -> Result<InclusiveRange, RangeFault>
-    ensures { IfOk result (λ range. range.first ≤ range.last) }
+    ensures value { result ≡ numbers_from first last }
+    ensures ordered { IfOk result (λ range. range.first ≤ range.last) }
 {
     if last < first {
         return Err(RangeFault::EndBeforeStart);
@@ -175,13 +186,16 @@ fn numbers(first: i64, last: i64) -> Result<InclusiveRange, RangeFault>
     ordered(from_zero(first), from_zero(last))
 }
 
-fn from_zero(number: i64) -> u64 {
+fn from_zero(number: i64) -> u64
+    ensures { result ≡ or_zero number }
+{
     u64::try_from(number).unwrap_or(0)
 }
 
 /// The place of a text in a list of names, in either case.
 fn place_named(names: &[&str], text: &str) -> Option<u64>
-    ensures { IfSome result (λ place. place < length names.now) }
+    ensures value { result ≡ place_among (map (λ name. name.now) names.now) text.now }
+    ensures place { IfSome result (λ place. place < length names.now) }
 {
     let mut place = 0u64;
     for name in names {
@@ -193,7 +207,9 @@ fn place_named(names: &[&str], text: &str) -> Option<u64>
     None
 }
 
-fn month_of(text: &str) -> Result<i64, RangeFault> {
+fn month_of(text: &str) -> Result<i64, RangeFault>
+    ensures { result ≡ month_in text.now }
+{
     match place_named(&MONTHS, text) {
         Some(place) => Ok(place as i64 + 1),
         None => whole_number(text).ok_or(RangeFault::BadMonth),
@@ -201,12 +217,15 @@ fn month_of(text: &str) -> Result<i64, RangeFault> {
 }
 
 /// Reads a whole number, as Go's `strconv.Atoi`.
-fn whole_number(text: &str) -> Option<i64> {
+fn whole_number(text: &str) -> Option<i64>
+    ensures { result ≡ number_in text.now }
+{
     text.parse::<i64>().ok()
 }
 
 fn day_of(text: &str) -> Result<i64, RangeFault>
-    ensures { IfOk result (λ day. IsBetween (neg_ℤ (pos 31)) (pos 31) day × (day ≢ pos 0)) }
+    ensures value { result ≡ day_in text.now }
+    ensures range { IfOk result (λ day. IsBetween (neg_ℤ (pos 31)) (pos 31) day × (day ≢ pos 0)) }
 {
     match whole_number(text) {
         Some(day) if day != 0 && day >= -31 && day <= 31 => Ok(day),
@@ -218,6 +237,7 @@ fn day_of(text: &str) -> Result<i64, RangeFault>
 /// earlier than it would be.
 fn in_short_month(day: i64) -> i64
     requires { IsBetween (neg_ℤ (pos 31)) (pos 31) day }
+    ensures { result ≡ in_short_month day }
 {
     if day < 0 { 28 + day } else { day }
 }
@@ -225,7 +245,8 @@ fn in_short_month(day: i64) -> i64
 fn place_of(day: i64) -> DayPlace
     requires range { IsBetween (neg_ℤ (pos 31)) (pos 31) day }
     requires some { day ≢ pos 0 }
-    ensures { IsGoodDayPlace result }
+    ensures value { result ≡ day_place day }
+    ensures good { IsGoodDayPlace result }
 {
     if day < 0 {
         DayPlace::BeforeLast((-(day + 1)) as u64)
@@ -236,7 +257,8 @@ fn place_of(day: i64) -> DayPlace
 
 /// The minutes from midnight of a text such as `08:30`.
 fn minute_of(text: &str) -> Option<u64>
-    ensures { IfSome result (λ minute. minute ≤ 1440) }
+    ensures value { result ≡ minute_in text.now }
+    ensures bound { IfSome result (λ minute. minute ≤ 1440) }
 {
     if text == "24:00" {
         return Some(1_440);
@@ -253,13 +275,15 @@ fn minute_of(text: &str) -> Option<u64>
 }
 
 fn two_digits(tens: u8, ones: u8) -> Option<u64>
-    ensures { IfSome result (λ number. number < 100) }
+    ensures value { result ≡ digits_in (tens ∷ ones ∷ []) }
+    ensures bound { IfSome result (λ number. number < 100) }
 {
     Some(digit(tens)? * 10 + digit(ones)?)
 }
 
 fn digit(byte: u8) -> Option<u64>
-    ensures { IfSome result (λ digit. digit < 10) }
+    ensures value { result ≡ digits_in (byte ∷ []) }
+    ensures bound { IfSome result (λ digit. digit < 10) }
 {
     match byte {
         b'0'..=b'9' => Some((byte - b'0') as u64),

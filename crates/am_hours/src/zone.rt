@@ -1,10 +1,12 @@
 //! Time zones, from what a caller hands in: no zone is looked up by its name.
-ghost use Rattle.std.specs.Prelude.{◌≡◌, ◌↔◌, IfErr, IfOk, IfSome, IsOk, IsSome, None, Some};
-ghost use Rattle.jiff.specs.Types.{UTC};
+ghost use Rattle.std.specs.Prelude.{◌≡◌, ◌↔◌, Err, IfErr, IfOk, IsOk, IsSome};
+ghost use Rattle.jiff.specs.Types.{TzifFault, UTC};
 ghost use Rattle.jiff.specs.Words.{plain_zone, read_whole};
-ghost use Rattle.am_hours.specs.Zones.{IsOfRule};
+ghost use Rattle.jiff_tz.specs.TzifReader.{read_tzif};
+ghost use Rattle.am_hours.specs.Zones.{IsFileFault, IsInJiff, IsOfFile, IsOfRule, OfJiff};
 ghost use Rattle.am_hours.specs.declared.zone.ZoneFault.TheVariants.{BadFile, BadRule};
 
+use jiff::Error as JiffError;
 use jiff::tz::{TimeZone, Tzif};
 use std::alloc::Global;
 use std::marker::Model;
@@ -17,9 +19,11 @@ pub enum ZoneFault {
     BadRule = 1,
     #[error("no file of a time zone (TZif)")]
     BadFile,
+    #[error("out of memory")]
+    NoMemory,
 }
 
-/// A time zone. Contracts see the zone of a rule as jiff has it, and nothing of a file's.
+/// A time zone. Contracts see jiff's zone, or what jiff read in a file.
 #[derive(Drop)]
 pub struct Zone {
     kind: ZoneKind,
@@ -32,19 +36,17 @@ enum ZoneKind {
 }
 
 impl Model for Zone {
-    ghost use Rattle.std.specs.Prelude.{Option};
-    ghost use Rattle.jiff.specs.Types.{TimeZone};
-    ghost use Rattle.am_hours.specs.Zones.{rule_of};
+    ghost use Rattle.am_hours.specs.Zones.{ZoneData, zone_of};
 
-    ghost Value = { Option TimeZone };
+    ghost Value = { ZoneData };
 
-    ghost view = { λ z. rule_of z.kind };
+    ghost view = { λ z. zone_of z.kind };
 }
 
 impl Zone {
     /// Returns UTC.
     pub fn utc() -> Zone
-        ensures { result ≡ Some UTC }
+        ensures { result ≡ OfJiff UTC }
     {
         Zone {
             kind: ZoneKind::Rule(TimeZone::UTC),
@@ -72,22 +74,25 @@ impl Zone {
     /// Returns the zone of the bytes of a file of `/usr/share/zoneinfo`.
     ///
     /// # Errors
-    /// `BadFile`: the bytes have another form, or there is no memory.
+    /// - `BadFile`: the bytes have another form, or their rule contradicts their table.
+    /// - `NoMemory`: never at bytes of another form.
     pub fn from_file(alloc: Global, bytes: &[u8]) -> Result<Zone, ZoneFault>
-        ensures value { IfOk result (λ zone. zone ≡ None) }
-        ensures refused { IfErr result (λ fault. fault ≡ BadFile) }
+        ensures value { IfOk result (IsOfFile bytes.now) }
+        ensures refused { IfErr result (IsFileFault bytes.now) }
+        ensures malformed { (fault : TzifFault) → read_tzif bytes.now ≡ Err fault → result ≡ Err BadFile }
     {
         match Tzif::parse(alloc, None, bytes) {
             Ok(zone) => Ok(Zone {
                 kind: ZoneKind::File(zone),
             }),
+            Err(JiffError::OutOfMemory) => Err(ZoneFault::NoMemory),
             Err(_) => Err(ZoneFault::BadFile),
         }
     }
 
     /// Returns the zone as `jiff` has it.
     pub fn time_zone(&self) -> TimeZone<'_>
-        ensures { IfSome self.now (λ zone. plain_zone result ≡ zone) }
+        ensures { IsInJiff self.now (plain_zone result) }
     {
         match &self.kind {
             ZoneKind::Rule(zone) => *zone,

@@ -1,10 +1,10 @@
 -- Configured: under which configuration a story is played.
-use Rattle.std.specs.Prelude.{◌≡◌, ◌||◌, Option, Some, None, codes, is_some, option_map, if◌then◌else◌, IsSomeAnd, MatchOption}
+use Rattle.std.specs.Prelude.{◌≡◌, ◌||◌, Option, Some, None, codes, is_some, option_map, if◌then◌else◌, IsSomeAnd, IsTrue, MatchOption}
 use Rattle.std.specs.List.{list_any}
 use Rattle.serde_json.specs.Data.{Data, Members}
 use Rattle.serde_json.specs.Find.{as_object, get, get_member, pointer}
 use Rattle.serde_json.specs.View.{view}
-use Rattle.am_cli.specs.Configured.{DecodesToConfig}
+use Rattle.am_cli.specs.Configured.{DecodesToConfig, config_compares_texts}
 use Rattle.am_cli.specs.Decoding.{Has, HasNone}
 use Rattle.am_cli.specs.declared.reader.Dialect.{Dialect}
 use Rattle.am_cli.specs.declared.reader.Dialect.TheVariants.{Strict}
@@ -46,3 +46,7 @@ IsConfigFor (Some file) _ _ config = IsConfigOf (form_in file) file config
 -- the file that stands in place of a story's configuration, if there is one
 abbrev pub file_in : Changes → Option Data
 file_in changes = option_map (λ value. view value.now) changes.config
+
+-- the configuration of `config`, whose matchers look for no pattern
+abbrev pub TellsPlainly : Dialect → Members → Config → Type 0
+TellsPlainly dialect members config = Has (DecodesToConfig dialect) (codes "config") members config × IsTrue (config_compares_texts config)

@@ -1,22 +1,26 @@
 -- Request: what a rehearsal asks for.
-use Rattle.std.specs.Prelude.{◌≡◌, ℕ, List, [], codes, Option, Some, None, IsSomeAnd, if◌then◌else◌}
+use Rattle.std.specs.Prelude.{◌≡◌, ◌≤◌, ℕ, List, [], codes, map, Option, Some, None, IsSomeAnd, IsTrue, if◌then◌else◌}
 use Rattle.std.specs.Option.{option_and_then}
 use Rattle.std.specs.Str.{bytes_eq}
 use Rattle.serde_json.specs.Data.{Data, Members}
 use Rattle.serde_json.specs.Find.{as_object, as_str, get_member}
-use Rattle.am_cli.specs.Read.{interval_in}
-use Rattle.am_cli.specs.Decoding.{IsList, HasOr}
+use Rattle.am_cli.specs.Configured.{config_compares_texts}
+use Rattle.am_cli.specs.Read.{Excludes, has_only, interval_in}
+use Rattle.am_cli.specs.Decoding.{IsList, HasNone, HasOr}
+use Rattle.am_cli.specs.declared.faults.Refusal.{Refusal}
+use Rattle.am_cli.specs.declared.faults.Refusal.TheVariants.{One, All}
 use Rattle.am_cli.specs.declared.reader.Dialect.{Dialect}
 use Rattle.am_cli.specs.declared.reader.Dialect.TheVariants.{Strict}
 use Rattle.am_terms.specs.declared.expectation.Expectation.{Expectation}
 use Rattle.am_terms.specs.UtcDates.{IsReadFrom, StartData, dated}
 use Rattle.am_terms.specs.TimeFormatData.{TimeFormatData, counted}
 use Rattle.am_input.specs.Configured.{IsConfigFor, file_in}
-use Rattle.am_plans.specs.Decoding.{DecodesToOutage}
-use Rattle.am_plans.specs.Expected.{AreExpectedIn, last_end, until_in}
-use Rattle.am_plans.specs.Planned.{ArePlannedIn}
+use Rattle.am_plans.specs.Decoding.{DecodesToOutage, have_places}
+use Rattle.am_plans.specs.Expected.{AreExpectedIn, ArePlainIn, last_end, until_in}
+use Rattle.am_plans.specs.Planned.{ArePlainlyPlannedIn, ArePlannedIn}
 use Rattle.am_terms.specs.declared.rehearsal.Rehearsal.{Rehearsal}
-use Rattle.am_input.specs.declared.input.TheConstants.{MAINTAIN}
+use Rattle.am_terms.specs.declared.rehearsal.TheConstants.{MAX_UNTIL}
+use Rattle.am_input.specs.declared.input.TheConstants.{MAINTAIN, MEMBERS}
 use Rattle.am_input.specs.declared.input.Output.{Output}
 use Rattle.am_input.specs.declared.input.Changes.{Changes}
 use Rattle.am_input.specs.declared.input.Output.TheVariants.{Timeline, Notices, Json, Html}
@@ -68,7 +72,8 @@ pub record Requests (dialect : Dialect) (changes : Changes) (members : Members) 
   pub ends : end_for changes.overrides.until members ≡ Some rehearsal.until
   pub maintains : maintain_in (get_member (codes "maintain") members) ≡ Some rehearsal.maintain
   pub plans : ArePlannedIn dialect members rehearsal.plans.items
-  pub outages : HasOr (IsList DecodesToOutage) [] (codes "outages") members rehearsal.outages.items
+  pub outages : HasOr (IsList (DecodesToOutage dialect)) [] (codes "outages") members rehearsal.outages.items
+  pub places : IsTrue (have_places rehearsal.config rehearsal.outages.items)
   pub expects : AreExpectedIn dialect rehearsal.config rehearsal.until (last_end rehearsal.until members) rehearsal.plans.items
       (get_member (codes "expect") members) expectations
 
@@ -76,3 +81,30 @@ pub record Requests (dialect : Dialect) (changes : Changes) (members : Members) 
 abbrev pub IsRequestIn : Changes → Data → Output → Option StartData → List Expectation → Rehearsal → Type 0
 IsRequestIn changes value output start expectations rehearsal =
     IsSomeAnd (as_object value) (λ members. Requests Strict changes members output start expectations rehearsal)
+
+-- the names of the members of a story
+abbrev pub member_names : List (List ℕ)
+member_names = map (λ name. name.now) MEMBERS
+
+-- what is asked for isn't refused: each member has a known name, the configuration is the story's own and stands in `config`, neither a
+-- start nor zones are told, the end is one that a rehearsal may have, and no matcher looks for a pattern
+pub record IsSimple (dialect : Dialect) (changes : Changes) (members : Members) (rehearsal : Rehearsal) : Type 0 where
+  pub known : IsTrue (has_only dialect member_names members)
+  pub own : file_in changes ≡ None
+  pub ours : HasNone (codes "alertmanager") members
+  pub start : HasNone (codes "start") members
+  pub zones : HasNone (codes "zones") members
+  pub ends : rehearsal.until ≤ MAX_UNTIL
+  pub config : IsTrue (config_compares_texts rehearsal.config)
+  pub plans : ArePlainlyPlannedIn dialect members rehearsal.plans.items
+  pub expects : ArePlainIn dialect (get_member (codes "expect") members)
+
+-- a refusal, for one fault or for many, excludes these
+abbrev pub RefusesAll : {X : Type 0} → (X → Type 0) → Refusal → Type 0
+RefusesAll Tells (One fault) = Excludes Tells fault
+RefusesAll {X = X} Tells (All faults) = (x : X) → Tells x → ⊥
+
+-- a JSON value is an object whose members ask for this, which isn't refused
+abbrev pub IsSimpleIn : Changes → Data → Output → Option StartData → List Expectation → Rehearsal → Type 0
+IsSimpleIn changes value output start expectations rehearsal = IsSomeAnd (as_object value) (λ members.
+    Requests Strict changes members output start expectations rehearsal × IsSimple Strict changes members rehearsal)

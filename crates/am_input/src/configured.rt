@@ -1,8 +1,11 @@
 //! The configuration of a rehearsal: `config`, or Alertmanager's own. `input` calls it.
-ghost use Rattle.std.specs.Prelude.{◌≡◌, IfOk, None, option_map};
+ghost use Rattle.std.specs.Prelude.{◌≡◌, IfErr, IfOk, IsTrue, None, codes, false, is_ok, option_map};
 ghost use Rattle.serde_json.specs.View.{members_view, view};
-ghost use Rattle.am_cli.specs.Configured.{DecodesToConfig};
-ghost use Rattle.am_input.specs.Configured.{IsConfigFor, IsConfigIn, IsConfigOf, IsReadOfTheirs, form_in};
+ghost use Rattle.am_cli.specs.Configured.{DecodesToConfig, config_compares_texts};
+ghost use Rattle.am_cli.specs.Decoding.{HasNone};
+ghost use Rattle.am_cli.specs.Read.{Excludes};
+ghost use Rattle.am_input.specs.Configured.{IsConfigFor, IsConfigIn, IsConfigOf, IsReadOfTheirs, TellsPlainly, form_in};
+ghost use Rattle.am_input.specs.Request.{RefusesAll};
 
 use crate::form::{Form, alertmanager_in, form_of};
 use crate::hours::read_hours;
@@ -35,8 +38,12 @@ pub fn read_configured<Z: ZoneFiles>(
     until: Option<u64>,
     files: &mut Z,
 ) -> Result<Configured, Refusal>
-    ensures { IfOk result (λ read.
+    ensures told { IfOk result (λ read.
         IsConfigFor (option_map (λ g. view g.now) given.entry) top.now.dialect (members_view top.now.members) read.config) }
+    ensures timed { option_map (λ g. view g.now) given.entry ≡ None → HasNone (codes "alertmanager") (members_view top.now.members)
+        → IfOk result (λ read. read.lacks_hours ≡ false) }
+    ensures refused { option_map (λ g. view g.now) given.entry ≡ None → HasNone (codes "alertmanager") (members_view top.now.members)
+        → IfErr result (RefusesAll (TellsPlainly top.now.dialect (members_view top.now.members))) }
 {
     let hours = read_hours_for(top, given, until, files)?;
     match given {
@@ -52,17 +59,33 @@ fn read_hours_for<Z: ZoneFiles>(
     given: Option<&Value>,
     until: Option<u64>,
     files: &mut Z,
-) -> Result<Option<Hours>, InputFault> {
-    let theirs = match given {
-        None => top.members().get("alertmanager"),
-        Some(given) => alertmanager_in(given),
+) -> Result<Option<Hours>, InputFault>
+    ensures { option_map (λ g. view g.now) given.entry ≡ None → HasNone (codes "alertmanager") (members_view top.now.members)
+        → IsTrue (is_ok result) }
+{
+    let Some(given) = given else {
+        return read_hours_in(top, until, files);
     };
-    match theirs {
+    match alertmanager_in(given) {
         None => Ok(None),
         Some(theirs) => {
             let config = Reader::strict(top.alloc(), theirs);
             read_hours(top, &config, until, files)
         }
+    }
+}
+
+/// Reads the clocks of a story for its own configuration, if that is Alertmanager's.
+fn read_hours_in<Z: ZoneFiles>(
+    top: &Object<'_, '_>,
+    until: Option<u64>,
+    files: &mut Z,
+) -> Result<Option<Hours>, InputFault>
+    ensures { HasNone (codes "alertmanager") (members_view top.now.members) → IsTrue (is_ok result) }
+{
+    match top.optional("alertmanager") {
+        None => Ok(None),
+        Some(config) => read_hours(top, &config, until, files),
     }
 }
 
@@ -96,7 +119,10 @@ pub fn read_file(alloc: Global, value: &Value, hours: Option<&Hours>) -> Result<
 /// Reads the configuration in a story. It stands in `config` or, as Alertmanager has it, in `alertmanager`, which is
 /// refused beside `config`.
 fn read_in_story(top: &Object<'_, '_>, hours: Option<&Hours>) -> Result<Configured, Refusal>
-    ensures { IfOk result (λ read. IsConfigIn top.now.dialect (members_view top.now.members) read.config) }
+    ensures told { IfOk result (λ read. IsConfigIn top.now.dialect (members_view top.now.members) read.config) }
+    ensures timed { HasNone (codes "alertmanager") (members_view top.now.members) → IfOk result (λ read. read.lacks_hours ≡ false) }
+    ensures refused { HasNone (codes "alertmanager") (members_view top.now.members)
+        → IfErr result (RefusesAll (TellsPlainly top.now.dialect (members_view top.now.members))) }
 {
     let Some(member) = top.optional("alertmanager") else {
         return Ok(read_own(&top.required("config")?)?);
@@ -109,7 +135,10 @@ fn read_in_story(top: &Object<'_, '_>, hours: Option<&Hours>) -> Result<Configur
 
 /// Reads a configuration of our own.
 fn read_own(reader: &Reader<'_, '_>) -> Result<Configured, InputFault>
-    ensures { IfOk result (λ read. DecodesToConfig reader.now.dialect (view reader.now.value) read.config) }
+    ensures told { IfOk result (λ read. DecodesToConfig reader.now.dialect (view reader.now.value) read.config) }
+    ensures timed { IfOk result (λ read. read.lacks_hours ≡ false) }
+    ensures refused { IfErr result (Excludes (λ config.
+        DecodesToConfig reader.now.dialect (view reader.now.value) config × IsTrue (config_compares_texts config))) }
 {
     Ok(Configured {
         config: read_config(reader)?,

@@ -2,6 +2,8 @@
 //!
 //! They are read before the configuration, and without their faults: each fault comes in its own order. Where one of the
 //! three has a fault, the intervals are read without clocks.
+ghost use Rattle.std.specs.Prelude.{◌≡◌, IsTrue, false, is_ok};
+
 use crate::input::read_until;
 use crate::moment;
 use crate::zone_files::ZoneFiles;
@@ -112,7 +114,9 @@ pub fn check_start(
     top: &Object<'_, '_>,
     until: Option<u64>,
     lacks_hours: bool,
-) -> Result<(), InputFault> {
+) -> Result<(), InputFault>
+    ensures { lacks_hours ≡ false → IsTrue (is_ok result) }
+{
     if !lacks_hours {
         return Ok(());
     }

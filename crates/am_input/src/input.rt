@@ -8,17 +8,21 @@
 //! is. Contracts say by definitions over the JSON value's fields what was read for `output`,
 //! `start`, `until`, `maintain`, `alerts`, `silences`, `outages` and `expect` (`Request`, `Decoding`,
 //! `Planned`, `Expected`).
-ghost use Rattle.std.specs.Prelude.{◌≡◌, ◌≤◌, ◌<◌, [], IfOk, Some, codes};
+ghost use Rattle.std.specs.Prelude.{◌≡◌, ◌≤◌, ◌<◌, ℕ, [], IfErr, IfOk, IsTrue, Some, codes, false};
 ghost use Rattle.std.specs.Result.{result_ok};
 ghost use Rattle.serde_json.specs.Find.{get_member};
 ghost use Rattle.serde_json.specs.View.{members_view, view};
 ghost use Rattle.am_terms.specs.declared.rehearsal.TheConstants.{MAX_UNTIL};
-ghost use Rattle.am_cli.specs.Decoding.{HasOr, IsList};
+ghost use Rattle.am_cli.specs.Decoding.{HasNone, HasOr, IsList};
+ghost use Rattle.am_cli.specs.Read.{Excludes};
 ghost use Rattle.am_input.specs.Configured.{IsConfigFor, file_in};
-ghost use Rattle.am_plans.specs.Decoding.{DecodesToOutage};
-ghost use Rattle.am_plans.specs.Expected.{AreExpectedIn, last_end};
-ghost use Rattle.am_plans.specs.Planned.{ArePlannedIn};
-ghost use Rattle.am_input.specs.Request.{DecodesToStart, Requests, IsRequestIn, end_for, maintain_in, output_for};
+ghost use Rattle.am_plans.specs.Decoding.{DecodesToOutage, have_places};
+ghost use Rattle.am_plans.specs.Expected.{AreExpectedIn, ArePlainIn, last_end};
+ghost use Rattle.am_plans.specs.Planned.{ArePlainlyPlannedIn, ArePlannedIn};
+ghost use Rattle.am_terms.specs.declared.rehearsal.Rehearsal.{Rehearsal};
+ghost use Rattle.am_input.specs.declared.input.Asked.{Asked};
+ghost use Rattle.am_input.specs.declared.input.Input.{Input};
+ghost use Rattle.am_input.specs.Request.{DecodesToStart, IsRequestIn, IsSimple, IsSimpleIn, RefusesAll, Requests, end_for, maintain_in, output_for};
 
 use crate::configured::{Configured, read_configured};
 use crate::hours::check_start;
@@ -122,8 +126,10 @@ pub fn read_input<Z: ZoneFiles>(
     changes: Changes<'_>,
     files: &mut Z,
 ) -> Result<Input, Refusal>
-    ensures { IfOk result (λ input. IsRequestIn changes.entry (view value.now) input.output input.start
+    ensures told { IfOk result (λ input. IsRequestIn changes.entry (view value.now) input.output input.start
         input.expectations.items input.rehearsal) }
+    ensures refused { IfErr result (RefusesAll (λ (input : Input). IsSimpleIn changes.entry (view value.now) input.output input.start
+        input.expectations.items input.rehearsal)) }
 {
     let reader = Reader::strict(alloc, value);
     let top = reader.object()?;
@@ -139,8 +145,13 @@ fn read_planned(
     changes: Changes<'_>,
 ) -> Result<Input, InputFault>
     requires { IsConfigFor (file_in changes) top.now.dialect (members_view top.now.members) configured.config }
-    ensures { IfOk result (λ input. Requests top.now.dialect changes.entry (members_view top.now.members) input.output input.start
+    ensures told { IfOk result (λ input. Requests top.now.dialect changes.entry (members_view top.now.members) input.output input.start
         input.expectations.items input.rehearsal) }
+    ensures refused { configured.lacks_hours ≡ false → IfErr result (Excludes (λ (input : Input).
+        Requests top.now.dialect changes.entry (members_view top.now.members) input.output input.start
+        input.expectations.items input.rehearsal
+        × (input.rehearsal.config ≡ configured.config)
+        × IsSimple top.now.dialect changes.entry (members_view top.now.members) input.rehearsal)) }
 {
     let Configured {
         config,
@@ -181,6 +192,12 @@ fn read_asked(
         AreExpectedIn top.now.dialect rehearsal.now.config rehearsal.now.until
         (last_end rehearsal.now.until (members_view top.now.members)) rehearsal.now.plans.items
         (get_member (codes "expect") (members_view top.now.members)) asked.expectations.items) }
+    ensures refused { HasNone (codes "start") (members_view top.now.members) → IfErr result (Excludes (λ (asked : Asked).
+        (output_for output (get_member (codes "output") (members_view top.now.members)) ≡ Some asked.output)
+        × AreExpectedIn top.now.dialect rehearsal.now.config rehearsal.now.until
+        (last_end rehearsal.now.until (members_view top.now.members)) rehearsal.now.plans.items
+        (get_member (codes "expect") (members_view top.now.members)) asked.expectations.items
+        × ArePlainIn top.now.dialect (get_member (codes "expect") (members_view top.now.members)))) }
 {
     let start = moment::start(top)?;
     let output = read_output(top, output)?;
@@ -206,7 +223,13 @@ fn read_rehearsal(
         maintain_in (get_member (codes "maintain") (members_view top.now.members)) ≡ Some read.0.maintain) }
     ensures plans { IfOk result (λ read. ArePlannedIn top.now.dialect (members_view top.now.members) read.0.plans.items) }
     ensures outages { IfOk result (λ read.
-        HasOr (IsList DecodesToOutage) [] (codes "outages") (members_view top.now.members) read.0.outages.items) }
+        HasOr (IsList (DecodesToOutage top.now.dialect)) [] (codes "outages") (members_view top.now.members) read.0.outages.items) }
+    ensures places { IfOk result (λ read. IsTrue (have_places config read.0.outages.items)) }
+    ensures refused { IfErr result (Excludes (λ (r : Rehearsal).
+        (maintain_in (get_member (codes "maintain") (members_view top.now.members)) ≡ Some r.maintain)
+        × HasOr (IsList (DecodesToOutage top.now.dialect)) [] (codes "outages") (members_view top.now.members) r.outages.items
+        × IsTrue (have_places config r.outages.items)
+        × ArePlainlyPlannedIn top.now.dialect (members_view top.now.members) r.plans.items)) }
 {
     let maintain = read_maintain(top)?;
     let outages = read_outages(top, &config)?;
@@ -236,6 +259,7 @@ pub(crate) fn read_maintain(top: &Object<'_, '_>) -> Result<u64, InputFault>
 pub(crate) fn read_until(top: &Object<'_, '_>, asked: Option<u64>) -> Result<u64, InputFault>
     ensures until { IfOk result (λ until. end_for asked (members_view top.now.members) ≡ Some until) }
     ensures most { IfOk result (λ until. until ≤ MAX_UNTIL) }
+    ensures refused { IfErr result (λ _. (until : ℕ) → end_for asked (members_view top.now.members) ≡ Some until → MAX_UNTIL < until) }
 {
     let until = end_of(top, asked)?;
     if until > MAX_UNTIL {
@@ -251,7 +275,7 @@ pub(crate) fn read_until(top: &Object<'_, '_>, asked: Option<u64>) -> Result<u64
 
 /// The last moment, whichever it is.
 fn end_of(top: &Object<'_, '_>, asked: Option<u64>) -> Result<u64, InputFault>
-    ensures { IfOk result (λ until. end_for asked (members_view top.now.members) ≡ Some until) }
+    ensures { result_ok result ≡ end_for asked (members_view top.now.members) }
 {
     match asked {
         Some(until) => Ok(until),

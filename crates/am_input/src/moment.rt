@@ -1,7 +1,8 @@
 //! The time of the start, and how it is read. `input` calls it.
-ghost use Rattle.std.specs.Prelude.{IfOk, codes};
+ghost use Rattle.std.specs.Prelude.{IfOk, IsTrue, codes, is_ok};
 ghost use Rattle.serde_json.specs.Find.{get_member};
 ghost use Rattle.serde_json.specs.View.{members_view};
+ghost use Rattle.am_cli.specs.Decoding.{HasNone};
 ghost use Rattle.am_input.specs.Request.{DecodesToStart};
 
 use am_cli::fault::{FaultKind, InputFault};
@@ -10,8 +11,9 @@ use am_terms::dated::UtcDates;
 
 /// When the rehearsal starts, if it is told: a text of RFC 3339, of the years 0 to 9999 of UTC.
 pub fn start(top: &Object<'_, '_>) -> Result<Option<UtcDates>, InputFault>
-    ensures { IfOk result (λ start.
+    ensures told { IfOk result (λ start.
         DecodesToStart (get_member (codes "start") (members_view top.now.members)) start) }
+    ensures none { HasNone (codes "start") (members_view top.now.members) → IsTrue (is_ok result) }
 {
     let Some(member) = top.optional("start") else {
         return Ok(None);

@@ -1,6 +1,7 @@
 pub mod Base
 pub mod Entries
 pub mod Flushes
+pub mod Forgotten
 pub mod Groups
 pub mod Laws
 pub mod Logged

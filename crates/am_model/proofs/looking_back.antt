@@ -1,3 +1,4 @@
+pub mod Forgetting
 pub mod LooksBack
 pub mod PastWords
 pub mod Pasts

@@ -68,6 +68,10 @@ begin_cause config records s t =
 abbrev pub maintain_cause : Config → ℕ → State → Option Fault
 maintain_cause config records s = if is_full config records s 1 then Some HistoryFull else None
 
+-- why a forgetting is refused
+abbrev pub forget_cause : Config → ℕ → State → Option Fault
+forget_cause config records s = if is_full config records s 1 then Some HistoryFull else None
+
 -- why an integration isn't noted with this outcome, as a flush asked it
 abbrev pub asked_cause : Config → ℕ → State → Option Outcome → Option AskedState → Option NoteFault
 asked_cause config records s outcome None = Some note.NotReady

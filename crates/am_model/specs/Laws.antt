@@ -2,20 +2,25 @@
 use Rattle.std.specs.Prelude.{◌≡◌, ℕ, ◌+◌, ◌<◌, ◌≤◌, ◌↔◌, min, max, Bool, true, false, IsTrue, All, List, [], ◌∷◌, ◌++◌, fold, not}
 use Rattle.std.specs.Prelude.{Option, Some, None, ◌==◌, find, if◌then◌else◌}
 use Rattle.std.specs.List.{list_any, IsDistinct}
+use Rattle.std.specs.Option.{option_map}
 use Rattle.am_alerts.specs.declared.limits.TheConstants.{MAX_MOMENT}
 use Rattle.am_nflog.specs.Members.{is_empty}
 use Rattle.am_model.specs.declared.config.Config.{Config}
 use Rattle.am_model.specs.declared.group.GroupName.{GroupName}
+use Rattle.am_model.specs.declared.record.Call.{Call}
 use Rattle.am_model.specs.declared.record.Record.{Record}
 use Rattle.am_model.specs.declared.record.Reply.{Reply}
-use Rattle.am_model.specs.declared.record.Reply.TheVariants.{Inserted, Silenced, NothingDue, Quiet, Flush, Finished, Maintained, Noted}
+use Rattle.am_model.specs.declared.record.Reply.TheVariants.{Inserted, Silenced, NothingDue, Quiet, Flush}
+use Rattle.am_model.specs.declared.record.Reply.TheVariants.{Finished, Maintained, Forgotten, Noted}
 use Rattle.am_model.specs.Records.{now_of}
 use Rattle.am_model.specs.Configured.{route_of}
 use Rattle.am_model.specs.Finish.{same_key}
+use Rattle.am_model.specs.Forget.{after_forget}
 use Rattle.am_model.specs.Insert.{same_alert, same_member, same_group, names_for}
-use Rattle.am_model.specs.Replay.{reply, after, replay, IsLegal}
+use Rattle.am_model.specs.Replay.{reply, after, after_call, replay, IsLegal}
 use Rattle.am_model.specs.Upkeep.{same_silence}
-use Rattle.am_model.specs.State.{MemberState, GroupState, AskedState, FlushState, State, opening_state, same_name, has_group, members_in}
+use Rattle.am_model.specs.State.{MemberState, GroupState, AskedState, FlushState, State, opening_state, at_moment, same_name}
+use Rattle.am_model.specs.State.{has_group, members_in}
 
 -- one record more is one step more
 abbrev pub ReplayAppends : Type 0
@@ -52,6 +57,7 @@ last_begin_after name s t last (Quiet group removed) = if same_name name group t
 last_begin_after name s t last (Flush number group deadline notices) = if same_name name group then Some t else last
 last_begin_after name s t last (Finished finished) = last
 last_begin_after name s t last (Maintained maintained) = if is_empty (members_in s.groups name) then None else last
+last_begin_after name s t last (Forgotten forgotten) = last
 last_begin_after name s t last Noted = last
 
 -- the same after some records, from a state on
@@ -137,3 +143,40 @@ ReplaysAreConsistent = (config : Config) (history : List Record) → IsConsisten
 abbrev pub LegalKeepsBegins : Type 0
 LegalKeepsBegins =
     (config : Config) (id : ℕ) (history : List Record) → IsLegal config id history → KeepsBegins config history
+
+-- a reply without what a forgetting before it may change: whether a silence replaced one, and how many alerts and silences are forgotten
+abbrev pub bare_reply : Reply → Reply
+bare_reply (Inserted inserted) = Inserted inserted
+bare_reply (Silenced silenced) = Silenced (record { replaced = false })
+bare_reply NothingDue = NothingDue
+bare_reply (Quiet group removed) = Quiet group removed
+bare_reply (Flush number group deadline notices) = Flush number group deadline notices
+bare_reply (Finished finished) = Finished finished
+bare_reply (Maintained maintained) = Maintained maintained
+bare_reply (Forgotten forgotten) = Forgotten (record { alerts = 0; silences = 0 })
+bare_reply Noted = Noted
+
+-- a state without what a forgetting changes
+abbrev pub bare_state : State → State
+bare_state s = record s { known = []; silences = [] }
+
+-- the bare replies to calls, one after the other, from a state on
+abbrev pub replies_from : Config → ℕ → State → List Call → List (Option Reply)
+replies_from config id s [] = []
+replies_from config id s (c ∷ cs) = option_map bare_reply (reply config id s c) ∷ replies_from config id (after_call config s c) cs
+
+-- the state after these calls
+abbrev pub state_from : Config → State → List Call → State
+state_from config s calls = fold (after_call config) s calls
+
+-- calls after a forgetting are replied as they are where nothing was forgotten at its moment, but for what bare replies leave out
+abbrev pub ForgettingChangesNoReply : Type 0
+ForgettingChangesNoReply =
+    (config : Config) (id : ℕ) (s : State) (t : ℕ) (calls : List Call) → IsConsistent s
+    → replies_from config id (after_forget s t) calls ≡ replies_from config id (at_moment s t) calls
+
+-- and they leave the same state, but for known alerts and silences
+abbrev pub ForgettingChangesNoState : Type 0
+ForgettingChangesNoState =
+    (config : Config) (s : State) (t : ℕ) (calls : List Call) → IsConsistent s
+    → bare_state (state_from config (after_forget s t) calls) ≡ bare_state (state_from config (at_moment s t) calls)

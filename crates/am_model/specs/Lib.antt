@@ -10,6 +10,8 @@ pub mod Configured
 pub mod Faults
 -- a finish: the successes of a flush are logged, and its resolved alerts leave
 pub mod Finish
+-- a forgetting: alerts that are resolved and in no group go, and silences that are over
+pub mod Forget
 -- an insert: an alert goes to the known ones and to the groups of its routes
 pub mod Insert
 -- what is true after every history, and how a history's state goes record by record

@@ -4,13 +4,14 @@ use Rattle.std.specs.Option.{option_map}
 use Rattle.am_mute.specs.Silence.{silence_of}
 use Rattle.am_model.specs.declared.config.Config.{Config}
 use Rattle.am_model.specs.declared.record.Call.{Call}
-use Rattle.am_model.specs.declared.record.Call.TheVariants.{Insert, Silence, Begin, Finish, Maintain, Note}
+use Rattle.am_model.specs.declared.record.Call.TheVariants.{Insert, Silence, Begin, Finish, Maintain, Forget, Note}
 use Rattle.am_model.specs.declared.record.Record.{Record}
 use Rattle.am_model.specs.declared.record.Reply.{Reply}
-use Rattle.am_model.specs.declared.record.Reply.TheVariants.{Inserted, Silenced, Finished, Maintained}
+use Rattle.am_model.specs.declared.record.Reply.TheVariants.{Inserted, Silenced, Finished, Maintained, Forgotten}
 use Rattle.am_model.specs.Insert.{inserted, after_insert}
 use Rattle.am_model.specs.Begin.{begun, after_begin}
 use Rattle.am_model.specs.Finish.{finished, after_finish_of}
+use Rattle.am_model.specs.Forget.{forgotten, after_forget}
 use Rattle.am_model.specs.Note.{noted, after_note_of}
 use Rattle.am_model.specs.Upkeep.{silenced, after_silence, maintained, after_maintain}
 use Rattle.am_model.specs.State.{State, opening_state, moment, flush_numbered}
@@ -24,6 +25,7 @@ reply config id s (Begin now) = Some (begun config id s (moment s now))
 reply config id s (Finish now number outcomes) =
     option_map (λ f. Finished (finished s outcomes f)) (flush_numbered s.flushes number)
 reply config id s (Maintain now) = Some (Maintained (maintained s (moment s now)))
+reply config id s (Forget now) = Some (Forgotten (forgotten s (moment s now)))
 reply config id s (Note now number integration outcome) = noted integration outcome (flush_numbered s.flushes number)
 
 -- the state after a call
@@ -34,6 +36,7 @@ after_call config s (Begin now) = after_begin config s (moment s now)
 after_call config s (Finish now number outcomes) =
     after_finish_of config s (moment s now) outcomes (flush_numbered s.flushes number)
 after_call config s (Maintain now) = after_maintain s (moment s now)
+after_call config s (Forget now) = after_forget s (moment s now)
 after_call config s (Note now number integration outcome) =
     after_note_of config s (moment s now) integration outcome (flush_numbered s.flushes number)
 

@@ -37,7 +37,7 @@ DefaultIs =
 abbrev pub TimesAre : Type 0
 TimesAre = (MIN_FLUSH_TIMEOUT ≡ 10_000) × (MAX_DEADLINE ≡ 1_001_000_000_000_000)
 
--- law: the numbers of the faults of an insert, a silence, a begin or a maintenance
+-- law: the numbers of the faults of an insert, a silence, a begin, a maintenance or a forgetting
 abbrev pub CallFaultsAre : Type 0
 CallFaultsAre =
     CALL_FAULTS

@@ -9,7 +9,7 @@ use crate::config::ConfigFault;
 use std::alloc::AllocError;
 use thiserror::Error;
 
-/// Why an insert, a silence, a begin or a maintenance fails.
+/// Why an insert, a silence, a begin, a maintenance or a forgetting fails.
 ///
 /// If several causes apply, the order is `HistoryFull`, `TooManyNames`, `TooManyGroups`,
 /// `TooManySilences`, `TooManyOpen`, `NoMemory`. Exception: `NoMemory` can precede `TooManyGroups`

@@ -2,6 +2,7 @@
 //! has an empty body: its `ensures` is the statement.
 ghost use Rattle.am_model.specs.Laws.{ReplayAppends, LegalAppends, ClockIsMoment, BeginningsAreLegal};
 ghost use Rattle.am_model.specs.Laws.{ReplaysAreConsistent, ReplaysKnowMembers, LegalKeepsBegins};
+ghost use Rattle.am_model.specs.Laws.{ForgettingChangesNoReply, ForgettingChangesNoState};
 ghost use Rattle.am_model.specs.look_back.Interval.{BeginsKeepTheInterval};
 ghost use Rattle.am_model.specs.look_back.Laws.{EveryLegalHistory, AlertsAreFound, ShownAlertsAreFound, RowsAreFound, ShownRowsAreFound};
 ghost use Rattle.am_model.specs.look_back.Laws.{OnlyDeliveredIsLogged, RowsComeByDelivery, RowsWereDelivered, RefiringAlertsStay};
@@ -92,6 +93,18 @@ pub fn legal_histories_are_consistent()
     ensures consistent { ReplaysAreConsistent }
     ensures members { ReplaysKnowMembers }
     ensures begins { LegalKeepsBegins }
+{}
+
+/// States that a forgetting changes no later reply, and of a later state no more than known alerts
+/// and silences.
+///
+/// The state is any consistent one, as each history leaves it. Later calls are compared with the
+/// same calls where the clock alone moved. Exception: whether a silence replaced one, and what later
+/// forgettings count. It doesn't speak of calls that a limit of names or silences refuses, of which
+/// there are fewer after a forgetting, nor of which known alert inhibits, where several do.
+pub fn forgetting_changes_no_answer()
+    ensures replies { ForgettingChangesNoReply }
+    ensures states { ForgettingChangesNoState }
 {}
 
 /// States which alerts are in which group after a legal history, read off the history from its end.

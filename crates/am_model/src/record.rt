@@ -42,6 +42,15 @@ pub struct Maintained {
     pub entries: usize,
 }
 
+/// The reply to a forgetting.
+#[derive(Clone, Copy, Debug, PartialEq, Eq)]
+pub struct Forgotten {
+    /// How many known alerts went.
+    pub alerts: usize,
+    /// How many silences went.
+    pub silences: usize,
+}
+
 /// The reply to a note.
 #[derive(Clone, Copy, Debug, PartialEq, Eq)]
 pub struct Noted;
@@ -72,6 +81,9 @@ pub enum Call {
     Maintain {
         now: u64,
     },
+    Forget {
+        now: u64,
+    },
     /// The outcome is the one of the ticket for the integration.
     Note {
         now: u64,
@@ -99,6 +111,7 @@ pub enum Reply {
     },
     Finished(Finished),
     Maintained(Maintained),
+    Forgotten(Forgotten),
     Noted,
 }
 

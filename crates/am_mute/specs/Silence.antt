@@ -31,6 +31,10 @@ silence_fault s =
 abbrev pub is_active : SilenceData → ℕ → Bool
 is_active s t = nat_le s.start t && nat_lt t s.end
 
+-- whether a silence is over at t: its end has come, so that it mutes nothing any more
+abbrev pub is_over : ℕ → SilenceData → Bool
+is_over t s = nat_le s.end t
+
 -- whether a silence mutes a label set at t: it is active, and all its matchers match
 abbrev pub silence_mutes : SilenceData → ℕ → List Label → Bool
 silence_mutes s t labels = is_active s t && match_all s.matchers labels

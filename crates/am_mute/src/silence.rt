@@ -1,7 +1,7 @@
 //! `Silence`: matchers and a span. Callers make them, a board stores them.
 ghost use Rattle.std.specs.Prelude.{◌≡◌, ◌≢◌, ◌≤◌, [], length, IfOk, IsOk, IsTrue};
 ghost use Rattle.am_alerts.specs.Fault.{ok_unless};
-ghost use Rattle.am_mute.specs.Silence.{silence_fault, silence_of, silence_mutes};
+ghost use Rattle.am_mute.specs.Silence.{is_over, silence_fault, silence_of, silence_mutes};
 ghost use Rattle.am_alerts.specs.Matcher.{compare_texts};
 
 use am_alerts::labels::Labels;
@@ -105,6 +105,13 @@ impl Silence {
         ensures bounded { result ≤ MAX_MOMENT }
     {
         self.end
+    }
+
+    /// Whether this silence mutes nothing any more from `t` on (milliseconds).
+    pub fn is_over(&self, t: u64) -> bool
+        ensures { result ≡ is_over t self.now }
+    {
+        self.end <= t
     }
 
     /// Whether this silence mutes a label set at `t`.

@@ -39,9 +39,9 @@ pub(crate) struct SilenceIndex {
 }
 
 impl SilenceIndex {
-    /// Of no silences.
+    /// Nothing indexed yet, of whatever silences.
     pub(crate) fn new(alloc: Global) -> SilenceIndex
-        ensures { IsIndexed [] result }
+        ensures { (silences : List SilenceData) → IsIndexed silences result }
     {
         SilenceIndex {
             places: HashMap::new(alloc),

@@ -5,9 +5,9 @@
 //! `silence_for` names the first of the list: it compares the places of all that it finds, and
 //! tests those before the best so far.
 ghost use Rattle.std.specs.Prelude.{◌≡◌, ◌<◌, ◌≤◌, ◌++◌, ◌==◌, [], ◌∷◌, length, set, is_some, option_copied, IfOk, IfSome, IsOk, IsTrue};
-ghost use Rattle.std.specs.Prelude.{OnOk};
+ghost use Rattle.std.specs.Prelude.{OnOk, count_by, filter, not};
 ghost use Rattle.std.specs.List.{position};
-ghost use Rattle.am_mute.specs.Silence.{is_silenced};
+ghost use Rattle.am_mute.specs.Silence.{is_over, is_silenced};
 ghost use Rattle.am_mute.specs.Mute.{silence_for};
 ghost use Rattle.am_mute.specs.Matching.{silences_compare_texts};
 
@@ -95,6 +95,24 @@ impl Silences {
         self.index.change(alloc, place, &silence);
         self.silences[place] = silence;
         self.index.extend(alloc, self.silences.as_slice());
+    }
+
+    /// Removes the silences that are over at `t` (milliseconds). Returns how many. Never fails.
+    ///
+    /// Cost: one walk, and the index is made anew.
+    pub fn drop_over(&mut self, alloc: Global, t: u64) -> usize
+        ensures items { self.new.items ≡ filter (λ s. not (is_over t s)) self.old.items }
+        ensures count { result ≡ count_by (is_over t) self.old.items }
+    {
+        let before = self.silences.len();
+        self.silences.retain(
+            |silence: &Silence| -> bool
+                ensures { result ≡ not (is_over t silence.now) }
+            { !silence.is_over(t) },
+        );
+        self.index = SilenceIndex::new(alloc);
+        self.index.extend(alloc, self.silences.as_slice());
+        before - self.silences.len()
     }
 
     /// Whether one of the silences mutes a label set at `t` (milliseconds). Matchers that compare texts

@@ -1,6 +1,7 @@
 -- What a caller cites of a log: which rows and keys there are after each change.
-use Rattle.std.proofs.Common.{◌≡◌, ℕ, Bool, true, false, cond, not, ◌||◌, nat_le, nat_lt, List, [], ◌∷◌, ◌++◌, filter, Option, None, Some, refl, sym, ap, subst, ◌∙◌, arith, if◌then◌else◌}
+use Rattle.std.proofs.Common.{◌≡◌, ℕ, Bool, true, false, cond, not, ◌||◌, nat_eq, nat_le, nat_lt, List, [], ◌∷◌, ◌++◌, filter, is_some, Option, None, Some, refl, sym, ap, subst, ◌∙◌, arith, if◌then◌else◌}
 use Rattle.std.proofs.Math.Bool.{or-false}
+use Rattle.std.proofs.lemmas.Bool.{and_parts, or_right}
 use Rattle.std.proofs.lemmas.Bool.Decides.{nat_tests}
 use Rattle.std.proofs.lemmas.List.{map-append}
 use Rattle.std.proofs.lemmas.List.Folds.{list_any-append}
@@ -11,7 +12,7 @@ use Rattle.std.specs.List.{list_any, cons_option, IsDistinct}
 use Rattle.std.specs.Map.{keys_of, lookup}
 use Rattle.std.specs.Option.{option_flatten, option_map}
 use Rattle.am_nflog.proofs.Numbering.{member_alike}
-use Rattle.am_nflog.specs.Log.{Slots, key_eq, is_known, row_of, rows_of, with_key, with_row, kept, collected, HasDistinctKeys}
+use Rattle.am_nflog.specs.Log.{Slots, key_eq, is_known, row_of, rows_of, with_key, with_row, without_unused, kept, collected, HasDistinctKeys}
 use Rattle.am_nflog.specs.declared.key.LogKey.{LogKey}
 use Rattle.am_nflog.specs.declared.row.LogRow.{LogRow}
 
@@ -103,6 +104,50 @@ module _ {G N : Type 0} (eq : G → G → Bool) (log : Slots G N) where
           ∙ ap (list_any (key_eq eq q)) (map-append (λ slot. slot.0) log ((key, None) ∷ []))
           ∙ list_any-append (key_eq eq q) (keys_of log) (key ∷ [])
           ∙ (λ i. sym (is_known-keys q) i || or-false (key_eq eq q key) i)
+
+  -- ---- after `forget`
+
+  -- a key that is known stays so where it is of one of the groups
+  pub is_known-without_unused : IsEquivalence eq → (groups : List G) (q : LogKey G) → list_any (λ g. eq g q.group) groups ≡ true → is_known eq log q ≡ true → is_known eq (without_unused eq groups log) q ≡ true
+  is_known-without_unused laws groups q used known =
+      is_some-lookup (key_eq eq q) (without_unused eq groups log) ∙ known_stays log (sym (is_known-keys q) ∙ known)
+    where
+      stays : LogKey G × Option (LogRow N) → Bool
+      stays slot = is_some slot.1 || list_any (λ g. eq g slot.0.group) groups
+
+      same_group : (k : LogKey G) → key_eq eq q k ≡ true → (gs : List G) → list_any (λ g. eq g k.group) gs ≡ list_any (λ g. eq g q.group) gs
+      same_group k e [] = refl
+      same_group k e (g ∷ gs) =
+          let own : eq q.group k.group ≡ true = (and_parts (eq q.group k.group) (nat_eq q.integration k.integration) e).0 in
+          λ i. (laws.symm g k.group ∙ sym (laws.congr q.group k.group g own) ∙ laws.symm q.group g) i || same_group k e gs i
+
+      kept_too : (slot : LogKey G × Option (LogRow N)) → key_eq eq q slot.0 ≡ true → stays slot ≡ true
+      kept_too slot e = or_right (is_some slot.1) (list_any (λ g. eq g slot.0.group) groups) (same_group slot.0 e groups ∙ used)
+
+      known_stays : (ss : Slots G N) → list_any (key_eq eq q) (keys_of ss) ≡ true → list_any (key_eq eq q) (keys_of (filter stays ss)) ≡ true
+      known_stays [] h = h
+      known_stays (s ∷ ss) h =
+          elim (key_eq eq q s.0) as (λ b. key_eq eq q s.0 ≡ b → (b || list_any (key_eq eq q) (keys_of ss)) ≡ true → list_any (key_eq eq q) (keys_of (cond (stays s) (s ∷ filter stays ss) (filter stays ss))) ≡ true) [
+            | true ↦ λ e _.
+                ap (λ b. list_any (key_eq eq q) (keys_of (cond b (s ∷ filter stays ss) (filter stays ss)))) (kept_too s e)
+                ∙ ap (λ b. b || list_any (key_eq eq q) (keys_of (filter stays ss))) e
+            | false ↦ λ e later.
+                elim (stays s) as (λ b. list_any (key_eq eq q) (keys_of (cond b (s ∷ filter stays ss) (filter stays ss))) ≡ true) [
+                  | true ↦ or_right (key_eq eq q s.0) (list_any (key_eq eq q) (keys_of (filter stays ss))) (known_stays ss later)
+                  | false ↦ known_stays ss later
+                ]
+          ] refl h
+
+-- each row stays
+pub rows_of-without_unused : {G N : Type 0} (eq : G → G → Bool) (groups : List G) (log : Slots G N) → rows_of (without_unused eq groups log) ≡ rows_of log
+rows_of-without_unused eq groups [] = refl
+rows_of-without_unused {G} {N} eq groups (s ∷ ss) = by s.1 (list_any (λ g. eq g s.0.group) groups) (rows_of-without_unused eq groups ss)
+  where
+    by : (o : Option (LogRow N)) (b : Bool) → rows_of (without_unused eq groups ss) ≡ rows_of ss
+        → rows_of (cond (is_some o || b) ((s.0, o) ∷ without_unused eq groups ss) (without_unused eq groups ss)) ≡ cons_option (option_map (λ row. (s.0, row)) o) (rows_of ss)
+    by None true h = h
+    by None false h = h
+    by (Some row) b h = ap (λ rest. (s.0, row) ∷ rest) h
 
 lt_not_le : (m n : ℕ) → nat_lt m n ≡ not (nat_le n m)
 lt_not_le m n = grind (arith, nat_tests)

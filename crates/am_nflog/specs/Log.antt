@@ -1,7 +1,7 @@
 -- The log as the list of its known keys, each with a row or none.
-use Rattle.std.specs.Prelude.{ℕ, Bool, false, ◌&&◌, nat_eq, nat_le, List, [], ◌∷◌, ◌++◌, Option, None, Some, map, is_some, count_by}
-use Rattle.std.specs.Prelude.{if◌then◌else◌}
-use Rattle.std.specs.List.{IsDistinct, filter_map}
+use Rattle.std.specs.Prelude.{ℕ, Bool, false, ◌&&◌, ◌||◌, nat_eq, nat_le, List, [], ◌∷◌, ◌++◌, Option, None, Some, map, filter, is_some}
+use Rattle.std.specs.Prelude.{count_by, if◌then◌else◌}
+use Rattle.std.specs.List.{IsDistinct, filter_map, list_any}
 use Rattle.std.specs.Map.{keys_of, lookup, set_value}
 use Rattle.std.specs.Option.{option_flatten, option_map}
 use Rattle.am_nflog.specs.declared.key.LogKey.{LogKey}
@@ -35,6 +35,10 @@ module _ {G N : Type 0} (eq : G → G → Bool) where
   -- the log with this row at the known key
   abbrev pub with_row : Slots G N → LogKey G → LogRow N → Slots G N
   with_row log key row = set_value (key_eq eq key) log (Some row)
+
+  -- the log in which of the keys without a row only those of these groups are known
+  abbrev pub without_unused : List G → Slots G N → Slots G N
+  without_unused groups log = filter (λ slot. is_some slot.1 || list_any (λ g. eq g slot.0.group) groups) log
 
 -- the rows that are there, each under its key, in the order of the keys
 abbrev pub rows_of : {G N : Type 0} → Slots G N → List (LogKey G × LogRow N)

@@ -1,11 +1,14 @@
 //! `NfLog`: the table of rows by group and integration. `am_board` keeps one.
 //!
 //! A known key stays known, also when its row was collected, so a row that is put again keeps its
-//! place. Invariant: the keys differ. `get`, `put` and `reserve` cost one look-up by hash.
+//! place. `forget` alone drops keys. Invariant: the keys differ. `get`, `put` and `reserve` cost one
+//! look-up by hash.
 //! `NfLog::new` can't fail today; it returns a `Result` as all that is made on an allocator does.
-ghost use Rattle.std.specs.Prelude.{◌≡◌, ◌<◌, ◌↔◌, [], length, filter, nat_lt, IsTrue, OnOk, OnErr, IsOk, IsOkAnd, slice_get, Some};
+ghost use Rattle.std.specs.Prelude.{◌≡◌, ◌<◌, ◌↔◌, ◌||◌, [], length, filter, is_some, nat_lt, IsTrue, OnOk, OnErr, IsOk, IsOkAnd, slice_get, Some};
+ghost use Rattle.std.specs.List.{list_any};
 ghost use Rattle.std.specs.Option.{option_copied};
-ghost use Rattle.am_nflog.specs.Log.{is_known, row_of, rows_of, with_key, with_row, collected, expired_count, is_expired, HasDistinctKeys};
+ghost use Rattle.am_nflog.specs.Log.{is_known, row_of, rows_of, with_key, with_row, without_unused};
+ghost use Rattle.am_nflog.specs.Log.{collected, expired_count, is_expired, HasDistinctKeys};
 
 use crate::key::LogKey;
 use crate::row::LogRow;
@@ -121,6 +124,19 @@ impl<G: Eq + Hash + Drop, N: Ord + Drop> NfLog<G, N> {
         }
         gone
     }
+
+    /// Forgets the keys that have no row, but those of these groups. It takes no memory.
+    pub fn forget(&mut self, groups: &[G])
+        ensures forgotten { self.new ≡ without_unused G.eq groups.now self.old }
+        ensures rows { rows_of self.new ≡ rows_of self.old }
+        ensures distinct { HasDistinctKeys G.eq self.new }
+    {
+        self.slots.retain(
+            |key: &LogKey<G>, row: &mut Option<LogRow<N>>| -> bool
+                ensures { (result ≡ (is_some row.old || list_any (λ g. G.eq g key.now.group) groups.entry.now)) × (row.new ≡ row.old) }
+            { is_used(key, row, groups) },
+        );
+    }
 }
 
 // Whether there is a row whose expiry is reached.
@@ -131,4 +147,11 @@ fn is_expired<N: Ord>(row: &Option<LogRow<N>>, t: u64) -> bool
         Some(row) => row.expiry <= t,
         None => false,
     }
+}
+
+// Whether a key has a row, or is of one of these groups.
+fn is_used<G: PartialEq, N: Ord>(key: &LogKey<G>, row: &Option<LogRow<N>>, groups: &[G]) -> bool
+    ensures { result ≡ (is_some row.now || list_any (λ g. G.eq g key.now.group) groups.now) }
+{
+    row.is_some() || groups.contains(&key.group)
 }

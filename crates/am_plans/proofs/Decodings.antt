@@ -1,10 +1,14 @@
 -- Members that are read, and lists of what is made of what was read.
-use Rattle.std.proofs.Common.{◌≡◌, List, [], ◌∷◌, map, Option, Some, None, false, is_some, option_map, MatchOption, refl, subst, sym, ap, ◌∙◌}
-use Rattle.std.specs.Prelude.{IsSomeAnd}
+use Rattle.std.proofs.Common.{◌≡◌, ◌<◌, ◌≤◌, ℕ, arith, Bool, true, Result, Ok, Err, List, [], ◌∷◌, map, Option, Some, None, false, is_some, option_map, MatchOption, refl, subst, sym, ap, ◌∙◌}
+use Rattle.std.specs.Prelude.{IfErr, IfSome, IsSomeAnd, IsTrue}
+use Rattle.std.specs.Result.{IsErrAnd}
 use Rattle.serde_json.specs.Data.{Data, Items, no_items, item}
-use Rattle.serde_json.specs.Find.{as_array}
+use Rattle.serde_json.specs.Find.{as_array, as_bool}
 use Rattle.am_cli.specs.Decoding.{DecodeEach, IsList}
-use Rattle.am_plans.specs.Expected.{member_if}
+use Rattle.am_cli.specs.Read.{duration_in, is_refusal}
+use Rattle.am_cli.specs.declared.fault.InputFault.{InputFault}
+use Rattle.am_cli.specs.declared.fault.InputFault.TheVariants.{NoMemory}
+use Rattle.am_plans.specs.Expected.{member_if, member_or}
 
 -- what a member is read as, if it is there
 pub found_if : {X : Type 0} (reading : Data → Option X) (found : Option Data) (x : Option X) → member_if reading found ≡ Some x
@@ -62,3 +66,102 @@ some_found {A} f o found is = by o ∙ ap is_some is
     by : (p : Option A) → is_some p ≡ is_some (option_map f p)
     by None = refl
     by (Some a) = refl
+
+-- what is said where nothing was found
+pub found_none : {A : Type 0} (P : Type 0) (Q : A → Type 0) (found : Option A) → None ≡ found → MatchOption found P Q → P
+found_none {A = A} P Q found none told = subst (λ (o : Option A). MatchOption o P Q) (sym none) told
+
+-- nothing is read of a member that isn't read
+pub none_if : {X : Type 0} (reading : Data → Option X) (value : Data) (x : Option X) → None ≡ reading value → IsSomeAnd x (λ n. reading value ≡ Some n) → ⊥
+none_if reading value None none told = told
+none_if reading value (Some n) none told = cc
+
+-- an end that isn't later
+pub ends_early : (value : Data) (from to : ℕ) (x : Option ℕ) → Some to ≡ duration_in value → to ≤ from → IsSomeAnd x (λ n. duration_in value ≡ Some n)
+    → IfSome x (λ t. from < t) → ⊥
+ends_early value from to None is early told later = told
+ends_early value from to (Some t) is early told later = let same : to ≡ t = cc in absurd (omega arith)
+
+-- the same, of what is read
+pub if_found : {X : Type 0} (reading : Data → Option X) (found : Option Data) (x : Option X)
+    → MatchOption found (x ≡ None) (λ value. IsSomeAnd x (λ n. reading value ≡ Some n)) → member_if reading found ≡ Some x
+if_found reading None x told = ap Some (sym told)
+if_found reading (Some value) None told = absurd told
+if_found reading (Some value) (Some n) told = ap (option_map Some) told
+
+-- nothing is read, and something
+pub none_read : {A : Type 0} (o : Option A) (x : A) → o ≡ None → o ≡ Some x → ⊥
+none_read o x none some = cc
+
+pub same_some : {A : Type 0} {o : Option A} {x y : A} → o ≡ Some x → o ≡ Some y → x ≡ y
+same_some is also = cc
+
+pub true_false : {a b : Bool} → a ≡ b → a ≡ true → b ≡ false → ⊥
+true_false same is isnt = cc
+
+-- a flag that was read is the one that is told
+pub one_flag : (found : Option Data) (told read : Bool) → MatchOption found (told ≡ false) (λ value. as_bool value ≡ Some told)
+    → MatchOption found (◌≡◌ {A = Result Bool InputFault} (Ok read) (Ok false)) (λ value. Some read ≡ as_bool value) → told ≡ read
+one_flag None told read is also = cc
+one_flag (Some value) told read is also = cc
+
+-- want of memory denies nothing
+pub starved_of : {T : Type 0} (P : Type 0) (result : Result T InputFault) → IsErrAnd result (λ f. f ≡ NoMemory) → IfErr result (λ f. IsTrue (is_refusal f) → P)
+starved_of P (Ok x) is = absurd is
+starved_of P (Err f) is = λ refusal. absurd (cc (ap is_refusal is))
+
+-- a fault that is handed on denies what it denied
+pub denied_on : {T : Type 0} (P : Type 0) (result : Result T InputFault) (fault : InputFault) → IsErrAnd result (λ f. f ≡ fault)
+    → (IsTrue (is_refusal fault) → P) → IfErr result (λ f. IsTrue (is_refusal f) → P)
+denied_on P (Ok x) fault is denied = absurd is
+denied_on P (Err f) fault is denied = subst (λ (g : InputFault). IsTrue (is_refusal g) → P) (sym is) denied
+
+-- what a fault says that denies it in any case
+pub denied_by : {T : Type 0} (P : Type 0) (result : Result T InputFault) → P → IfErr result (λ f. IsTrue (is_refusal f) → P)
+denied_by P (Ok x) p = tt
+denied_by P (Err f) p = λ refusal. p
+
+pub fails_denied : {T : Type 0} (P Q : Type 0) → (P → Q) → (result : Result T InputFault) → IfErr result (λ f. P) → IfErr result (λ f. IsTrue (is_refusal f) → Q)
+fails_denied P Q more (Ok x) p = tt
+fails_denied P Q more (Err f) p = λ refusal. more p
+
+-- what holds in any case holds where there is a fault
+pub failed : {T : Type 0} (P : Type 0) (result : Result T InputFault) → P → IfErr result (λ f. P)
+failed P (Ok x) p = tt
+failed P (Err f) p = p
+
+-- a member that is there is read, whatever stands for one that isn't
+pub or_found : {X : Type 0} (reading : Data → Option X) (absent : Option X) (value : Data) (found : Option Data) → Some value ≡ found
+    → member_or reading absent found ≡ reading value
+or_found reading absent value found is = sym (ap (member_or reading absent) is)
+
+pub or_absent : {X : Type 0} (reading : Data → Option X) (absent : Option X) (found : Option Data) → None ≡ found → member_or reading absent found ≡ absent
+or_absent reading absent found none = sym (ap (member_or reading absent) none)
+
+pub fails_less : {T : Type 0} (P Q : Type 0) → (P → Q) → (result : Result T InputFault) → IfErr result (λ f. P) → IfErr result (λ f. Q)
+fails_less P Q more (Ok x) p = tt
+fails_less P Q more (Err f) p = more p
+
+-- what holds of what is there, and must be
+pub some_and : {A : Type 0} (P : A → Type 0) (a : A) (o : Option A) → Some a ≡ o → IsSomeAnd o P → P a
+some_and {A = A} P a o is told = subst (λ (p : Option A). IsSomeAnd p P) (sym is) told
+
+pub none_and : {A : Type 0} (P : A → Type 0) (o : Option A) → None ≡ o → IsSomeAnd o P → ⊥
+none_and {A = A} P o none told = subst (λ (p : Option A). IsSomeAnd p P) (sym none) told
+
+pub is_there : {A : Type 0} (P : A → Type 0) (o : Option A) → IsSomeAnd o P → is_some o ≡ true
+is_there P None told = absurd told
+is_there P (Some a) told = refl
+
+-- a reading of a member that isn't one
+pub if_there : {X : Type 0} (reading : Data → Option X) (value : Data) (found : Option Data) → Some value ≡ found → None ≡ reading value → member_if reading found ≡ None
+if_there reading value found is none = sym (ap (member_if reading) is) ∙ sym (ap (option_map Some) none)
+
+-- want of memory alone
+pub starved_by : {T : Type 0} (P : Type 0) (result : Result T InputFault) → IfErr result (λ f. f ≡ NoMemory) → IfErr result (λ f. IsTrue (is_refusal f) → P)
+starved_by P (Ok x) is = tt
+starved_by P (Err f) is = λ refusal. absurd (cc (ap is_refusal is))
+
+pub is_fault : {T : Type 0} (result : Result T InputFault) → IsErrAnd result (λ f. f ≡ NoMemory) → IfErr result (λ f. f ≡ NoMemory)
+is_fault (Ok x) is = tt
+is_fault (Err f) is = is

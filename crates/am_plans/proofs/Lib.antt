@@ -4,5 +4,17 @@ pub mod Lists
 pub mod Plans
 -- members that are read, and lists of what is made of what was read
 pub mod Decodings
--- fields of other names than are known
-pub mod Fields
+-- a JSON value tells one span at most
+pub mod Spans
+-- a JSON value tells one label set at most
+pub mod LabelSets
+-- the members of an expectation tell one target and one content at most
+pub mod Contents
+-- what is told of alerts and silences may be planned
+pub mod Makes
+-- spans of expectations
+pub mod ExpectedSpans
+-- expectations that look for no pattern
+pub mod Plain
+-- a JSON value tells one outage at most
+pub mod Outages

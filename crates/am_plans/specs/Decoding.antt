@@ -1,9 +1,18 @@
 -- What the JSON values of a story's alerts, silences and outages tell, a line for each member.
-use Rattle.std.specs.Prelude.{◌≡◌, ◌<◌, List, [], ◌∷◌, Some, codes, IfSome, IsSomeAnd, MatchOption}
+use Rattle.std.specs.Prelude.{◌≡◌, ◌<◌, ◌≤◌, ◌&&◌, ℕ, Bool, true, false, List, [], ◌∷◌, Option, Some, codes, find, length, nat_le, nat_lt, IfSome, IsTrue, MatchOption}
+use Rattle.std.specs.List.{list_all}
+use Rattle.std.specs.Option.{option_map_or}
+use Rattle.std.specs.Str.{bytes_eq}
 use Rattle.serde_json.specs.Data.{Data, Members}
-use Rattle.serde_json.specs.Find.{as_object, get_member}
+use Rattle.serde_json.specs.Find.{get_member}
 use Rattle.am_cli.specs.Configured.{DecodesToLabels, DecodesToMatcher}
-use Rattle.am_cli.specs.Decoding.{IsAnswer, IsDuration, IsList, IsNumber, IsText, Has, HasIf, HasNone, HasOr}
+use Rattle.am_alerts.specs.declared.limits.TheConstants.{MAX_MATCHERS}
+use Rattle.am_cli.specs.Decoding.{IsAnswer, IsDuration, IsList, IsNumber, IsObject, IsText, Has, HasIf, HasNone, HasOr}
+use Rattle.am_cli.specs.Read.{has_only, is_refusal}
+use Rattle.am_cli.specs.declared.fault.InputFault.{InputFault}
+use Rattle.am_model.specs.declared.config.Config.{Config}
+use Rattle.am_model.specs.declared.config.Receiver.{Receiver}
+use Rattle.am_model.specs.declared.config.TheConstants.{MAX_INTEGRATIONS}
 use Rattle.am_cli.specs.declared.reader.Dialect.{Dialect}
 use Rattle.am_plans.specs.declared.alert.AlertItem.{AlertItem}
 use Rattle.am_plans.specs.declared.silence.SilenceItem.{SilenceItem}
@@ -11,43 +20,87 @@ use Rattle.am_plans.specs.declared.span.Span.{Span}
 use Rattle.am_terms.specs.declared.rehearsal.Outage.{Outage}
 use Rattle.am_retry.specs.declared.outcome.Answer.TheVariants.{Again}
 
+-- a refusal denies this; want of memory says nothing of it
+abbrev pub Denies : Bool → InputFault → Type 0
+Denies so fault = IsTrue (is_refusal fault) → so ≡ false
+
 -- a span that these members tell: from the start of the story where they don't say, and to a later time, or without an end
 pub record DecodesToSpan (members : Members) (span : Span) : Type 0 where
   pub from : HasOr IsDuration 0 (codes "from") members span.from
   pub to : HasIf IsDuration (codes "to") members span.to
   pub later : IfSome span.to (λ to. span.from < to)
 
+-- what the members of a span in a list tell
+pub record HasSpan (dialect : Dialect) (members : Members) (span : Span) : Type 0 where
+  pub only : IsTrue (has_only dialect (codes "from" ∷ codes "to" ∷ []) members)
+  pub told : DecodesToSpan members span
+
 -- an object that tells a span
-abbrev pub IsSpan : Data → Span → Type 0
-IsSpan value span = IsSomeAnd (as_object value) (λ members. DecodesToSpan members span)
+abbrev pub IsSpan : Dialect → Data → Span → Type 0
+IsSpan dialect value span = IsObject (HasSpan dialect) value span
 
--- the spans of an alert: those of its list, beside which it tells none, or else the one that it tells
-abbrev pub AreSpansIn : Members → List Span → Type 0
-AreSpansIn members spans = MatchOption (get_member (codes "spans") members)
+-- whether spans follow a time: each begins when the one before it has ended, or later. None has ended where the time is missing
+abbrev pub follow : Option ℕ → List Span → Bool
+follow ended [] = true
+follow ended (span ∷ spans) = option_map_or (λ end. nat_le end span.from) ended false && follow span.to spans
+
+-- the spans of an alert: those of its list, beside which it tells none, and which follow each other, or else the one that it tells
+abbrev pub AreSpansIn : Dialect → Members → List Span → Type 0
+AreSpansIn dialect members spans = MatchOption (get_member (codes "spans") members)
     ((span : Span) × DecodesToSpan members span × (spans ≡ span ∷ []))
-    (λ value. IsList IsSpan value spans × HasNone (codes "from") members × HasNone (codes "to") members)
+    (λ value. IsList (IsSpan dialect) value spans × HasNone (codes "from") members × HasNone (codes "to") members
+    × IsTrue (follow (Some 0) spans))
 
-pub record DecodesToAlert (dialect : Dialect) (value : Data) (alert : AlertItem) : Type 0 where
-  pub members : Members
-  pub object : as_object value ≡ Some members
+-- what the members of an alert tell
+pub record HasAlert (dialect : Dialect) (members : Members) (alert : AlertItem) : Type 0 where
+  pub only : IsTrue (has_only dialect (codes "labels" ∷ codes "from" ∷ codes "to" ∷ codes "spans" ∷ []) members)
   pub labels : Has (DecodesToLabels dialect) (codes "labels") members alert.labels
-  pub spans : AreSpansIn members alert.spans.items
+  pub spans : AreSpansIn dialect members alert.spans.items
 
--- it is set where its span begins, unless it says another time
-pub record DecodesToSilence (dialect : Dialect) (value : Data) (silence : SilenceItem) : Type 0 where
-  pub members : Members
-  pub object : as_object value ≡ Some members
+abbrev pub DecodesToAlert : Dialect → Data → AlertItem → Type 0
+DecodesToAlert dialect value alert = IsObject (HasAlert dialect) value alert
+
+-- what the members of a silence tell: it is set where its span begins, unless it says another time
+pub record HasSilence (dialect : Dialect) (members : Members) (silence : SilenceItem) : Type 0 where
+  pub only : IsTrue (has_only dialect (codes "matchers" ∷ codes "from" ∷ codes "to" ∷ codes "set" ∷ []) members)
   pub matchers : Has (IsList (DecodesToMatcher dialect)) (codes "matchers") members silence.matchers.items
+  pub some : 0 < length silence.matchers.items
+  pub few : length silence.matchers.items ≤ MAX_MATCHERS
   pub from : HasOr IsDuration 0 (codes "from") members silence.from
   pub to : Has IsDuration (codes "to") members silence.to
   pub later : silence.from < silence.to
   pub set : HasOr IsDuration silence.from (codes "set") members silence.set
 
-pub record DecodesToOutage (value : Data) (outage : Outage) : Type 0 where
-  pub members : Members
-  pub object : as_object value ≡ Some members
+abbrev pub DecodesToSilence : Dialect → Data → SilenceItem → Type 0
+DecodesToSilence dialect value silence = IsObject (HasSilence dialect) value silence
+
+-- the names of the members of an outage
+abbrev pub outage_names : List (List ℕ)
+outage_names =
+    codes "receiver" ∷ codes "integration" ∷ codes "from" ∷ codes "to" ∷ codes "answer" ∷ codes "takes" ∷ []
+
+-- what the members of an outage tell
+pub record HasOutage (dialect : Dialect) (members : Members) (outage : Outage) : Type 0 where
+  pub only : IsTrue (has_only dialect outage_names members)
   pub receiver : Has IsText (codes "receiver") members outage.receiver
   pub integration : HasIf IsNumber (codes "integration") members outage.integration
+  pub position : IfSome outage.integration (λ position. position ≤ MAX_INTEGRATIONS)
   pub span : DecodesToSpan members (record { from = outage.from; to = outage.to })
   pub answer : HasOr IsAnswer Again (codes "answer") members outage.answer
   pub takes : HasOr IsDuration 0 (codes "takes") members outage.takes
+
+abbrev pub DecodesToOutage : Dialect → Data → Outage → Type 0
+DecodesToOutage dialect value outage = IsObject (HasOutage dialect) value outage
+
+-- whether a receiver has an integration at a position, if one is said
+abbrev pub has_position : Option ℕ → Receiver → Bool
+has_position position r = option_map_or (λ p. nat_lt p (length r.integrations)) position true
+
+-- whether a configuration has a receiver of this name, and the receiver what is said of its integrations
+abbrev pub has_place : Config → List ℕ → Option ℕ → Bool
+has_place config name position =
+    option_map_or (has_position position) (find (λ r. bytes_eq r.name name) config.receivers) false
+
+-- whether a configuration has what each of these outages names
+abbrev pub have_places : Config → List Outage → Bool
+have_places config outages = list_all (λ o. has_place config o.receiver o.integration) outages

@@ -1,26 +1,27 @@
 -- Expected: what the members of an expectation say.
-use Rattle.std.specs.Prelude.{◌≡◌, ◌≢◌, ◌≤◌, ◌<◌, ◌+◌, ◌++◌, ◌==◌, ◌&&◌, ◌||◌, ⊤, ℕ, Bool, true, false, not, nat_le, nat_lt, max, codes}
-use Rattle.std.specs.Prelude.{List, [], ◌∷◌, length, find, get_or, is_none, is_some, slice_get, Option, Some, None, IsSomeAnd}
+use Rattle.std.specs.Prelude.{◌≡◌, ◌≢◌, ◌≤◌, ◌<◌, ◌+◌, ◌^◌, ◌++◌, ◌==◌, ◌&&◌, ◌||◌, ⊤, ℕ, Bool, true, false, not, nat_le, nat_lt, max, codes}
+use Rattle.std.specs.Prelude.{List, [], ◌∷◌, length, find, get_or, map, IsTrue, is_none, is_some, slice_get, Option, Some, None, IsSomeAnd}
 use Rattle.std.specs.Prelude.{MatchOption, option_map, if◌then◌else◌}
 use Rattle.std.specs.List.{list_all, list_any}
 use Rattle.std.specs.Option.{option_and_then, option_map_or, option_or}
 use Rattle.std.specs.Str.{bytes_eq}
-use Rattle.serde_json.specs.Data.{Data, Members}
-use Rattle.serde_json.specs.Find.{as_object, as_str, get_member}
+use Rattle.serde_json.specs.Data.{Data, Items, no_items, item, Members}
+use Rattle.serde_json.specs.Find.{as_array, as_object, as_str, get_member}
 use Rattle.am_alerts.specs.AlertData.{AlertData}
 use Rattle.am_alerts.specs.Labels.{same_label_set}
-use Rattle.am_alerts.specs.Matcher.{match_all}
+use Rattle.am_alerts.specs.Matcher.{compare_texts, match_all}
 use Rattle.am_alerts.specs.declared.labels.Label.{Label}
+use Rattle.am_alerts.specs.declared.limits.TheConstants.{MAX_MATCHERS}
 use Rattle.am_alerts.specs.declared.matcher.MatcherParts.{MatcherParts}
 use Rattle.am_cli.specs.Configured.{DecodesToLabels, DecodesToMatcher}
 use Rattle.am_cli.specs.Decoding.{Has, HasNone, HasOr, IsFlag, IsList}
-use Rattle.am_cli.specs.Read.{duration_in, number_in}
+use Rattle.am_cli.specs.Read.{duration_in, has_only, number_in}
 use Rattle.am_cli.specs.declared.reader.Dialect.{Dialect}
-use Rattle.am_cli.specs.declared.reader.Dialect.TheVariants.{Strict}
-use Rattle.am_plans.specs.declared.expectation.TheConstants.{MEMBERS}
+use Rattle.am_plans.specs.declared.expectation.TheConstants.{MAX_EXPECTATIONS, MEMBERS}
 use Rattle.am_model.specs.declared.config.Config.{Config}
 use Rattle.am_model.specs.declared.config.Integration.{Integration}
 use Rattle.am_model.specs.declared.config.Receiver.{Receiver}
+use Rattle.am_model.specs.declared.config.TheConstants.{MAX_INTEGRATIONS}
 use Rattle.am_terms.specs.declared.rehearsal.Action.{Action}
 use Rattle.am_terms.specs.declared.rehearsal.Action.TheVariants.{Insert, Silence}
 use Rattle.am_terms.specs.declared.rehearsal.TimedAction.{TimedAction}
@@ -73,15 +74,25 @@ abbrev pub first_insert : ℕ → Bool → List MatcherParts → List TimedActio
 first_insert last resolves matchers plans =
     option_map (λ p. p.at) (find (λ p. nat_le p.at last && inserts resolves matchers p.act) plans)
 
+-- a member lists these matchers: one at least, and no more than a silence may have
+pub record AreMatchersOf (dialect : Dialect) (member : Data) (matchers : List MatcherParts) : Type 0 where
+  pub listed : IsList (DecodesToMatcher dialect) member matchers
+  pub some : 0 < length matchers
+  pub few : length matchers ≤ MAX_MATCHERS
+
+-- the end of what begins at a time and is so long, below 2^64
+abbrev pub IsEndOf : ℕ → ℕ → ℕ → Type 0
+IsEndOf from to length = (to ≡ from + length) × (to < 2 ^ 64)
+
 -- from the time at which an alert that `of` matches fires first, or is resolved, and for so long as `within` says
 pub record IsSpanWithin (dialect : Dialect) (latest : ℕ) (plans : List TimedAction) (members : Members) (within : Data)
     (from to : ℕ) : Type 0 where
   pub resolves : Bool
   pub when : resolves_in members ≡ Some resolves
   pub matchers : List MatcherParts
-  pub of : Has (IsList (DecodesToMatcher dialect)) (codes "of") members matchers
+  pub of : Has (AreMatchersOf dialect) (codes "of") members matchers
   pub first : first_insert latest resolves matchers plans ≡ Some from
-  pub last : IsSomeAnd (duration_in within) (λ length. to ≡ from + length)
+  pub last : IsSomeAnd (duration_in within) (IsEndOf from to)
 
 -- the one time that `at` says, beside which neither `from` nor `to` is said
 pub record IsAt (members : Members) (at : Data) (from to : ℕ) : Type 0 where
@@ -113,14 +124,10 @@ IsSpanIn dialect until last plans members from to =
     (λ within. HasNone (codes "at") members × HasNone (codes "from") members × HasNone (codes "to") members
     × IsSpanWithin dialect last plans members within from to)
 
--- the digit of a position
-abbrev pub position_text : ℕ → List ℕ
-position_text position = (48 + position) ∷ []
-
--- the position, below 8, that a text writes
+-- the position, below 8, that a text writes: its digit
 abbrev pub position_named : List ℕ → Option ℕ
 position_named text =
-    find (λ position. bytes_eq text (position_text position)) (0 ∷ 1 ∷ 2 ∷ 3 ∷ 4 ∷ 5 ∷ 6 ∷ 7 ∷ [])
+    find (λ position. bytes_eq text ((48 + position) ∷ [])) (0 ∷ 1 ∷ 2 ∷ 3 ∷ 4 ∷ 5 ∷ 6 ∷ 7 ∷ [])
 
 -- no `/` is in a text
 abbrev pub HasNoSlash : List ℕ → Type 0
@@ -130,15 +137,22 @@ HasNoSlash text = (i : ℕ) → i < length text → get_or text i 0 ≢ 47
 abbrev pub HasNoPosition : List ℕ → Type 0
 HasNoPosition text = (kind written : List ℕ) → text ≡ kind ++ 47 ∷ written → HasNoSlash kind → position_named written ≡ None
 
--- a text is a kind, `/` and this position, or a kind alone
+-- a text is a kind, the first `/` and a position
+pub record HasPosition (text kind : List ℕ) (position : ℕ) : Type 0 where
+  pub written : List ℕ
+  pub is : text ≡ kind ++ 47 ∷ written
+  pub first : HasNoSlash kind
+  pub writes : position_named written ≡ Some position
+
+-- the same, or a kind alone
 abbrev pub IsSplit : List ℕ → List ℕ → Option ℕ → Type 0
 IsSplit text kind None = (text ≡ kind) × HasNoPosition text
-IsSplit text kind (Some position) = text ≡ kind ++ (codes "/" ++ position_text position)
+IsSplit text kind (Some position) = HasPosition text kind position
 
 -- an integration: a position, a kind, or a kind, `/` and its position
 abbrev pub IsTargetOf : Data → Option (List ℕ) → Option ℕ → Type 0
 IsTargetOf member None None = ⊥
-IsTargetOf member None (Some position) = number_in member ≡ Some position
+IsTargetOf member None (Some position) = (number_in member ≡ Some position) × (position ≤ MAX_INTEGRATIONS)
 IsTargetOf member (Some kind) position = IsSomeAnd (as_str member) (λ text. IsSplit text kind position)
 
 -- the same, if it is said
@@ -154,7 +168,7 @@ AreSetsIn dialect (Some member) sets = IsSomeAnd sets (λ s. IsList (DecodesToLa
 -- the matchers that a member lists, if it is there
 abbrev pub AreMatchersIn : Dialect → Option Data → Option (List MatcherParts) → Type 0
 AreMatchersIn dialect None matchers = matchers ≡ None
-AreMatchersIn dialect (Some member) matchers = IsSomeAnd matchers (λ m. IsList (DecodesToMatcher dialect) member m)
+AreMatchersIn dialect (Some member) matchers = IsSomeAnd matchers (AreMatchersOf dialect member)
 
 -- a member, or else `of` if that stands for it
 abbrev pub said_or_of : Bool → List ℕ → Members → Option Data
@@ -233,18 +247,14 @@ pub record IsExpectedOf (dialect : Dialect) (until last : ℕ) (plans : List Tim
   pub content : HasContentIn dialect members x.content
   pub amount : IsAmountIn members x.amount
 
--- whether an expectation may have a field of this name
-abbrev pub is_field : List ℕ → Bool
-is_field name = list_any (λ known. bytes_eq known.now name) MEMBERS
-
--- in the strict dialect no field has another name
-abbrev pub HasOnlyFields : Dialect → Members → Type 0
-HasOnlyFields dialect members = dialect ≡ Strict → (name : List ℕ) → is_field name ≡ false → HasNone name members
+-- the names of the fields of an expectation
+abbrev pub field_names : List (List ℕ)
+field_names = map (λ name. name.now) MEMBERS
 
 -- what a JSON value says is expected
 abbrev pub IsExpectedIn : Dialect → ℕ → ℕ → List TimedAction → Data → Expectation → Type 0
 IsExpectedIn dialect until last plans value x =
-    IsSomeAnd (as_object value) (λ members. IsExpectedOf dialect until last plans members x × HasOnlyFields dialect members)
+    IsSomeAnd (as_object value) (λ members. IsExpectedOf dialect until last plans members x × IsTrue (has_only dialect field_names members))
 
 -- whether one of these integrations has a kind
 abbrev pub has_kind : List ℕ → List Integration → Bool
@@ -309,7 +319,32 @@ pub record IsKnownIn (dialect : Dialect) (config : Config) (until last : ℕ) (p
   pub target : has_target config x ≡ true
   pub alerts : has_alerts last plans x.content ≡ true
 
--- what a member lists as expected, one for one; nothing, where it isn't there
+-- what a member lists as expected, one for one, and no more than a story may have; nothing, where it isn't there
 abbrev pub AreExpectedIn : Dialect → Config → ℕ → ℕ → List TimedAction → Option Data → List Expectation → Type 0
 AreExpectedIn dialect config until last plans member expectations =
-    MatchOption member (expectations ≡ []) (λ value. IsList (IsKnownIn dialect config until last plans) value expectations)
+    MatchOption member (expectations ≡ [])
+    (λ value. IsList (IsKnownIn dialect config until last plans) value expectations × (length expectations ≤ MAX_EXPECTATIONS))
+
+-- the matchers that the member of this name lists look for no pattern
+abbrev pub LooksForNone : Dialect → List ℕ → Members → Type 0
+LooksForNone dialect name members =
+    (matchers : List MatcherParts) → Has (IsList (DecodesToMatcher dialect)) name members matchers → IsTrue (compare_texts matchers)
+
+-- no matcher of an expectation looks for a pattern
+pub record IsPlain (dialect : Dialect) (members : Members) : Type 0 where
+  pub of : LooksForNone dialect (codes "of") members
+  pub has : LooksForNone dialect (codes "has") members
+  pub has_resolved : LooksForNone dialect (codes "has_resolved") members
+
+-- the same of a value
+abbrev pub IsPlainIn : Dialect → Data → Type 0
+IsPlainIn dialect value = MatchOption (as_object value) ⊤ (IsPlain dialect)
+
+-- the same of each value in an array
+abbrev pub ArePlain : Dialect → Items → Type 0
+ArePlain dialect no_items = ⊤
+ArePlain dialect (item value values) = IsPlainIn dialect value × ArePlain dialect values
+
+-- the same of what a member lists
+abbrev pub ArePlainIn : Dialect → Option Data → Type 0
+ArePlainIn dialect member = MatchOption member ⊤ (λ value. MatchOption (as_array value) ⊤ (ArePlain dialect))

@@ -1,10 +1,11 @@
 -- Planned: what the alerts and the silences of a story plan.
-use Rattle.std.specs.Prelude.{◌≡◌, ◌+◌, ℕ, List, [], ◌∷◌, ◌++◌, Option, None, codes, is_some, length, map, unwrap_or, if◌then◌else◌}
-use Rattle.std.specs.List.{flat_map, range_with_len}
+use Rattle.std.specs.Prelude.{◌≡◌, ◌+◌, ◌&&◌, ℕ, Bool, IsTrue, List, [], ◌∷◌, ◌++◌, Option, None, codes, is_none, is_some, length, map, unwrap_or, if◌then◌else◌}
+use Rattle.std.specs.List.{flat_map, list_all, range_with_len}
 use Rattle.std.specs.Ordering.{nat_cmp, ordering_then}
 use Rattle.std.specs.declared.cmp.Ordering.{Ordering}
 use Rattle.serde_json.specs.Data.{Members}
-use Rattle.am_alerts.specs.AlertData.{alert_of}
+use Rattle.am_alerts.specs.AlertData.{alert_fault, alert_of}
+use Rattle.am_alerts.specs.Matcher.{compare_texts}
 use Rattle.am_alerts.specs.declared.labels.Label.{Label}
 use Rattle.am_cli.specs.Decoding.{IsList, HasOr}
 use Rattle.am_cli.specs.declared.reader.Dialect.{Dialect}
@@ -14,7 +15,7 @@ use Rattle.am_plans.specs.declared.planned.Planned.{Planned}
 use Rattle.am_plans.specs.declared.silence.SilenceItem.{SilenceItem}
 use Rattle.am_plans.specs.declared.span.Span.{Span}
 use Rattle.am_model.specs.Lists.{in_order}
-use Rattle.am_mute.specs.Silence.{silence_of}
+use Rattle.am_mute.specs.Silence.{silence_fault, silence_of}
 use Rattle.am_terms.specs.declared.rehearsal.Action.TheVariants.{Insert, Silence}
 use Rattle.am_terms.specs.declared.rehearsal.TimedAction.{TimedAction}
 
@@ -56,6 +57,30 @@ pub record ArePlannedIn (dialect : Dialect) (members : Members) (plans : List Ti
   pub alerts_are : HasOr (IsList (DecodesToAlert dialect)) [] (codes "alerts") members alerts
   pub silences_are : HasOr (IsList (DecodesToSilence dialect)) [] (codes "silences") members silences
   pub is : plans ≡ plans_of alerts silences
+
+-- whether an alert may have these labels and moments
+abbrev pub may_insert : List Label → ℕ → Option ℕ → Bool
+may_insert labels starts ends = is_none (alert_fault (alert_of labels starts ends))
+
+-- the same of those that are inserted in a span
+abbrev pub may_insert_in : List Label → Span → Bool
+may_insert_in labels span = may_insert labels span.from None && may_insert labels span.from span.to
+
+-- the same of those that an item plans
+abbrev pub may_insert_all : AlertItem → Bool
+may_insert_all alert = list_all (may_insert_in alert.labels) alert.spans.items
+
+-- whether a silence may have these matchers and moments
+abbrev pub may_set : SilenceItem → Bool
+may_set s = is_none (silence_fault (silence_of 1 s.matchers.items s.from s.to))
+
+-- whether no matcher of these silences looks for a pattern
+abbrev pub are_plain : List SilenceItem → Bool
+are_plain silences = list_all (λ s. compare_texts s.matchers.items) silences
+
+-- the actions are those that the members plan, whose silences look for no pattern
+abbrev pub ArePlainlyPlannedIn : Dialect → Members → List TimedAction → Type 0
+ArePlainlyPlannedIn dialect members plans = (planned : ArePlannedIn dialect members plans) × IsTrue (are_plain planned.silences)
 
 -- each planned action has its place as its number
 abbrev pub IsNumbered : List Planned → Type 0

@@ -1,9 +1,12 @@
 //! The alerts of a rehearsal with their spans, and how they are read. `planned` makes inserts of
 //! them.
-ghost use Rattle.std.specs.Prelude.{IfOk, OnOk};
+ghost use Rattle.std.specs.Prelude.{◌≡◌, ◌≢◌, IfErr, IfOk, None, OnOk, Some, false, nat_le};
+ghost use Rattle.std.specs.Option.{option_map_or};
+ghost use Rattle.serde_json.specs.Find.{get_member};
 ghost use Rattle.serde_json.specs.View.{members_view};
 ghost use Rattle.am_cli.specs.Decoding.{HasNone};
-ghost use Rattle.am_plans.specs.Decoding.{AreSpansIn};
+ghost use Rattle.am_cli.specs.Read.{Excludes};
+ghost use Rattle.am_plans.specs.Decoding.{AreSpansIn, follow};
 
 use crate::span::Span;
 use am_alerts::labels::Labels;
@@ -23,9 +26,12 @@ pub struct AlertItem {
 }
 
 impl<'v> FromJson<'v> for AlertItem {
+    ghost use Rattle.std.specs.Prelude.{true};
     ghost use Rattle.am_plans.specs.Decoding.{DecodesToAlert};
 
     ghost decodes_to = { λ dialect value alert. DecodesToAlert dialect value alert };
+
+    ghost never_refused = { λ _. true };
 
     fn read(reader: &Reader<'v, '_>) -> Result<AlertItem, InputFault> {
         let alert = reader.object()?;
@@ -42,7 +48,8 @@ impl<'v> FromJson<'v> for AlertItem {
 
 /// The spans of an alert, and whether they stand in a list.
 fn read_spans(alert: &Object<'_, '_>) -> Result<(Vec<Span>, bool), InputFault>
-    ensures { IfOk result (λ read. AreSpansIn (members_view alert.now.members) read.0.items) }
+    ensures told { IfOk result (λ read. AreSpansIn alert.now.dialect (members_view alert.now.members) read.0.items) }
+    ensures refused { IfErr result (Excludes (AreSpansIn alert.now.dialect (members_view alert.now.members))) }
 {
     let Some(listed) = alert.optional("spans") else {
         let mut spans = Vec::new(alert.alloc());
@@ -60,7 +67,8 @@ fn read_spans(alert: &Object<'_, '_>) -> Result<(Vec<Span>, bool), InputFault>
 
 /// Refuses a member, if it is there.
 pub(crate) fn refuse(alert: &Object<'_, '_>, name: &str) -> Result<(), InputFault>
-    ensures { OnOk result (HasNone name.now (members_view alert.now.members)) }
+    ensures none { OnOk result (HasNone name.now (members_view alert.now.members)) }
+    ensures there { IfErr result (λ _. get_member name.now (members_view alert.now.members) ≢ None) }
 {
     match alert.optional(name) {
         None => Ok(()),
@@ -69,13 +77,25 @@ pub(crate) fn refuse(alert: &Object<'_, '_>, name: &str) -> Result<(), InputFaul
 }
 
 /// Whether each span but the last has an end, and none starts before the one before it has ended.
-fn follow_each_other(spans: &[Span]) -> bool {
+fn follow_each_other(spans: &[Span]) -> bool
+    ensures { result ≡ follow (Some 0) spans.now }
+{
     let mut ended = Some(0);
     for span in spans {
-        match ended {
-            Some(end) if end <= span.from => ended = span.to,
-            _ => return false,
+        if !has_ended(ended, span.from) {
+            return false;
         }
+        ended = span.to;
     }
     true
+}
+
+/// Whether there is an end, and it isn't later than a time.
+fn has_ended(end: Option<u64>, time: u64) -> bool
+    ensures { result ≡ option_map_or (λ e. nat_le e time) end false }
+{
+    match end {
+        None => false,
+        Some(end) => end <= time,
+    }
 }

@@ -2,10 +2,13 @@
 //!
 //! An expectation without `to` reaches to the end of the rehearsal, and not to the ends of the
 //! notices in flight then.
-ghost use Rattle.std.specs.Prelude.{◌≡◌, ◌≤◌, IfOk, OnOk, Some, codes, length, true};
-ghost use Rattle.serde_json.specs.Find.{as_str, get_member};
+ghost use Rattle.std.specs.Prelude.{◌≡◌, ◌≤◌, ◌<◌, ℕ, IfErr, IfOk, List, OnOk, Option, Some, codes, is_some, length, true};
+ghost use Rattle.serde_json.specs.Find.{as_object, as_str, get_member};
 ghost use Rattle.serde_json.specs.View.{members_view, view};
-ghost use Rattle.am_plans.specs.Expected.{AreExpectedIn, IsExpectedIn, IsExpectedOf, IsKnownIn, has_alerts, last_end, member_if, until_in};
+ghost use Rattle.am_cli.specs.Read.{Excludes};
+ghost use Rattle.am_plans.specs.Decoding.{Denies};
+ghost use Rattle.am_plans.specs.Expected.{AreExpectedIn, ArePlainIn, IsExpectedIn, IsExpectedOf, IsKnownIn, IsPlain, IsPlainIn};
+ghost use Rattle.am_plans.specs.Expected.{has_alerts, last_end, member_if, until_in};
 
 pub(crate) mod alerts;
 mod amount;
@@ -69,9 +72,13 @@ pub fn read_expectations(
     until: u64,
     plans: &[TimedAction],
 ) -> Result<Vec<Expectation>, InputFault>
-    ensures { IfOk result (λ expectations. AreExpectedIn top.now.dialect config.now until
+    ensures told { IfOk result (λ expectations. AreExpectedIn top.now.dialect config.now until
         (last_end until (members_view top.now.members)) plans.now
         (get_member (codes "expect") (members_view top.now.members)) expectations.items) }
+    ensures refused { IfErr result (Excludes (λ expectations. AreExpectedIn top.now.dialect config.now until
+        (last_end until (members_view top.now.members)) plans.now
+        (get_member (codes "expect") (members_view top.now.members)) expectations
+        × ArePlainIn top.now.dialect (get_member (codes "expect") (members_view top.now.members)))) }
 {
     let last = last_end(top, until);
     match top.optional("expect") {
@@ -107,8 +114,11 @@ fn read_list(
     last: u64,
     plans: &[TimedAction],
 ) -> Result<Vec<Expectation>, InputFault>
-    ensures { IfOk result (λ expectations.
+    ensures told { IfOk result (λ expectations.
         AreExpectedIn member.now.dialect config.now until last plans.now (Some (view member.now.value)) expectations.items) }
+    ensures refused { IfErr result (Excludes (λ expectations.
+        AreExpectedIn member.now.dialect config.now until last plans.now (Some (view member.now.value)) expectations
+        × ArePlainIn member.now.dialect (Some (view member.now.value)))) }
 {
     let mut expectations = Vec::new(member.alloc());
     let values = member.array()?;
@@ -122,7 +132,8 @@ fn read_list(
 
 /// Refuses more expectations than a story may have.
 fn refuse_many(member: &Reader<'_, '_>, values: &[Value]) -> Result<(), InputFault>
-    ensures { OnOk result (length values.now ≤ MAX_EXPECTATIONS) }
+    ensures few { OnOk result (length values.now ≤ MAX_EXPECTATIONS) }
+    ensures refused { IfErr result (λ _. MAX_EXPECTATIONS < length values.now) }
 {
     if values.len() > MAX_EXPECTATIONS {
         return Err(member.refuse(FaultKind::BadValue));
@@ -187,7 +198,10 @@ fn read_known(
     last: u64,
     plans: &[TimedAction],
 ) -> Result<Expectation, InputFault>
-    ensures { IfOk result (IsKnownIn reader.now.dialect config.now until last plans.now (view reader.now.value)) }
+    ensures told { IfOk result (IsKnownIn reader.now.dialect config.now until last plans.now (view reader.now.value)) }
+    ensures refused { IfErr result (Excludes (λ x.
+        IsKnownIn reader.now.dialect config.now until last plans.now (view reader.now.value) x
+        × IsPlainIn reader.now.dialect (view reader.now.value))) }
 {
     let expectation = read_expectation(reader, until, last, plans)?;
     check_target(reader.alloc(), config, &expectation, reader.place())?;
@@ -201,7 +215,9 @@ fn check_content(
     plans: &[TimedAction],
     expectation: &Expectation,
 ) -> Result<(), InputFault>
-    ensures { OnOk result (has_alerts last plans.now expectation.now.content ≡ true) }
+    ensures alerts { OnOk result (has_alerts last plans.now expectation.now.content ≡ true) }
+    ensures refused { is_some (as_object (view reader.now.value)) ≡ true →
+        IfErr result (Denies (has_alerts last plans.now expectation.now.content)) }
 {
     let item = reader.object()?;
     check_alerts(&item, last, plans, &expectation.content, reader.place())
@@ -215,7 +231,9 @@ fn read_expectation(
     last: u64,
     plans: &[TimedAction],
 ) -> Result<Expectation, InputFault>
-    ensures { IfOk result (IsExpectedIn reader.now.dialect until last plans.now (view reader.now.value)) }
+    ensures told { IfOk result (IsExpectedIn reader.now.dialect until last plans.now (view reader.now.value)) }
+    ensures refused { IfErr result (Excludes (λ x. IsExpectedIn reader.now.dialect until last plans.now (view reader.now.value) x
+        × IsPlainIn reader.now.dialect (view reader.now.value))) }
 {
     let item = reader.object()?;
     item.only(&MEMBERS)?;
@@ -228,7 +246,10 @@ fn read_members(
     last: u64,
     plans: &[TimedAction],
 ) -> Result<Expectation, InputFault>
-    ensures { IfOk result (IsExpectedOf item.now.dialect until last plans.now (members_view item.now.members)) }
+    ensures told { IfOk result (IsExpectedOf item.now.dialect until last plans.now (members_view item.now.members)) }
+    ensures refused { IfErr result (Excludes (λ x.
+        IsExpectedOf item.now.dialect until last plans.now (members_view item.now.members) x
+        × IsPlain item.now.dialect (members_view item.now.members))) }
 {
     let name = read_name(item, "name")?;
     let (from, to) = read_span(item, until, last, plans)?;
@@ -250,8 +271,10 @@ fn read_members(
 
 /// A text, if the member of this name is there.
 fn read_name(item: &Object<'_, '_>, member: &str) -> Result<Option<Text>, InputFault>
-    ensures { IfOk result (λ name.
+    ensures told { IfOk result (λ name.
         member_if as_str (get_member member.now (members_view item.now.members)) ≡ Some name) }
+    ensures refused { IfErr result (Excludes (λ (name : Option (List ℕ)).
+        member_if as_str (get_member member.now (members_view item.now.members)) ≡ Some name)) }
 {
     match item.optional(member) {
         None => Ok(None),

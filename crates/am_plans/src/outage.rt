@@ -1,8 +1,10 @@
 //! The outages of a rehearsal, and how they are read. `am_input` calls it.
-ghost use Rattle.std.specs.Prelude.{◌≡◌, [], IfOk, codes, map};
+ghost use Rattle.std.specs.Prelude.{◌≡◌, [], IfErr, IfOk, IsTrue, List, OnOk, codes, false, map, true};
 ghost use Rattle.serde_json.specs.View.{members_view};
 ghost use Rattle.am_cli.specs.Decoding.{HasOr, IsAnswer, IsList};
-ghost use Rattle.am_plans.specs.Decoding.{DecodesToOutage};
+ghost use Rattle.am_cli.specs.Read.{Excludes};
+ghost use Rattle.am_plans.specs.Decoding.{DecodesToOutage, have_places};
+ghost use Rattle.am_terms.specs.declared.rehearsal.Outage.{Outage};
 
 use crate::span::Span;
 use crate::target::{check, position};
@@ -22,7 +24,11 @@ pub struct OutageItem {
 }
 
 impl<'v> FromJson<'v> for OutageItem {
-    ghost decodes_to = { λ dialect value item. DecodesToOutage value item.outage };
+    ghost use Rattle.std.specs.Prelude.{true};
+
+    ghost decodes_to = { λ dialect value item. DecodesToOutage dialect value item.outage };
+
+    ghost never_refused = { λ _. true };
 
     fn read(reader: &Reader<'v, '_>) -> Result<OutageItem, InputFault> {
         let outage = reader.object()?;
@@ -47,7 +53,8 @@ impl<'v> FromJson<'v> for OutageItem {
 
 /// What is answered; `again`, where it isn't said.
 fn read_answer(outage: &Object<'_, '_>) -> Result<Answer, InputFault>
-    ensures { IfOk result (HasOr IsAnswer Answer.Again (codes "answer") (members_view outage.now.members)) }
+    ensures told { IfOk result (HasOr IsAnswer Answer.Again (codes "answer") (members_view outage.now.members)) }
+    ensures refused { IfErr result (Excludes (HasOr IsAnswer Answer.Again (codes "answer") (members_view outage.now.members))) }
 {
     match outage.optional("answer") {
         None => Ok(Answer::Again),
@@ -57,8 +64,12 @@ fn read_answer(outage: &Object<'_, '_>) -> Result<Answer, InputFault>
 
 /// Reads the outages of a story, whose receivers and integrations the configuration has.
 pub fn read_outages(top: &Object<'_, '_>, config: &Config) -> Result<Vec<Outage>, InputFault>
-    ensures { IfOk result (λ outages.
-        HasOr (IsList DecodesToOutage) [] (codes "outages") (members_view top.now.members) outages.items) }
+    ensures told { IfOk result (λ outages.
+        HasOr (IsList (DecodesToOutage top.now.dialect)) [] (codes "outages") (members_view top.now.members) outages.items) }
+    ensures places { IfOk result (λ outages. IsTrue (have_places config.now outages.items)) }
+    ensures refused { IfErr result (Excludes (λ (outages : List Outage).
+        HasOr (IsList (DecodesToOutage top.now.dialect)) [] (codes "outages") (members_view top.now.members) outages
+        × IsTrue (have_places config.now outages))) }
 {
     let items = top.list_or_none::<OutageItem>("outages")?;
     let outages = outages_of(top.alloc(), items)?;
@@ -67,7 +78,10 @@ pub fn read_outages(top: &Object<'_, '_>, config: &Config) -> Result<Vec<Outage>
 }
 
 /// Refuses the first outage whose receiver or integration the configuration hasn't.
-fn check_outages(alloc: Global, config: &Config, outages: &[Outage]) -> Result<(), InputFault> {
+fn check_outages(alloc: Global, config: &Config, outages: &[Outage]) -> Result<(), InputFault>
+    ensures places { OnOk result (have_places config.now outages.now ≡ true) }
+    ensures refused { IfErr result (λ _. have_places config.now outages.now ≡ false) }
+{
     for (index, outage) in outages.iter().enumerate() {
         let place = JsonPointer::Root;
         check(

@@ -1,10 +1,14 @@
 //! The planned actions of a rehearsal, in the order of their times. `am_input` calls it.
 //!
 //! An alert's span is two inserts: one without an end at its start, one with its end at that time.
-ghost use Rattle.std.specs.Prelude.{◌≡◌, ◌<◌, ◌+◌, [], ◌∷◌, IfOk, OnOk, map};
-ghost use Rattle.std.specs.List.{flat_map};
+ghost use Rattle.std.specs.Prelude.{◌≡◌, ◌<◌, ◌+◌, ◌&&◌, [], ◌∷◌, IfErr, IfOk, OnOk, map};
+ghost use Rattle.std.specs.List.{flat_map, list_all};
 ghost use Rattle.serde_json.specs.View.{members_view};
-ghost use Rattle.am_plans.specs.Planned.{AddsPlans, ArePlannedIn, insert_of, inserts_in, inserts_of, plans_of, set_of, sets_from};
+ghost use Rattle.am_cli.specs.Read.{Excludes};
+ghost use Rattle.am_plans.specs.Decoding.{Denies};
+ghost use Rattle.am_plans.specs.Planned.{AddsPlans, ArePlainlyPlannedIn, ArePlannedIn, insert_of, inserts_in, inserts_of, plans_of, set_of, sets_from};
+ghost use Rattle.am_plans.specs.Planned.{may_insert, may_insert_all, may_insert_in, may_set};
+ghost use Rattle.am_cli.specs.declared.fault.InputFault.TheVariants.{NoMemory};
 
 use crate::alert::AlertItem;
 use crate::origin::Origin;
@@ -29,7 +33,8 @@ struct Planned {
 
 /// Reads the planned actions of a story, in the order of their times, and where each is in the input.
 pub fn read_plans(top: &Object<'_, '_>) -> Result<(Vec<TimedAction>, Vec<Origin>), InputFault>
-    ensures { IfOk result (λ read. ArePlannedIn top.now.dialect (members_view top.now.members) read.0.items) }
+    ensures told { IfOk result (λ read. ArePlannedIn top.now.dialect (members_view top.now.members) read.0.items) }
+    ensures refused { IfErr result (Excludes (ArePlainlyPlannedIn top.now.dialect (members_view top.now.members))) }
 {
     let alerts = top.list_or_none::<AlertItem>("alerts")?;
     let silences = top.list_or_none::<SilenceItem>("silences")?;
@@ -43,7 +48,8 @@ fn in_order(
     alerts: Vec<AlertItem>,
     silences: Vec<SilenceItem>,
 ) -> Result<(Vec<TimedAction>, Vec<Origin>), InputFault>
-    ensures { IfOk result (λ read. read.0.items ≡ plans_of alerts.items silences.items) }
+    ensures plans { IfOk result (λ read. read.0.items ≡ plans_of alerts.items silences.items) }
+    ensures refused { IfErr result (Denies (list_all may_insert_all alerts.items && list_all may_set silences.items)) }
 {
     let mut planned = Vec::new(alloc);
     add_alerts(alloc, alerts.as_slice(), &mut planned)?;
@@ -57,7 +63,8 @@ fn split(
     alloc: Global,
     planned: Vec<Planned>,
 ) -> Result<(Vec<TimedAction>, Vec<Origin>), InputFault>
-    ensures { IfOk result (λ read. read.0.items ≡ map (λ p. p.plan) planned.items) }
+    ensures plans { IfOk result (λ read. read.0.items ≡ map (λ p. p.plan) planned.items) }
+    ensures starved { IfErr result (λ fault. fault ≡ NoMemory) }
 {
     let mut plans = Vec::with_capacity(alloc, planned.len())?;
     let mut origins = Vec::with_capacity(alloc, planned.len())?;
@@ -79,7 +86,8 @@ fn add_alerts(
     alerts: &[AlertItem],
     planned: &mut Vec<Planned>,
 ) -> Result<(), InputFault>
-    ensures { OnOk result (AddsPlans planned.old.items planned.new.items (flat_map inserts_of alerts.now)) }
+    ensures adds { OnOk result (AddsPlans planned.old.items planned.new.items (flat_map inserts_of alerts.now)) }
+    ensures refused { IfErr result (Denies (list_all may_insert_all alerts.now)) }
 {
     for (item, alert) in alerts.iter().enumerate() {
         add_alert(alloc, item, alert, planned)?;
@@ -95,26 +103,34 @@ fn add_alert(
     alert: &AlertItem,
     planned: &mut Vec<Planned>,
 ) -> Result<(), InputFault>
-    ensures { OnOk result (AddsPlans planned.old.items planned.new.items (inserts_of alert.now)) }
+    ensures adds { OnOk result (AddsPlans planned.old.items planned.new.items (inserts_of alert.now)) }
+    ensures refused { IfErr result (Denies (may_insert_all alert.now)) }
 {
-    for (number, span) in alert.spans.as_slice().iter().enumerate() {
-        let origin = Origin::Alert {
-            item,
-            span: if alert.is_listed { Some(number) } else { None },
-        };
-        add_span(alloc, &alert.labels, *span, origin, planned)?;
+    let spans = alert.spans.as_slice();
+    for (number, span) in spans.iter().enumerate() {
+        let origin = origin_of(item, number, alert.is_listed);
+        add_span(alloc, &alert.labels, span, origin, planned)?;
     }
     Ok(())
+}
+
+/// Where a span of an alert stands.
+fn origin_of(item: usize, number: usize, is_listed: bool) -> Origin {
+    Origin::Alert {
+        item,
+        span: if is_listed { Some(number) } else { None },
+    }
 }
 
 fn add_span(
     alloc: Global,
     labels: &Labels,
-    span: Span,
+    span: &Span,
     origin: Origin,
     planned: &mut Vec<Planned>,
 ) -> Result<(), InputFault>
-    ensures { OnOk result (AddsPlans planned.old.items planned.new.items (inserts_in labels.now span)) }
+    ensures adds { OnOk result (AddsPlans planned.old.items planned.new.items (inserts_in labels.now span.now)) }
+    ensures refused { IfErr result (Denies (may_insert_in labels.now span.now)) }
 {
     add_insert(alloc, labels, span.from, None, origin, planned)?;
     if span.to.is_some() {
@@ -131,7 +147,8 @@ fn add_insert(
     origin: Origin,
     planned: &mut Vec<Planned>,
 ) -> Result<(), InputFault>
-    ensures { OnOk result (AddsPlans planned.old.items planned.new.items (insert_of labels.now starts ends ∷ [])) }
+    ensures adds { OnOk result (AddsPlans planned.old.items planned.new.items (insert_of labels.now starts ends ∷ [])) }
+    ensures refused { IfErr result (Denies (may_insert labels.now starts ends)) }
 {
     let Ok(alert) = Alert::new(labels.copy(alloc)?, starts, ends) else {
         return Err(origin.refuse_value(alloc));
@@ -149,7 +166,8 @@ fn add_silences(
     silences: Vec<SilenceItem>,
     planned: &mut Vec<Planned>,
 ) -> Result<(), InputFault>
-    ensures { OnOk result (AddsPlans planned.old.items planned.new.items (sets_from 1 silences.items)) }
+    ensures adds { OnOk result (AddsPlans planned.old.items planned.new.items (sets_from 1 silences.items)) }
+    ensures refused { IfErr result (Denies (list_all may_set silences.items)) }
 {
     for (item, silence) in silences.into_iter().enumerate() {
         add_silence(alloc, item, silence, planned)?;
@@ -165,7 +183,8 @@ fn add_silence(
     planned: &mut Vec<Planned>,
 ) -> Result<(), InputFault>
     requires { item < usize.MAX }
-    ensures { OnOk result (AddsPlans planned.old.items planned.new.items (set_of (item + 1) silence ∷ [])) }
+    ensures adds { OnOk result (AddsPlans planned.old.items planned.new.items (set_of (item + 1) silence ∷ [])) }
+    ensures refused { IfErr result (Denies (may_set silence)) }
 {
     let SilenceItem {
         matchers,
@@ -187,7 +206,8 @@ fn add_silence(
 
 /// Adds a plan behind the others.
 fn add(plan: TimedAction, origin: Origin, planned: &mut Vec<Planned>) -> Result<(), InputFault>
-    ensures { OnOk result (AddsPlans planned.old.items planned.new.items (plan ∷ [])) }
+    ensures adds { OnOk result (AddsPlans planned.old.items planned.new.items (plan ∷ [])) }
+    ensures starved { IfErr result (λ fault. fault ≡ NoMemory) }
 {
     let number = planned.len();
     planned.push(Planned {

@@ -1,9 +1,10 @@
 //! The silences of a rehearsal, and how they are read. `planned` and `am_input` call it.
 //!
 //! A silence is set where its span begins, unless `set` gives another time.
-ghost use Rattle.std.specs.Prelude.{◌<◌, IfOk, codes};
+ghost use Rattle.std.specs.Prelude.{◌<◌, ℕ, IfErr, IfOk, codes};
 ghost use Rattle.serde_json.specs.View.{members_view};
 ghost use Rattle.am_cli.specs.Decoding.{Has, HasOr, IsDuration};
+ghost use Rattle.am_cli.specs.Read.{Excludes};
 
 use crate::span::Span;
 use am_alerts::limits::MAX_MATCHERS;
@@ -22,9 +23,12 @@ pub struct SilenceItem {
 }
 
 impl<'v> FromJson<'v> for SilenceItem {
+    ghost use Rattle.am_alerts.specs.Matcher.{compare_texts};
     ghost use Rattle.am_plans.specs.Decoding.{DecodesToSilence};
 
     ghost decodes_to = { λ dialect value silence. DecodesToSilence dialect value silence };
+
+    ghost never_refused = { λ silence. compare_texts silence.matchers.items };
 
     fn read(reader: &Reader<'v, '_>) -> Result<SilenceItem, InputFault> {
         let silence = reader.object()?;
@@ -50,6 +54,8 @@ fn read_span(silence: &Object<'_, '_>) -> Result<(u64, u64), InputFault>
     ensures from { IfOk result (λ span. HasOr IsDuration 0 (codes "from") (members_view silence.now.members) span.0) }
     ensures to { IfOk result (λ span. Has IsDuration (codes "to") (members_view silence.now.members) span.1) }
     ensures later { IfOk result (λ span. span.0 < span.1) }
+    ensures refused { IfErr result (Excludes (λ (span : ℕ × ℕ). HasOr IsDuration 0 (codes "from") (members_view silence.now.members) span.0
+        × Has IsDuration (codes "to") (members_view silence.now.members) span.1 × (span.0 < span.1))) }
 {
     let Span { from, to } = Span::of(silence)?;
     match to {

@@ -1,7 +1,8 @@
 //! Spans of time, and how they are read. Alerts, silences and outages call it.
-ghost use Rattle.std.specs.Prelude.{◌<◌, IfOk, IfSome, codes};
+ghost use Rattle.std.specs.Prelude.{◌<◌, ℕ, IfErr, IfOk, IfSome, Option, codes};
 ghost use Rattle.serde_json.specs.View.{members_view};
 ghost use Rattle.am_cli.specs.Decoding.{HasIf, IsDuration};
+ghost use Rattle.am_cli.specs.Read.{Excludes};
 
 use am_cli::duration::{duration, duration_or};
 use am_cli::fault::{FaultKind, InputFault};
@@ -19,7 +20,8 @@ impl Span {
 
     /// Reads the members `from`, the start where it isn't there, and `to` of an object. It isn't empty.
     pub fn of(object: &Object<'_, '_>) -> Result<Span, InputFault>
-        ensures { IfOk result (DecodesToSpan (members_view object.now.members)) }
+        ensures told { IfOk result (DecodesToSpan (members_view object.now.members)) }
+        ensures refused { IfErr result (Excludes (DecodesToSpan (members_view object.now.members))) }
     {
         let from = duration_or(object, "from", 0)?;
         let to = read_end(object, from)?;
@@ -31,6 +33,8 @@ impl Span {
 fn read_end(object: &Object<'_, '_>, from: u64) -> Result<Option<u64>, InputFault>
     ensures to { IfOk result (HasIf IsDuration (codes "to") (members_view object.now.members)) }
     ensures later { IfOk result (λ to. IfSome to (λ to. from < to)) }
+    ensures refused { IfErr result (Excludes (λ (to : Option ℕ).
+        HasIf IsDuration (codes "to") (members_view object.now.members) to × IfSome to (λ to. from < to))) }
 {
     let Some(member) = object.optional("to") else {
         return Ok(None);
@@ -43,9 +47,12 @@ fn read_end(object: &Object<'_, '_>, from: u64) -> Result<Option<u64>, InputFaul
 }
 
 impl<'v> FromJson<'v> for Span {
+    ghost use Rattle.std.specs.Prelude.{true};
     ghost use Rattle.am_plans.specs.Decoding.{IsSpan};
 
-    ghost decodes_to = { λ dialect value span. IsSpan value span };
+    ghost decodes_to = { λ dialect value span. IsSpan dialect value span };
+
+    ghost never_refused = { λ _. true };
 
     fn read(reader: &Reader<'v, '_>) -> Result<Span, InputFault> {
         let span = reader.object()?;

@@ -15,7 +15,7 @@ ghost use Rattle.am_rehearse.specs.Printed.{WritesOutput, IsPrinted, IsOutputOf,
 ghost use Rattle.am_timeline.specs.Changed.{changed};
 ghost use Rattle.am_judge.specs.Junit.{junit_text};
 ghost use Rattle.am_judge.specs.Expectation.{is_met, unmet_from};
-ghost use Rattle.am_timeline.specs.Filtered.{names_nothing};
+ghost use Rattle.am_timeline.specs.Filtered.{left_of, names_nothing};
 ghost use Rattle.am_timeline.specs.Runs.{short_timeline_text};
 ghost use Rattle.am_timeline.specs.Table.{table_text};
 ghost use Rattle.am_timeline.specs.Timeline.{timeline_text};
@@ -39,12 +39,11 @@ use am_plans::origin::Origin;
 use am_rehearsal::play::{PlayFault, Played, play};
 use am_terms::clock::{Elapsed, TimeFormat};
 use am_terms::dated::UtcDates;
-use am_terms::event::Event;
 use am_terms::expectation::Expectation;
 use am_terms::rehearsal::Rehearsal;
 use am_terms::watch::Watch;
 use am_timeline::changed::changed_events;
-use am_timeline::filtered::filtered_events;
+use am_timeline::filtered::{Selection, filtered_events};
 use am_timeline::json::json_text;
 use am_timeline::logbook::Logbook;
 use am_timeline::notices::notices_text;
@@ -301,9 +300,9 @@ fn render_by<C: TimeFormat>(
     let log = logbook_of(alloc, played)?;
     let playback = Playback::new(&log, played.events.as_slice());
     let of_filter = filtered_events(alloc, &playback, &wanted.filter)?;
-    let filtered = playback.with_events(of_filter.as_slice());
+    let filtered = playback.with_events(of_filter.of(playback.events()));
     let kept = wanted_events(alloc, &filtered, clock, wanted)?;
-    let shown = filtered.with_events(kept.as_slice());
+    let shown = filtered.with_events(kept.of(filtered.events()));
     let text = printed(alloc, &shown, &playback, clock, expectations, output)?;
     let is_met = are_met(alloc, &playback, expectations)?;
     let judgement = judge(alloc, &playback, &filtered, clock, expectations, wanted)?;
@@ -337,16 +336,15 @@ fn wanted_events<C: TimeFormat>(
     filtered: &Playback<'_>,
     clock: &C,
     wanted: &Wanted,
-) -> Result<Vec<Event>, AllocError>
-    ensures { IfOk result (λ events. record filtered.now { events = events.items }
+) -> Result<Selection, AllocError>
+    ensures { IfOk result (λ events. record filtered.now { events = left_of events filtered.now.events }
         ≡ (if wanted.now.changes then changed filtered.now (C.times clock.now) else filtered.now)) }
 {
     if wanted.changes {
-        return changed_events(alloc, filtered, clock);
+        let changes = changed_events(alloc, filtered, clock)?;
+        return Ok(Selection::Only(changes));
     }
-    let mut events = Vec::new(alloc);
-    events.extend_from_slice(filtered.events())?;
-    Ok(events)
+    Ok(Selection::All)
 }
 
 /// What a rehearsal came to, besides the output: `filtered` is its playback with the events that the filter leaves.

@@ -41,6 +41,10 @@ fn push_answer(
             let (groups, entries) = (told.groups, told.entries);
             write!(text, "groups {groups}, entries {entries}")
         }
+        Answer::Forgotten(told) => {
+            let (alerts, silences) = (told.alerts, told.silences);
+            write!(text, "alerts {alerts}, silences {silences}")
+        }
         Answer::Finished(told) => {
             let (logged, removed) = (told.logged, told.removed);
             write!(text, "logged {logged}, removed {removed}")
@@ -281,6 +285,7 @@ fn push_records(text: &mut String, word: &str, records: &[Record]) -> Result<(),
             Call::Note { .. } => " note",
             Call::Finish { .. } => " finish",
             Call::Maintain { .. } => " maintain",
+            Call::Forget { .. } => " forget",
         })?;
     }
     Ok(())

@@ -8,7 +8,7 @@ use am_board::board::Board;
 use am_board::config::Config;
 use am_board::fault::{BoardFault, Fault, FinishFault, NoteFault, ReportFault, TakeFault};
 use am_board::notice::{Notice, Report};
-use am_board::record::{Finished, Inserted, Maintained, Noted, Record, Silenced};
+use am_board::record::{Finished, Forgotten, Inserted, Maintained, Noted, Record, Silenced};
 use am_board::ticket::Ticket;
 use am_mute::silence::Silence;
 use am_retry::Outcome;
@@ -88,6 +88,11 @@ impl Desk {
     /// Removes empty groups and expired rows.
     pub fn maintain(&mut self, alloc: Global, now: u64) -> Result<Maintained, Fault> {
         self.board.maintain(alloc, PASS, now)
+    }
+
+    /// Forgets resolved alerts that are in no group, and silences that are over.
+    pub fn forget(&mut self, alloc: Global, now: u64) -> Result<Forgotten, Fault> {
+        self.board.forget(alloc, PASS, now)
     }
 
     /// Begins the flush of the group that is due first.

@@ -8,7 +8,7 @@ use crate::words::{Trouble, Words};
 use am_board::board::Board;
 use am_board::config::ConfigFault;
 use am_board::fault::{BoardFault, Fault, NoteFault, ReportFault, TakeFault};
-use am_board::record::{Finished, Inserted, Maintained, Record, Silenced};
+use am_board::record::{Finished, Forgotten, Inserted, Maintained, Record, Silenced};
 use std::alloc::Global;
 use std::mem::replace;
 
@@ -32,6 +32,7 @@ pub enum Answer {
     Filled(u64),
     Silenced(Silenced),
     Maintained(Maintained),
+    Forgotten(Forgotten),
     NothingDue,
     Quiet(usize),
     /// The ticket at this place of the stage's was given.
@@ -97,6 +98,7 @@ impl Stage {
             "fill" => self.fill(alloc, &mut words),
             "silence" => self.silence(alloc, &mut words),
             "maintain" => self.maintain(alloc, &mut words),
+            "forget" => self.forget(alloc, &mut words),
             "begin" => self.begin(alloc, &mut words),
             "report" => self.report(&mut words),
             "outcomes" => Ok(Answer::Outcomes(self.find(words.number()?)?)),
@@ -173,6 +175,13 @@ impl Stage {
     fn maintain(&mut self, alloc: Global, words: &mut Words<'_>) -> Result<Answer, Trouble> {
         Ok(match self.desk.maintain(alloc, words.number()?) {
             Ok(told) => Answer::Maintained(told),
+            Err(fault) => Answer::Refused(fault),
+        })
+    }
+
+    fn forget(&mut self, alloc: Global, words: &mut Words<'_>) -> Result<Answer, Trouble> {
+        Ok(match self.desk.forget(alloc, words.number()?) {
+            Ok(told) => Answer::Forgotten(told),
             Err(fault) => Answer::Refused(fault),
         })
     }

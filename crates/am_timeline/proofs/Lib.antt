@@ -20,6 +20,8 @@ pub mod Likeness
 pub mod Folds
 -- the groups of the alerts that matchers match, found one alert and one route at a time
 pub mod Filters
+-- a filter that names nothing leaves all events
+pub mod Unfiltered
 -- what is kept of a history is what looking back finds in it
 pub mod Logged
 -- a table of expired entries, with those of one more integration and of one more record

@@ -5,7 +5,8 @@ use Rattle.am_model.specs.declared.config.Config.{Config}
 use Rattle.am_model.specs.declared.group.GroupName.{GroupName}
 use Rattle.am_model.specs.declared.record.Record.{Record}
 use Rattle.am_model.specs.declared.record.Reply.{Reply}
-use Rattle.am_model.specs.declared.record.Reply.TheVariants.{Inserted, Silenced, NothingDue, Quiet, Flush, Finished, Maintained, Noted}
+use Rattle.am_model.specs.declared.record.Reply.TheVariants.{Inserted, Silenced, NothingDue, Quiet, Flush}
+use Rattle.am_model.specs.declared.record.Reply.TheVariants.{Finished, Maintained, Forgotten, Noted}
 use Rattle.am_model.specs.Configured.{expiry_at, route_of, integrations_named}
 use Rattle.am_model.specs.look_back.Entry.{logs}
 use Rattle.am_model.specs.look_back.Past.{Past, moment_at, past_of}
@@ -33,6 +34,7 @@ flush_group (Quiet group removed) = None
 flush_group (Flush number group deadline notices) = Some group
 flush_group (Finished finished) = None
 flush_group (Maintained maintained) = None
+flush_group (Forgotten forgotten) = None
 flush_group Noted = None
 
 -- how many integrations the receiver of a group has

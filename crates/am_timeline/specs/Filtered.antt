@@ -16,6 +16,8 @@ use Rattle.am_model.specs.look_back.Presence.{goes_to}
 use Rattle.am_terms.specs.declared.event.Event.{Event}
 use Rattle.am_terms.specs.declared.event.Event.TheVariants.{Begun, Sent}
 use Rattle.am_timeline.specs.declared.filtered.Filter.{Filter}
+use Rattle.am_timeline.specs.declared.filtered.Selection.{Selection}
+use Rattle.am_timeline.specs.declared.filtered.Selection.TheVariants.{All, Only}
 use Rattle.am_timeline.specs.Playback.{PlaybackData}
 
 -- the alert that a call inserts, if it does
@@ -68,6 +70,11 @@ is_wanted_at playback wanted position =
 abbrev pub concerns : PlaybackData → Filter → Event → Bool
 concerns playback wanted (Begun begin) = is_wanted_at playback wanted begin
 concerns playback wanted (Sent begin report) = is_wanted_at playback wanted begin
+
+-- those that are left of these events
+abbrev pub left_of : Selection → List Event → List Event
+left_of All events = events
+left_of (Only left) events = left.items
 
 -- filtered: the rehearsal with the events of the groups that are wanted
 abbrev pub filtered : PlaybackData → Filter → PlaybackData

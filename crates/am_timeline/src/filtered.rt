@@ -9,8 +9,7 @@ ghost use Rattle.am_model.specs.look_back.Presence.{goes_to};
 ghost use Rattle.am_model.specs.State.{same_name};
 ghost use Rattle.am_model.specs.declared.group.GroupName as named;
 ghost use Rattle.am_timeline.specs.Filtered.{FindsMatches, brings, concerns, has_match, is_named, is_of, is_wanted, is_wanted_at};
-ghost use Rattle.am_timeline.specs.Filtered.{names_nothing};
-ghost use Rattle.am_timeline.specs.Filtered.{insert_of, inserted_in};
+ghost use Rattle.am_timeline.specs.Filtered.{insert_of, inserted_in, left_of, names_nothing};
 
 use crate::playback::Playback;
 use am_alerts::alert::Alert;
@@ -58,7 +57,28 @@ impl Filter {
     }
 }
 
-/// Returns the events of the groups that a filter wants, in their order.
+/// Which events of a playback are left.
+#[derive(Debug, Drop)]
+pub enum Selection {
+    /// All of them, as they are: nobody copied them.
+    All,
+    /// These, in their order.
+    Only(Vec<Event>),
+}
+
+impl Selection {
+    /// Returns those that are left of these events.
+    pub fn of<'s>(&'s self, events: &'s [Event]) -> &'s [Event]
+        ensures { result.now ≡ left_of self.now events.now }
+    {
+        match self {
+            Selection::All => events,
+            Selection::Only(left) => left.as_slice(),
+        }
+    }
+}
+
+/// Returns the events of the groups that a filter wants, in their order. A filter that names nothing takes no memory.
 ///
 /// A filter with matchers wants the groups that an inserted alert goes to which all of them match. Cost: the events; with
 /// matchers also the inserts of the history, and the routes of those that match.
@@ -66,11 +86,16 @@ pub fn filtered_events(
     alloc: Global,
     playback: &Playback<'_>,
     wanted: &Filter,
-) -> Result<Vec<Event>, AllocError>
-    ensures { IfOk result (λ events. events.items ≡ filter (concerns playback.now wanted.now) playback.now.events) }
+) -> Result<Selection, AllocError>
+    ensures { IfOk result (λ events. left_of events playback.now.events
+        ≡ filter (concerns playback.now wanted.now) playback.now.events) }
 {
+    if wanted.is_empty() {
+        return Ok(Selection::All);
+    }
     let groups = groups_of_matches(alloc, playback, wanted.matchers.as_slice())?;
-    wanted_events(alloc, playback, wanted, &groups, playback.events)
+    let left = wanted_events(alloc, playback, wanted, &groups, playback.events)?;
+    Ok(Selection::Only(left))
 }
 
 /// Those of these events that are of groups that are wanted.

@@ -1,4 +1,4 @@
--- The known alerts of a past, found from its end: each insert whose label set wasn't found before.
+-- The alerts of a past, forgotten ones too, found from its end: each insert whose label set wasn't found before.
 use Rattle.std.proofs.Common.{◌≡◌, ◌∙◌, ◌<◌, ◌≤◌, ◌+◌, ◌-◌, ℕ, length, get_or, reverse, take, arith, Bool, true, false, not, ◌||◌, List, [], ◌∷◌, ◌++◌, Option, Some, None, ap, sym, refl, subst, filter, append_assoc, if◌then◌else◌}
 use Rattle.std.specs.List.{list_any}
 use Rattle.std.proofs.lemmas.List.{reverse-append, take_more}

@@ -63,7 +63,8 @@ abbrev pub with_first : List AlertData → Option AlertData → List AlertData
 with_first alerts None = alerts
 with_first alerts (Some a) = if has_set alerts a.labels then alerts else alerts ++ a ∷ []
 
--- undelivered: of the known alerts those that no delivered notice has, the one that was inserted last at the end
+-- undelivered: of the alerts that were inserted, forgotten ones too, those that no delivered notice has, the one that was inserted last
+-- at the end
 abbrev pub undelivered_in : List Record → List AlertData
 undelivered_in history = without (λ a. has_set (delivered_in history) a.labels) (reverse (known_in (past_of history)))
 

@@ -1,4 +1,4 @@
-//! The known alerts of a history: the last insert of each label set. `report` calls it.
+//! The alerts of a history, forgotten ones too: the last insert of each label set. `report` calls it.
 ghost use Rattle.std.specs.Prelude.{◌≡◌, IfOk, OnOk, Some, reverse};
 ghost use Rattle.am_model.specs.look_back.Entry.{alert_in, known_in};
 ghost use Rattle.am_model.specs.look_back.Past.{past_of};
@@ -9,7 +9,7 @@ use am_alerts::alert::Alert;
 use am_model::record::{Call, Record};
 use std::alloc::{AllocError, Global};
 
-/// Returns the known alerts of a history, the one that was inserted last at the end.
+/// Returns the alerts of a history, the one that was inserted last at the end.
 pub(crate) fn known_alerts(alloc: Global, history: &[Record]) -> Result<Vec<Alert>, AllocError>
     ensures { IfOk result (λ alerts. alerts.items ≡ reverse (known_in (past_of history.now))) }
 {
@@ -18,7 +18,7 @@ pub(crate) fn known_alerts(alloc: Global, history: &[Record]) -> Result<Vec<Aler
     Ok(alerts)
 }
 
-/// The known alerts of a history, the one that was inserted last first.
+/// The alerts of a history, the one that was inserted last first.
 fn latest_alerts(alloc: Global, history: &[Record]) -> Result<Vec<Alert>, AllocError>
     ensures { IfOk result (λ alerts. alerts.items ≡ known_in (past_of history.now)) }
 {

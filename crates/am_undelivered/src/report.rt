@@ -30,7 +30,7 @@ use am_timeline::playback::Playback;
 use am_timeline::shown::push_set;
 use std::alloc::{AllocError, Global};
 
-/// Returns the alerts that no delivered notice has, as they were inserted last, the latest at the end.
+/// Returns the alerts that no delivered notice has, forgotten ones too, as they were inserted last, the latest at the end.
 ///
 /// A notice counts if the finish of its flush says that it was delivered. It has the alerts that it
 /// lists as firing and those that it lists as resolved.

@@ -128,6 +128,10 @@ abbrev pub maintain : ℕ → ℕ → ℕ → Record
 maintain now groups entries =
     entry 0 (call.Maintain now) (reply.Maintained (record { groups = groups; entries = entries }))
 
+abbrev pub forget : ℕ → ℕ → ℕ → Record
+forget now alerts silences =
+    entry 0 (call.Forget now) (reply.Forgotten (record { alerts = alerts; silences = silences }))
+
 -- a log row
 abbrev pub row : GroupName → ℕ → ℕ → ℕ → List (List Label) → List (List Label) → RowView
 row name integration moment expiry firing resolved =

@@ -11,6 +11,7 @@ use Rattle.am_retry.specs.declared.outcome.Outcome.{Outcome}
 use Rattle.am_model.proofs.lists.Words.{all-upsert, IsDistinct-upsert}
 use Rattle.am_model.specs.Begin.{taken, may_begin, due_cmp, asked_of, begun_group, without_resolved, after_asking, after_taking, reply_asking, reply_taking, begun}
 use Rattle.am_model.specs.Finish.{after_finish_of, finished_group, finished}
+use Rattle.am_model.specs.Forget.{forgotten}
 use Rattle.am_model.specs.Insert.{same_group, new_group, group_or_new, group_with, put_into_group, names_for, wait_of, inserted, next_stamp}
 use Rattle.am_model.specs.Laws.{last_begin_after, last_begin_from, last_begin, IsBegunAt, IsThere, LegalKeepsBegins}
 use Rattle.am_model.specs.Lists.{upsert, without, changed_where}
@@ -23,7 +24,7 @@ use Rattle.am_model.specs.declared.config.Config.{Config}
 use Rattle.am_model.specs.declared.config.Integration.{Integration}
 use Rattle.am_model.specs.declared.group.GroupName.{GroupName}
 use Rattle.am_model.specs.declared.record.Call.{Call}
-use Rattle.am_model.specs.declared.record.Call.TheVariants.{Insert, Silence, Begin, Finish, Maintain, Note}
+use Rattle.am_model.specs.declared.record.Call.TheVariants.{Insert, Silence, Begin, Finish, Maintain, Forget, Note}
 use Rattle.am_model.specs.declared.record.Record.{Record}
 use Rattle.am_model.specs.declared.record.Reply.{Reply}
 use Rattle.am_model.specs.declared.record.Reply.TheVariants as reply_is
@@ -273,6 +274,8 @@ module _ (config : Config) (id : ℕ) (s : State) (last : GroupName → Option �
   keeps-call (Finish now number outcomes) p e = keeps-finish (moment s now) outcomes (flush_numbered s.flushes number) p e
   keeps-call (Maintain now) p e =
       subst (After (after_call config s (Maintain now))) (inside (reply_is.Maintained (maintained s (moment s now))) p e) (keeps-maintain config last s.groups k)
+  keeps-call (Forget now) p e =
+      subst (After (after_call config s (Forget now))) (inside (reply_is.Forgotten (forgotten s (moment s now))) p e) k
   keeps-call (Note now number integration outcome) p e = keeps-note (moment s now) integration outcome (flush_numbered s.flushes number) p e
 
 -- ---- each legal history

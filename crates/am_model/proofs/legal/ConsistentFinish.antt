@@ -1,21 +1,23 @@
--- A finish, a note or a maintenance keeps a state consistent.
+-- A finish, a note, a maintenance or a forgetting keeps a state consistent.
 use Rattle.std.proofs.Common.{◌≡◌, ℕ, ◌≤◌, Bool, true, false, cond, not, Option, Some, None, List, [], ◌∷◌, refl, sym, ap, ◌∙◌, subst}
 use Rattle.std.specs.Prelude.{find, fold, filter, ◌==◌}
 use Rattle.std.specs.List.{AllByRecursion, IsDistinct}
 use Rattle.std.proofs.lemmas.Cmp.{nat_eq_equiv}
 use Rattle.std.proofs.lemmas.Map.Keys.{IsDistinct-head, IsDistinct-tail}
 use Rattle.am_alerts.specs.declared.limits.TheConstants.{MAX_MOMENT}
+use Rattle.am_mute.specs.Silence.{is_over}
 use Rattle.am_retry.specs.declared.outcome.Outcome.{Outcome}
 use Rattle.am_nflog.specs.Members.{is_empty}
 use Rattle.am_model.specs.declared.config.Config.{Config}
 use Rattle.am_model.specs.declared.views.RowView.{RowView}
 use Rattle.am_model.specs.Finish.{same_key, row_at, log_with, logged_by, leaves_by, finished_group, after_finish, after_finish_of}
-use Rattle.am_model.specs.Insert.{same_member, same_group}
+use Rattle.am_model.specs.Forget.{is_idle, after_forget}
+use Rattle.am_model.specs.Insert.{same_alert, same_member, same_group}
 use Rattle.am_model.specs.Laws.{same_flushed, same_number, same_asked}
 use Rattle.am_model.specs.Lists.{without, changed_where}
 use Rattle.am_model.specs.Note.{as_noted, with_note, may_note, after_note, after_note_of}
 use Rattle.am_model.specs.State.{MemberState, GroupState, AskedState, FlushState, State, at_moment, same_name, is_named, flush_numbered}
-use Rattle.am_model.specs.Upkeep.{is_deserted, has_expired, after_maintain}
+use Rattle.am_model.specs.Upkeep.{same_silence, is_deserted, has_expired, after_maintain}
 use Rattle.am_model.proofs.lists.Words.{IsDistinct-upsert}
 use Rattle.am_model.proofs.legal.ConsistentGroups.{members_of-elsewhere, alive-kept}
 use Rattle.am_model.proofs.lists.Distinct.{IsDistinct-filter, IsDistinct-changed, all-filter, all-find, all-passes, all-weaker, all-both, all-map}
@@ -153,6 +155,22 @@ steady_maintain s t within h =
           all-weaker (IsOpen s.next_number s.groups) (IsOpen s.next_number (without is_deserted s.groups))
           (λ f o. record { number = o.number; asked = o.asked; each_once = o.each_once; alive = alive-kept f.group s.groups o.alive })
           s.flushes h.opened;
+    }
+
+-- ---- a forgetting
+
+pub steady_forget : (s : State) (t : ℕ) → t ≤ MAX_MOMENT → IsSteady s → IsSteady (after_forget s t)
+steady_forget s t within h =
+    record {
+      clock = within;
+      known = IsDistinct-filter same_alert (λ a. not (is_idle s.groups t a)) s.known h.known;
+      groups = h.groups;
+      tidy = h.tidy;
+      silences = IsDistinct-filter same_silence (λ x. not (is_over t x)) s.silences h.silences;
+      rows = h.rows;
+      flushes = h.flushes;
+      numbers = h.numbers;
+      opened = h.opened;
     }
 
 -- ---- a note

@@ -9,11 +9,12 @@ use Rattle.am_retry.specs.declared.outcome.Outcome.{Outcome}
 use Rattle.am_model.specs.declared.config.Config.{Config}
 use Rattle.am_model.specs.declared.config.Integration.{Integration}
 use Rattle.am_model.specs.declared.record.Call.{Call}
-use Rattle.am_model.specs.declared.record.Call.TheVariants.{Insert, Silence, Begin, Finish, Maintain, Note}
+use Rattle.am_model.specs.declared.record.Call.TheVariants.{Insert, Silence, Begin, Finish, Maintain, Forget, Note}
 use Rattle.am_model.specs.declared.record.Reply.{Reply}
 use Rattle.am_model.specs.declared.record.Reply.TheVariants as reply_is
 use Rattle.am_model.specs.Begin.{asked_of, taken, after_asking, after_taking, reply_asking, reply_taking, begun}
 use Rattle.am_model.specs.Finish.{finished, after_finish, after_finish_of}
+use Rattle.am_model.specs.Forget.{forgotten, after_forget}
 use Rattle.am_model.specs.Insert.{inserted, after_insert}
 use Rattle.am_model.specs.Note.{may_note, noted, after_note, after_note_of}
 use Rattle.am_model.specs.Replay.{reply, after_call}
@@ -34,6 +35,7 @@ pub record HoldsOfEach (config : Config) (id : ℕ) (s : State) (P : Call → St
   pub finish : (now number : ℕ) (outcomes : List (ℕ × Outcome)) (f : FlushState) → flush_numbered s.flushes number ≡ Some f
       → P (Finish now number outcomes) (after_finish config s (moment s now) outcomes f) (reply_is.Finished (finished s outcomes f))
   pub maintain : (now : ℕ) → P (Maintain now) (after_maintain s (moment s now)) (reply_is.Maintained (maintained s (moment s now)))
+  pub forget : (now : ℕ) → P (Forget now) (after_forget s (moment s now)) (reply_is.Forgotten (forgotten s (moment s now)))
   pub note : (now number integration : ℕ) (outcome : Option Outcome) (f : FlushState) → flush_numbered s.flushes number ≡ Some f → may_note integration outcome f ≡ true
       → P (Note now number integration outcome) (after_note config s (moment s now) integration f) reply_is.Noted
 
@@ -66,4 +68,5 @@ module _ (config : Config) (id : ℕ) (s : State) (P : Call → State → Reply 
   each_call (Begin now) p e = subst (P (Begin now) (after_call config s (Begin now))) (inside (begun config id s (moment s now)) p e) (begins now (taken s (moment s now)) refl)
   each_call (Finish now number outcomes) p e = finishes now number outcomes (flush_numbered s.flushes number) p refl e
   each_call (Maintain now) p e = subst (P (Maintain now) (after_maintain s (moment s now))) (inside (reply_is.Maintained (maintained s (moment s now))) p e) (each.maintain now)
+  each_call (Forget now) p e = subst (P (Forget now) (after_forget s (moment s now))) (inside (reply_is.Forgotten (forgotten s (moment s now))) p e) (each.forget now)
   each_call (Note now number integration outcome) p e = notes now number integration outcome (flush_numbered s.flushes number) p refl e

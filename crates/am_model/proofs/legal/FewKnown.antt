@@ -1,19 +1,21 @@
--- No accepted insert passes the limit of known alerts, no accepted silence that of silences, and no other call changes either.
-use Rattle.std.proofs.Common.{◌≡◌, ℕ, ◌+◌, ◌≤◌, Bool, true, false, cond, not, ◌&&◌, nat_le, Option, Some, None, List, [], ◌∷◌, length, refl, arith, if◌then◌else◌}
+-- No accepted insert passes the limit of known alerts, no accepted silence that of silences, and no other call adds to either.
+use Rattle.std.proofs.Common.{◌≡◌, ℕ, ◌+◌, ◌≤◌, Bool, true, false, cond, not, ◌&&◌, nat_le, Option, Some, None, List, [], ◌∷◌, length, refl, ap, arith, if◌then◌else◌}
 use Rattle.std.specs.List.{list_any}
 use Rattle.std.proofs.lemmas.Bool.Decides.{nat_tests}
+use Rattle.am_mute.specs.Silence.{is_over}
 use Rattle.am_retry.specs.declared.outcome.Outcome.{Outcome}
 use Rattle.am_model.specs.declared.config.Config.{Config}
 use Rattle.am_model.specs.declared.config.Integration.{Integration}
 use Rattle.am_model.specs.declared.record.Call.{Call}
-use Rattle.am_model.specs.declared.record.Call.TheVariants.{Insert, Silence, Begin, Finish, Maintain, Note}
+use Rattle.am_model.specs.declared.record.Call.TheVariants.{Insert, Silence, Begin, Finish, Maintain, Forget, Note}
 use Rattle.am_model.specs.Begin.{taken, asked_of, after_asking, after_taking}
 use Rattle.am_model.specs.Finish.{after_finish_of}
+use Rattle.am_model.specs.Forget.{is_idle}
 use Rattle.am_model.specs.Lists.{upsert}
 use Rattle.am_model.specs.Note.{after_note, after_note_of, may_note}
 use Rattle.am_model.specs.Replay.{after_call}
 use Rattle.am_model.specs.State.{GroupState, FlushState, State, at_moment, moment, flush_numbered}
-use Rattle.am_model.proofs.legal.BoundedAlerts.{length-upsert, length-put_known}
+use Rattle.am_model.proofs.legal.BoundedAlerts.{length-filter, length-upsert, length-put_known}
 use Rattle.am_model.proofs.legal.FewGroups.{IsInsert}
 
 -- what is put in passes no limit, where there may be one more or one is like it
@@ -41,7 +43,17 @@ IsSilence (Silence now number matchers start end) = true
 IsSilence (Begin now) = false
 IsSilence (Finish now number outcomes) = false
 IsSilence (Maintain now) = false
+IsSilence (Forget now) = false
 IsSilence (Note now number integration outcome) = false
+
+abbrev pub IsForget : Call → Bool
+IsForget (Insert now alert) = false
+IsForget (Silence now number matchers start end) = false
+IsForget (Begin now) = false
+IsForget (Finish now number outcomes) = false
+IsForget (Maintain now) = false
+IsForget (Forget now) = true
+IsForget (Note now number integration outcome) = false
 
 module _ (config : Config) (s : State) where
   -- what is known, and the silences, are those of s
@@ -67,11 +79,34 @@ module _ (config : Config) (s : State) where
       let moved : State = at_moment s t in
       elim (may_note integration outcome f) as (λ b. KeepsKnown (cond b noted moved)) [ true ↦ (refl, refl) | false ↦ (refl, refl) ]
 
-  -- an insert alone changes what is known, and a silence alone the silences
-  pub known_others : (call : Call) → IsInsert call ≡ false → IsSilence call ≡ false → KeepsKnown (after_call config s call)
-  known_others (Insert now alert) e f = absurd (cc)
-  known_others (Silence now number matchers start end) e f = absurd (cc)
-  known_others (Begin now) e f = known_taking (moment s now) (taken s (moment s now))
-  known_others (Finish now number outcomes) e f = known_finished (moment s now) outcomes (flush_numbered s.flushes number)
-  known_others (Maintain now) e f = (refl, refl)
-  known_others (Note now number integration outcome) e f = known_noted (moment s now) integration outcome (flush_numbered s.flushes number)
+  -- an insert and a forgetting alone change what is known, and a silence and a forgetting the silences
+  pub known_others : (call : Call) → IsInsert call ≡ false → IsSilence call ≡ false → IsForget call ≡ false → KeepsKnown (after_call config s call)
+  known_others (Insert now alert) e f g = absurd (cc)
+  known_others (Silence now number matchers start end) e f g = absurd (cc)
+  known_others (Begin now) e f g = known_taking (moment s now) (taken s (moment s now))
+  known_others (Finish now number outcomes) e f g = known_finished (moment s now) outcomes (flush_numbered s.flushes number)
+  known_others (Maintain now) e f g = (refl, refl)
+  known_others (Forget now) e f g = absurd (cc)
+  known_others (Note now number integration outcome) e f g = known_noted (moment s now) integration outcome (flush_numbered s.flushes number)
+
+  -- no more is known, and there are no more silences
+  abbrev pub KnowsNoMore : State → Type 0
+  KnowsNoMore new = (length new.known ≤ length s.known) × (length new.silences ≤ length s.silences)
+
+  no_more : (new : State) → KeepsKnown new → KnowsNoMore new
+  no_more new kept = (omega (arith, ap length kept.0), omega (arith, ap length kept.1))
+
+  -- an insert alone adds to what is known, and a silence alone to the silences
+  pub fewer_others : (call : Call) → IsInsert call ≡ false → IsSilence call ≡ false → KnowsNoMore (after_call config s call)
+  fewer_others (Insert now alert) e f = absurd (cc)
+  fewer_others (Silence now number matchers start end) e f = absurd (cc)
+  fewer_others (Begin now) e f = no_more (after_call config s (Begin now)) (known_others (Begin now) refl refl refl)
+  fewer_others (Finish now number outcomes) e f =
+      no_more (after_call config s (Finish now number outcomes)) (known_others (Finish now number outcomes) refl refl refl)
+  fewer_others (Maintain now) e f = no_more (after_call config s (Maintain now)) (refl, refl)
+  fewer_others (Forget now) e f = (
+    length-filter (λ a. not (is_idle s.groups (moment s now) a)) s.known,
+    length-filter (λ x. not (is_over (moment s now) x)) s.silences,
+  )
+  fewer_others (Note now number integration outcome) e f =
+      no_more (after_call config s (Note now number integration outcome)) (known_others (Note now number integration outcome) refl refl refl)

@@ -4,6 +4,7 @@ use Rattle.std.proofs.Common.{◌≡◌, ℕ, Bool, true, false, true≢false, c
 use Rattle.std.specs.Prelude.{All, filter, find, fold, unwrap_or}
 use Rattle.std.specs.Cmp.{IsEquivalence}
 use Rattle.std.specs.List.{list_any, AllByRecursion, IsDistinct}
+use Rattle.std.proofs.lemmas.Bool.{and_right}
 use Rattle.std.proofs.lemmas.Map.Keys.{IsDistinct-head, IsDistinct-tail}
 use Rattle.am_alerts.specs.AlertData.{AlertData, is_resolved}
 use Rattle.am_alerts.specs.LabelOrder.{same_label_set-decides}
@@ -14,10 +15,11 @@ use Rattle.am_model.specs.declared.config.Config.{Config}
 use Rattle.am_model.specs.declared.config.Integration.{Integration}
 use Rattle.am_model.specs.declared.group.GroupName.{GroupName}
 use Rattle.am_model.specs.declared.record.Call.{Call}
-use Rattle.am_model.specs.declared.record.Call.TheVariants.{Insert, Silence, Begin, Finish, Maintain, Note}
+use Rattle.am_model.specs.declared.record.Call.TheVariants.{Insert, Silence, Begin, Finish, Maintain, Forget, Note}
 use Rattle.am_model.specs.declared.record.Record.{Record}
 use Rattle.am_model.specs.Begin.{taken, asked_of, begun_group, without_resolved, after_asking, after_taking}
 use Rattle.am_model.specs.Finish.{leaves_by, finished_group, after_finish_of}
+use Rattle.am_model.specs.Forget.{is_grouped, is_idle, after_forget}
 use Rattle.am_model.specs.Insert.{same_alert, same_member, same_group, names_for, next_stamp, new_group, group_or_new, group_with, put_into_group, after_insert}
 use Rattle.am_model.specs.Laws.{IsConsistent, IsKnownMember, IsStampedAs, KnowsMembers, ReplaysKnowMembers}
 use Rattle.am_model.specs.Lists.{upsert, changed_where}
@@ -249,6 +251,68 @@ module _ (config : Config) (s : State) (stamps : List Label → ℕ) (h : KnowsB
         | false ↦ h
       ]
 
+-- ---- a forgetting
+
+-- the alerts of groups are in groups
+grouped-one : (members : List MemberState) → AllByRecursion (λ m. list_any (λ n. same_alert m.alert n.alert) members ≡ true) members
+grouped-one [] = tt
+grouped-one (m ∷ ms) = (
+  ap (λ b. b || list_any (λ n. same_alert m.alert n.alert) ms) (same_alert_equiv.refl m.alert),
+  all-weaker (λ k. list_any (λ n. same_alert k.alert n.alert) ms ≡ true) (λ k. list_any (λ n. same_alert k.alert n.alert) (m ∷ ms) ≡ true)
+      (λ k h. or-later (same_alert k.alert m.alert) (list_any (λ n. same_alert k.alert n.alert) ms) h) ms (grouped-one ms),
+)
+
+abbrev AreGrouped : List GroupState → GroupState → Type 0
+AreGrouped groups g = AllByRecursion (λ m. is_grouped groups m.alert ≡ true) g.members
+
+grouped-each : (groups : List GroupState) → AllByRecursion (AreGrouped groups) groups
+grouped-each [] = tt
+grouped-each (g ∷ gs) = (
+  all-weaker (λ m. list_any (λ n. same_alert m.alert n.alert) g.members ≡ true) (λ m. is_grouped (g ∷ gs) m.alert ≡ true)
+      (λ m h. ap (λ b. b || is_grouped gs m.alert) h) g.members (grouped-one g.members),
+  all-weaker (AreGrouped gs) (AreGrouped (g ∷ gs))
+      (λ k h. all-weaker (λ m. is_grouped gs m.alert ≡ true) (λ m. is_grouped (g ∷ gs) m.alert ≡ true)
+      (λ m among. or-later (list_any (λ n. same_alert m.alert n.alert) g.members) (is_grouped gs m.alert) among) k.members h)
+      gs (grouped-each gs),
+)
+
+-- what is found, and isn't dropped, is found among those that stay
+find-kept : {X : Type 0} (test keep : X → Bool) (x : X) (xs : List X) → keep x ≡ true → find test xs ≡ Some x → find test (filter keep xs) ≡ Some x
+find-kept test keep x [] stays e = e
+find-kept test keep x (y ∷ ys) stays e =
+    elim (test y) as (λ b. test y ≡ b → cond b (Some y) (find test ys) ≡ Some x → find test (cond (keep y) (y ∷ filter keep ys) (filter keep ys)) ≡ Some x) [
+      | true ↦ λ is found.
+          let same : y ≡ x = cc in
+          ap (λ b. find test (cond b (y ∷ filter keep ys) (filter keep ys))) (ap keep same ∙ stays)
+          ∙ ap (λ b. cond b (Some y) (find test (filter keep ys))) is ∙ ap Some same
+      | false ↦ λ is found.
+          elim (keep y) as (λ b. find test (cond b (y ∷ filter keep ys) (filter keep ys)) ≡ Some x) [
+            | true ↦ ap (λ b. cond b (Some y) (find test (filter keep ys))) is ∙ find-kept test keep x ys stays found
+            | false ↦ find-kept test keep x ys stays found
+          ]
+    ] refl e
+
+module _ (config : Config) (s : State) (stamps : List Label → ℕ) (t : ℕ) where
+  abbrev stays : AlertData → Bool
+  stays a = not (is_idle s.groups t a)
+
+  -- what is known of an alert of a group stays known
+  known-left : (name : GroupName) (m : MemberState) → is_grouped s.groups m.alert ≡ true → IsKnown config s.known stamps name m → IsKnown config (filter stays s.known) stamps name m
+  known-left name m grouped k =
+      record {
+        known =
+            find-kept (same_alert m.alert) stays m.alert s.known
+            (ap not (and_right (is_resolved m.alert t) (not (is_grouped s.groups m.alert)) (ap not grouped))) k.known;
+        stamped = k.stamped;
+        routed = k.routed;
+      }
+
+  known_forget : KnowsBy config s stamps → KnowsBy config (after_forget s t) stamps
+  known_forget h =
+      all-both (AreGrouped s.groups) (AreKnown config s.known stamps) (AreKnown config (filter stays s.known) stamps)
+      (λ g grouped all. all-both (λ m. is_grouped s.groups m.alert ≡ true) (IsKnown config s.known stamps g.name) (IsKnown config (filter stays s.known) stamps g.name) (known-left g.name) g.members grouped all)
+      s.groups (grouped-each s.groups) h
+
 -- ---- any list of records
 
 known_call : (config : Config) (s : State) (c : Call) → IsSteady s → KnowsAll config s → KnowsAll config (after_call config s c)
@@ -258,6 +322,7 @@ known_call config s (Begin now) steady h = (h.0, known_begin config s h.0 h.1 (m
 known_call config s (Finish now number outcomes) steady h =
     (h.0, known_finish config s h.0 h.1 (moment s now) outcomes (flush_numbered s.flushes number))
 known_call config s (Maintain now) steady h = (h.0, all-filter (AreKnown config s.known h.0) (λ g. not (is_deserted g)) s.groups h.1)
+known_call config s (Forget now) steady h = (h.0, known_forget config s h.0 (moment s now) h.1)
 known_call config s (Note now number integration outcome) steady h =
     (h.0, known_note config s h.0 h.1 (moment s now) integration outcome (flush_numbered s.flushes number))
 

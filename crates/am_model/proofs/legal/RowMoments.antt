@@ -6,7 +6,7 @@ use Rattle.am_retry.specs.declared.outcome.Outcome.{Outcome}
 use Rattle.am_model.specs.declared.config.Config.{Config}
 use Rattle.am_model.specs.declared.config.Integration.{Integration}
 use Rattle.am_model.specs.declared.record.Call.{Call}
-use Rattle.am_model.specs.declared.record.Call.TheVariants.{Insert, Silence, Begin, Finish, Maintain, Note}
+use Rattle.am_model.specs.declared.record.Call.TheVariants.{Insert, Silence, Begin, Finish, Maintain, Forget, Note}
 use Rattle.am_model.specs.declared.record.Record.{Record}
 use Rattle.am_model.specs.declared.views.RowView.{RowView}
 use Rattle.am_model.specs.Begin.{asked_of, taken, after_asking, after_taking}
@@ -68,6 +68,7 @@ call config s (Maintain now) timely =
       clock = moment-within s now timely.clock;
       rows = all-filter (λ (row : RowView). row.moment ≤ MAX_MOMENT) (λ row. not (has_expired (moment s now) row)) s.rows timely.rows;
     }
+call config s (Forget now) timely = record { clock = moment-within s now timely.clock; rows = timely.rows }
 call config s (Note now number integration outcome) timely =
     noting config s (moment s now) integration outcome (flush_numbered s.flushes number) (moment-within s now timely.clock) timely
 

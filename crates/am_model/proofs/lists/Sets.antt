@@ -11,6 +11,10 @@ use Rattle.am_model.proofs.lists.Distinct.{IsDistinct-filter, all-weaker, all-pa
 
 -- ---- what passes a test
 
+-- nothing that is gone passes the test
+abbrev pub IsBlindTo : {X : Type 0} → (X → Bool) → (X → Bool) → Type 0
+IsBlindTo {X} gone test = (x : X) → gone x ≡ true → test x ≡ false
+
 module _ {X : Type 0} where
   -- no element, where each fails
   pub any-failing : (test : X → Bool) (xs : List X) → AllByRecursion (λ x. test x ≡ false) xs → list_any test xs ≡ false
@@ -35,6 +39,15 @@ module _ {X : Type 0} where
   -- by tests that agree
   pub any-alike : (test other : X → Bool) → ((x : X) → test x ≡ other x) → (xs : List X) → list_any test xs ≡ list_any other xs
   any-alike test other same xs = (λ j. list_any (λ x. same x j) xs)
+
+  -- without those that the test doesn't pass in any case
+  pub any-blind : (gone test : X → Bool) → IsBlindTo gone test → (xs : List X) → list_any test (without gone xs) ≡ list_any test xs
+  any-blind gone test blind xs =
+      any-filter test (λ x. not (gone x)) xs ∙ any-alike (λ x. not (gone x) && test x) test (λ x. one x (gone x) refl) xs
+    where
+      one : (x : X) (b : Bool) → gone x ≡ b → (not b && test x) ≡ test x
+      one x true e = sym (blind x e)
+      one x false e = refl
 
   -- with a condition
   pub any-and : (test : X → Bool) (c : Bool) (xs : List X) → list_any (λ x. test x && c) xs ≡ (list_any test xs && c)

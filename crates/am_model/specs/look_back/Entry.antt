@@ -10,10 +10,11 @@ use Rattle.am_retry.specs.declared.outcome.Outcome.{Outcome}
 use Rattle.am_model.specs.declared.config.Config.{Config}
 use Rattle.am_model.specs.declared.group.GroupName.{GroupName}
 use Rattle.am_model.specs.declared.record.Call.{Call}
-use Rattle.am_model.specs.declared.record.Call.TheVariants.{Insert, Silence, Begin, Finish, Maintain, Note}
+use Rattle.am_model.specs.declared.record.Call.TheVariants.{Insert, Silence, Begin, Finish, Maintain, Forget, Note}
 use Rattle.am_model.specs.declared.record.Record.{Record}
 use Rattle.am_model.specs.declared.record.Reply.{Reply}
-use Rattle.am_model.specs.declared.record.Reply.TheVariants.{Inserted, Silenced, NothingDue, Quiet, Flush, Finished, Maintained, Noted}
+use Rattle.am_model.specs.declared.record.Reply.TheVariants.{Inserted, Silenced, NothingDue, Quiet, Flush}
+use Rattle.am_model.specs.declared.record.Reply.TheVariants.{Finished, Maintained, Forgotten, Noted}
 use Rattle.am_model.specs.declared.views.RowView.{RowView}
 use Rattle.am_model.specs.Begin.{alert_cmp, label_sets}
 use Rattle.am_model.specs.Configured.{rules_of, route_muted, expiry_at}
@@ -36,6 +37,7 @@ alert_in (Silence now id matchers start end) = None
 alert_in (Begin now) = None
 alert_in (Finish now number outcomes) = None
 alert_in (Maintain now) = None
+alert_in (Forget now) = None
 alert_in (Note now number integration outcome) = None
 
 -- the silence that a call sets
@@ -45,14 +47,15 @@ silence_in (Silence now id matchers start end) = Some (silence_of id matchers st
 silence_in (Begin now) = None
 silence_in (Finish now number outcomes) = None
 silence_in (Maintain now) = None
+silence_in (Forget now) = None
 silence_in (Note now number integration outcome) = None
 
--- the known alerts: the last insert of each label set
+-- the known alerts, and those that were forgotten: the last insert of each label set
 abbrev pub known_in : Past → List AlertData
 known_in [] = []
 known_in (r ∷ past) = latest_first same_alert (alert_in r.call) (known_in past)
 
--- the silences: the last of each id
+-- the silences, and those that were forgotten: the last of each id
 abbrev pub silences_in : Past → List SilenceData
 silences_in [] = []
 silences_in (r ∷ past) = latest_first same_silence (silence_in r.call) (silences_in past)
@@ -107,6 +110,7 @@ row_of_flush config t integration begun past (Flush number group deadline notice
     })
 row_of_flush config t integration begun past (Finished finished) = None
 row_of_flush config t integration begun past (Maintained maintained) = None
+row_of_flush config t integration begun past (Forgotten forgotten) = None
 row_of_flush config t integration begun past Noted = None
 
 -- the row that a success logs at t for an integration that the flush at the head asked
@@ -135,6 +139,7 @@ logs name integration past (Finish now number outcomes) =
     begins_group name (begin_of number past)
     && (asked_and_succeeded number outcomes past integration (begin_of number past) && not (was_noted number integration past))
 logs name integration past (Maintain now) = false
+logs name integration past (Forget now) = false
 logs name integration past (Note now number i outcome) = begins_group name (begin_of number past) && (i == integration)
 
 -- the past that begins with the begin of the flush that a finish or a note names
@@ -144,6 +149,7 @@ begin_named past (Silence now id matchers start end) = []
 begin_named past (Begin now) = []
 begin_named past (Finish now number outcomes) = begin_of number past
 begin_named past (Maintain now) = []
+begin_named past (Forget now) = []
 begin_named past (Note now number integration outcome) = begin_of number past
 
 -- the row that the latest record logs for a group and an integration, if it does
@@ -165,6 +171,7 @@ unless_collected t (Silence now id matchers start end) row = row
 unless_collected t (Begin now) row = row
 unless_collected t (Finish now number outcomes) row = row
 unless_collected t (Maintain now) row = unless_expired t row
+unless_collected t (Forget now) row = row
 unless_collected t (Note now number integration outcome) row = row
 
 -- entry: the row of the last record that logged a success of an integration for a group, unless a maintenance since then came at or

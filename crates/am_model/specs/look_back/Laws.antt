@@ -14,10 +14,11 @@ use Rattle.am_model.specs.declared.config.Config.{Config}
 use Rattle.am_model.specs.declared.config.Integration.{Integration}
 use Rattle.am_model.specs.declared.group.GroupName.{GroupName}
 use Rattle.am_model.specs.declared.record.Call.{Call}
-use Rattle.am_model.specs.declared.record.Call.TheVariants.{Insert, Silence, Begin, Finish, Maintain, Note}
+use Rattle.am_model.specs.declared.record.Call.TheVariants.{Insert, Silence, Begin, Finish, Maintain, Forget, Note}
 use Rattle.am_model.specs.declared.record.Record.{Record}
 use Rattle.am_model.specs.declared.record.Reply.{Reply}
-use Rattle.am_model.specs.declared.record.Reply.TheVariants.{Inserted, Silenced, NothingDue, Quiet, Flush, Finished, Maintained, Noted}
+use Rattle.am_model.specs.declared.record.Reply.TheVariants.{Inserted, Silenced, NothingDue, Quiet, Flush}
+use Rattle.am_model.specs.declared.record.Reply.TheVariants.{Finished, Maintained, Forgotten, Noted}
 use Rattle.am_model.specs.declared.views.RowView.{RowView}
 use Rattle.am_model.specs.Begin.{alert_cmp, is_entry_of, log_row}
 use Rattle.am_model.specs.Configured.{route_of, integrations_of}
@@ -94,6 +95,7 @@ reports_delivery name integration past (Begin now) = false
 reports_delivery name integration past (Finish now number outcomes) =
     is_delivered_in name integration (outcome_of outcomes integration) (begin_of number past)
 reports_delivery name integration past (Maintain now) = false
+reports_delivery name integration past (Forget now) = false
 reports_delivery name integration past (Note now number i outcome) =
     (i == integration) && is_delivered_in name integration outcome (begin_of number past)
 
@@ -167,6 +169,7 @@ number_in (Quiet group removed) = 0
 number_in (Flush number group deadline notices) = number
 number_in (Finished finished) = 0
 number_in (Maintained maintained) = 0
+number_in (Forgotten forgotten) = 0
 number_in Noted = 0
 
 -- whether a flush of this group is open: it has begun, and isn't finished
@@ -258,6 +261,7 @@ IsToldRightly config t past (Quiet group removed) = removed ≡ count_by (λ m. 
 IsToldRightly config t past (Flush number group deadline notices) = IsFlushFound config number group deadline t past notices
 IsToldRightly config t past (Finished finished) = Unit {0}
 IsToldRightly config t past (Maintained maintained) = Unit {0}
+IsToldRightly config t past (Forgotten forgotten) = Unit {0}
 IsToldRightly config t past Noted = Unit {0}
 
 -- each begin tells what is there

@@ -1,6 +1,7 @@
 //! Whether a story has the alerts of an expectation. `expectation` calls it.
-ghost use Rattle.std.specs.Prelude.{◌≡◌, ◌&&◌, OnOk, false, nat_le, option_copied, true};
+ghost use Rattle.std.specs.Prelude.{◌≡◌, ◌&&◌, IfErr, OnOk, false, nat_le, option_copied, true};
 ghost use Rattle.std.specs.List.{list_all, list_any};
+ghost use Rattle.am_plans.specs.Decoding.{Denies};
 ghost use Rattle.am_plans.specs.Expected.{are_inserted, has_alerts, has_insert, inserts_set, is_matched, says_none};
 ghost use Rattle.am_plans.specs.Expected.{wants_none};
 
@@ -24,7 +25,8 @@ pub(crate) fn check_alerts(
     wanted: &Content,
     place: &JsonPointer<'_>,
 ) -> Result<(), InputFault>
-    ensures { OnOk result (has_alerts last plans.now wanted.now ≡ true) }
+    ensures alerts { OnOk result (has_alerts last plans.now wanted.now ≡ true) }
+    ensures refused { IfErr result (Denies (has_alerts last plans.now wanted.now)) }
 {
     let alloc = item.alloc();
     let firing = &place.member(firing_name(item));
@@ -47,7 +49,8 @@ pub(crate) fn check_alerts(
 
 /// Refuses a notice that has no alerts.
 fn check_some(alloc: Global, wanted: &Content, place: &JsonPointer<'_>) -> Result<(), InputFault>
-    ensures { OnOk result (wants_none wanted.now ≡ false) }
+    ensures some { OnOk result (wants_none wanted.now ≡ false) }
+    ensures refused { IfErr result (λ _. wants_none wanted.now ≡ true) }
 {
     if says_none(wanted.firing.as_ref()) && says_none(wanted.resolved.as_ref()) {
         return Err(place.refuse(alloc, FaultKind::BadValue));
@@ -82,7 +85,8 @@ fn check_matched(
     matchers: Option<&Sequence<Matcher>>,
     place: &JsonPointer<'_>,
 ) -> Result<(), InputFault>
-    ensures { OnOk result (is_matched last plans.now resolves (option_copied matchers.entry) ≡ true) }
+    ensures matched { OnOk result (is_matched last plans.now resolves (option_copied matchers.entry) ≡ true) }
+    ensures refused { IfErr result (Denies (is_matched last plans.now resolves (option_copied matchers.entry))) }
 {
     match matchers {
         None => Ok(()),
@@ -102,7 +106,8 @@ fn check_sets(
     sets: Option<&Sequence<Labels>>,
     place: &JsonPointer<'_>,
 ) -> Result<(), InputFault>
-    ensures { OnOk result (are_inserted last plans.now resolves (option_copied sets.entry) ≡ true) }
+    ensures inserted { OnOk result (are_inserted last plans.now resolves (option_copied sets.entry) ≡ true) }
+    ensures refused { IfErr result (λ _. are_inserted last plans.now resolves (option_copied sets.entry) ≡ false) }
 {
     match sets {
         None => Ok(()),

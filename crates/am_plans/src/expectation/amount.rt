@@ -1,8 +1,8 @@
 //! How many notices an expectation wants. `expectation` calls it.
-ghost use Rattle.std.specs.Prelude.{◌≡◌, ◌&&◌, ◌||◌, IfOk, OnOk, Some, false, is_some};
+ghost use Rattle.std.specs.Prelude.{◌≡◌, ◌&&◌, ◌||◌, IfErr, IfOk, None, OnOk, Some, false, true, is_some};
 ghost use Rattle.serde_json.specs.Find.{get_member};
 ghost use Rattle.serde_json.specs.View.{members_view};
-ghost use Rattle.am_cli.specs.Read.{number_in};
+ghost use Rattle.am_cli.specs.Read.{Excludes, number_in};
 ghost use Rattle.am_plans.specs.Expected.{IsAmountIn, amount_of, member_if, says_content};
 
 use am_cli::fault::{FaultKind, InputFault};
@@ -12,7 +12,8 @@ use am_terms::expectation::Amount;
 /// The amount that `none`, `never`, `count` or `at_most` says, of which one is said at most; at least one notice
 /// where none of them is.
 pub(crate) fn read_amount(item: &Object<'_, '_>) -> Result<Amount, InputFault>
-    ensures { IfOk result (IsAmountIn (members_view item.now.members)) }
+    ensures told { IfOk result (IsAmountIn (members_view item.now.members)) }
+    ensures refused { IfErr result (Excludes (IsAmountIn (members_view item.now.members))) }
 {
     let is_none = item.flag_or("none", false)?;
     let is_never = item.flag_or("never", false)?;
@@ -33,7 +34,8 @@ fn says_never(is_none: bool, is_never: bool) -> bool
 
 /// Refuses `none` beside what a notice has to say.
 fn check_alone(item: &Object<'_, '_>, is_none: bool) -> Result<(), InputFault>
-    ensures { OnOk result ((is_none && says_content (members_view item.now.members)) ≡ false) }
+    ensures alone { OnOk result ((is_none && says_content (members_view item.now.members)) ≡ false) }
+    ensures refused { IfErr result (λ _. (is_none && says_content (members_view item.now.members)) ≡ true) }
 {
     if is_none && says_content(item) {
         return Err(item.required("none")?.refuse(FaultKind::BadValue));
@@ -43,7 +45,8 @@ fn check_alone(item: &Object<'_, '_>, is_none: bool) -> Result<(), InputFault>
 
 /// Refuses `never` beside `none`.
 fn check_once(item: &Object<'_, '_>, is_none: bool, is_never: bool) -> Result<(), InputFault>
-    ensures { OnOk result ((is_none && is_never) ≡ false) }
+    ensures once { OnOk result ((is_none && is_never) ≡ false) }
+    ensures refused { IfErr result (λ _. (is_none && is_never) ≡ true) }
 {
     if is_none && is_never {
         return Err(item.required("never")?.refuse(FaultKind::BadValue));
@@ -57,7 +60,8 @@ fn amount_or_refuse(
     count: Option<u64>,
     at_most: Option<u64>,
 ) -> Result<Amount, InputFault>
-    ensures { IfOk result (λ amount. amount_of is_never count at_most ≡ Some amount) }
+    ensures amount { IfOk result (λ amount. amount_of is_never count at_most ≡ Some amount) }
+    ensures refused { IfErr result (λ _. amount_of is_never count at_most ≡ None) }
 {
     match amount_of(is_never, count, at_most) {
         None => Err(second_of(item, at_most)),
@@ -67,8 +71,10 @@ fn amount_or_refuse(
 
 /// A number, if the member of this name is there.
 fn read_number(item: &Object<'_, '_>, name: &str) -> Result<Option<u64>, InputFault>
-    ensures { IfOk result (λ number.
+    ensures number { IfOk result (λ number.
         member_if number_in (get_member name.now (members_view item.now.members)) ≡ Some number) }
+    ensures refused { IfErr result (λ _.
+        member_if number_in (get_member name.now (members_view item.now.members)) ≡ None) }
 {
     match item.optional(name) {
         None => Ok(None),

@@ -1,10 +1,14 @@
 //! What an expectation wants a notice to say. `expectation` calls it.
-ghost use Rattle.std.specs.Prelude.{◌≡◌, IfOk, OnOk, Some, codes};
+ghost use Rattle.std.specs.Prelude.{◌≡◌, IfErr, IfOk, IsTrue, List, OnOk, Option, codes, true};
+ghost use Rattle.std.specs.Option.{option_map_or};
+ghost use Rattle.std.specs.Result.{result_ok};
+ghost use Rattle.am_alerts.specs.Matcher.{compare_texts};
+ghost use Rattle.am_alerts.specs.declared.matcher.MatcherParts.{MatcherParts};
 ghost use Rattle.serde_json.specs.Find.{get_member};
 ghost use Rattle.serde_json.specs.View.{members_view, view};
-ghost use Rattle.am_cli.specs.Decoding.{IsList};
-ghost use Rattle.am_cli.specs.Configured.{DecodesToLabels, DecodesToMatcher};
-ghost use Rattle.am_plans.specs.Expected.{AreFiringIn, AreMatchersIn, AreResolvedIn, AreSetsIn, HasContentIn, member_if, reason_in};
+ghost use Rattle.am_cli.specs.Read.{Excludes};
+ghost use Rattle.am_plans.specs.Expected.{AreFiringIn, AreMatchersIn, AreMatchersOf, AreResolvedIn, AreSetsIn, HasContentIn, IsPlain};
+ghost use Rattle.am_plans.specs.Expected.{member_if, reason_in};
 ghost use Rattle.am_plans.specs.Expected.{SaysExactly, said_or_of};
 
 use crate::expectation::span::{read_when, refuse_beside};
@@ -13,14 +17,15 @@ use am_alerts::limits::MAX_MATCHERS;
 use am_alerts::matcher::Matcher;
 use am_alerts::sequence::Sequence;
 use am_cli::fault::{FaultKind, InputFault};
-use am_cli::labels::read_labels;
 use am_cli::reader::{Object, Reader};
 use am_terms::expectation::{Content, SentReason, reason_named};
 
 /// What a notice has to say. `has` or `has_resolved`, as `when` says, is `of` where it isn't said; `exactly` says
 /// both sets, of which that of the resolved alerts is empty.
 pub(crate) fn read_content(item: &Object<'_, '_>) -> Result<Content, InputFault>
-    ensures { IfOk result (HasContentIn item.now.dialect (members_view item.now.members)) }
+    ensures told { IfOk result (HasContentIn item.now.dialect (members_view item.now.members)) }
+    ensures refused { IfErr result (Excludes (λ content. HasContentIn item.now.dialect (members_view item.now.members) content
+        × IsPlain item.now.dialect (members_view item.now.members))) }
 {
     let resolves = read_when(item)?;
     let has = read_has(item, "has", !resolves)?;
@@ -40,7 +45,8 @@ pub(crate) fn read_content(item: &Object<'_, '_>) -> Result<Content, InputFault>
 
 /// Refuses `exactly` beside `firing` or `resolved`.
 fn check_exactly(item: &Object<'_, '_>) -> Result<(), InputFault>
-    ensures { OnOk result (SaysExactly (members_view item.now.members)) }
+    ensures alone { OnOk result (SaysExactly (members_view item.now.members)) }
+    ensures refused { IfErr result (λ _. SaysExactly (members_view item.now.members) → ⊥) }
 {
     let Some(exactly) = item.optional("exactly") else {
         return Ok(());
@@ -55,7 +61,10 @@ fn read_has(
     name: &str,
     or_of: bool,
 ) -> Result<Option<Sequence<Matcher>>, InputFault>
-    ensures { IfOk result (AreMatchersIn item.now.dialect (said_or_of or_of name.now (members_view item.now.members))) }
+    ensures told { IfOk result (AreMatchersIn item.now.dialect (said_or_of or_of name.now (members_view item.now.members))) }
+    ensures refused { IfErr result (Excludes (λ (matchers : Option (List MatcherParts)).
+        AreMatchersIn item.now.dialect (said_or_of or_of name.now (members_view item.now.members)) matchers
+        × IsTrue (option_map_or compare_texts matchers true))) }
 {
     if let Some(member) = item.optional(name) {
         return Ok(Some(read_matchers(&member)?));
@@ -71,7 +80,9 @@ fn read_has(
 
 /// Matchers, 1 to 32.
 pub(crate) fn read_matchers(member: &Reader<'_, '_>) -> Result<Sequence<Matcher>, InputFault>
-    ensures { IfOk result (IsList (DecodesToMatcher member.now.dialect) (view member.now.value)) }
+    ensures told { IfOk result (AreMatchersOf member.now.dialect (view member.now.value)) }
+    ensures refused { IfErr result (Excludes (λ (matchers : List MatcherParts).
+        AreMatchersOf member.now.dialect (view member.now.value) matchers × IsTrue (compare_texts matchers))) }
 {
     let matchers = member.list_up_to::<Matcher>(MAX_MATCHERS)?;
     if matchers.is_empty() {
@@ -82,7 +93,8 @@ pub(crate) fn read_matchers(member: &Reader<'_, '_>) -> Result<Sequence<Matcher>
 
 /// The label sets that fire.
 fn read_firing(item: &Object<'_, '_>) -> Result<Option<Sequence<Labels>>, InputFault>
-    ensures { IfOk result (AreFiringIn item.now.dialect (members_view item.now.members)) }
+    ensures told { IfOk result (AreFiringIn item.now.dialect (members_view item.now.members)) }
+    ensures refused { IfErr result (Excludes (AreFiringIn item.now.dialect (members_view item.now.members))) }
 {
     match item.optional("exactly") {
         None => read_sets(item, "firing"),
@@ -92,7 +104,8 @@ fn read_firing(item: &Object<'_, '_>) -> Result<Option<Sequence<Labels>>, InputF
 
 /// The label sets that are resolved.
 fn read_resolved(item: &Object<'_, '_>) -> Result<Option<Sequence<Labels>>, InputFault>
-    ensures { IfOk result (AreResolvedIn item.now.dialect (members_view item.now.members)) }
+    ensures told { IfOk result (AreResolvedIn item.now.dialect (members_view item.now.members)) }
+    ensures refused { IfErr result (Excludes (AreResolvedIn item.now.dialect (members_view item.now.members))) }
 {
     match item.optional("exactly") {
         None => read_sets(item, "resolved"),
@@ -101,29 +114,18 @@ fn read_resolved(item: &Object<'_, '_>) -> Result<Option<Sequence<Labels>>, Inpu
 }
 
 fn read_sets(item: &Object<'_, '_>, name: &str) -> Result<Option<Sequence<Labels>>, InputFault>
-    ensures { IfOk result (AreSetsIn item.now.dialect (get_member name.now (members_view item.now.members))) }
+    ensures told { IfOk result (AreSetsIn item.now.dialect (get_member name.now (members_view item.now.members))) }
+    ensures refused { IfErr result (Excludes (AreSetsIn item.now.dialect (get_member name.now (members_view item.now.members)))) }
 {
     match item.optional(name) {
         None => Ok(None),
-        Some(member) => Ok(Some(Sequence::from(list_sets(&member)?))),
+        Some(member) => Ok(Some(Sequence::from(member.list::<Labels>()?))),
     }
-}
-
-fn list_sets(member: &Reader<'_, '_>) -> Result<Vec<Labels>, InputFault>
-    ensures { IfOk result (λ sets. IsList (DecodesToLabels member.now.dialect) (view member.now.value) sets.items) }
-{
-    let mut sets = Vec::new(member.alloc());
-    let values = member.array()?;
-    for (index, value) in values.iter().enumerate() {
-        sets.push(read_labels(&member.item(index, value))?)?;
-    }
-    Ok(sets)
 }
 
 /// The reason for which a notice is sent.
 fn read_reason(item: &Object<'_, '_>) -> Result<Option<SentReason>, InputFault>
-    ensures { IfOk result (λ reason.
-        member_if reason_in (get_member (codes "reason") (members_view item.now.members)) ≡ Some reason) }
+    ensures { result_ok result ≡ member_if reason_in (get_member (codes "reason") (members_view item.now.members)) }
 {
     let Some(member) = item.optional("reason") else {
         return Ok(None);

@@ -1,5 +1,5 @@
 //! Whether a configuration has the receiver and the integration of an expectation. `expectation` calls it.
-ghost use Rattle.std.specs.Prelude.{◌≡◌, OnOk, true};
+ghost use Rattle.std.specs.Prelude.{◌≡◌, IfErr, OnOk, false, true};
 ghost use Rattle.std.specs.List.{list_any};
 ghost use Rattle.std.specs.Str.{bytes_eq};
 ghost use Rattle.am_plans.specs.Expected.{has_integration, has_kind, has_target, is_named, is_target};
@@ -18,7 +18,8 @@ pub(crate) fn check_target(
     expectation: &Expectation,
     place: &JsonPointer<'_>,
 ) -> Result<(), InputFault>
-    ensures { OnOk result (has_target config.now expectation.now ≡ true) }
+    ensures target { OnOk result (has_target config.now expectation.now ≡ true) }
+    ensures refused { IfErr result (λ _. has_target config.now expectation.now ≡ false) }
 {
     if has_target(config, expectation) {
         return Ok(());

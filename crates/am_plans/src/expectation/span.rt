@@ -1,10 +1,11 @@
 //! The span of an expectation: its times, or so long from when an alert fires or is resolved. `expectation` calls it.
-ghost use Rattle.std.specs.Prelude.{◌≡◌, ◌≤◌, ◌+◌, ◌&&◌, IfOk, IsSomeAnd, MatchOption, OnOk, Some, codes, nat_le};
+ghost use Rattle.std.specs.Prelude.{◌≡◌, ◌≢◌, ◌≤◌, ◌<◌, ◌&&◌, ℕ, IfErr, IfOk, IsSomeAnd, IsTrue, MatchOption, None, OnOk, Some, codes, nat_le};
+ghost use Rattle.std.specs.Result.{result_ok};
 ghost use Rattle.serde_json.specs.Find.{get_member};
 ghost use Rattle.serde_json.specs.View.{members_view, view};
 ghost use Rattle.am_cli.specs.Decoding.{HasNone};
-ghost use Rattle.am_cli.specs.Read.{duration_in};
-ghost use Rattle.am_plans.specs.Expected.{IsAt, IsFromTo, IsOwnSpan, IsSpanFrom, IsSpanIn, IsSpanWithin, does_as_said};
+ghost use Rattle.am_cli.specs.Read.{Excludes, duration_in, is_refusal};
+ghost use Rattle.am_plans.specs.Expected.{IsAt, IsEndOf, IsFromTo, IsOwnSpan, IsSpanFrom, IsSpanIn, IsSpanWithin, LooksForNone, does_as_said};
 ghost use Rattle.am_plans.specs.Expected.{first_insert, inserts, member_or, resolves_in};
 
 use crate::alert::refuse;
@@ -25,8 +26,11 @@ pub(crate) fn read_span(
     last: u64,
     plans: &[TimedAction],
 ) -> Result<(u64, u64), InputFault>
-    ensures { IfOk result (λ span.
+    ensures told { IfOk result (λ span.
         IsSpanIn item.now.dialect until last plans.now (members_view item.now.members) span.0 span.1) }
+    ensures refused { IfErr result (Excludes (λ (span : ℕ × ℕ).
+        IsSpanIn item.now.dialect until last plans.now (members_view item.now.members) span.0 span.1
+        × LooksForNone item.now.dialect (codes "of") (members_view item.now.members))) }
 {
     let Some(within) = item.optional("within") else {
         return read_own_span(item, until, last);
@@ -43,7 +47,8 @@ pub(crate) fn refuse_beside(
     member: &Reader<'_, '_>,
     other: &str,
 ) -> Result<(), InputFault>
-    ensures { OnOk result (HasNone other.now (members_view item.now.members)) }
+    ensures none { OnOk result (HasNone other.now (members_view item.now.members)) }
+    ensures there { IfErr result (λ _. get_member other.now (members_view item.now.members) ≢ None) }
 {
     match item.optional(other) {
         None => Ok(()),
@@ -53,7 +58,9 @@ pub(crate) fn refuse_beside(
 
 /// The span that an expectation without `within` says.
 fn read_own_span(item: &Object<'_, '_>, until: u64, last: u64) -> Result<(u64, u64), InputFault>
-    ensures { IfOk result (λ span. IsOwnSpan until last (members_view item.now.members) span.0 span.1) }
+    ensures told { IfOk result (λ span. IsOwnSpan until last (members_view item.now.members) span.0 span.1) }
+    ensures refused { IfErr result (Excludes (λ (span : ℕ × ℕ).
+        IsOwnSpan until last (members_view item.now.members) span.0 span.1)) }
 {
     refuse(item, "of")?;
     refuse(item, "when")?;
@@ -62,7 +69,9 @@ fn read_own_span(item: &Object<'_, '_>, until: u64, last: u64) -> Result<(u64, u
 
 /// The moment `at`, or from `from` to `to`.
 fn read_times(item: &Object<'_, '_>, until: u64, last: u64) -> Result<(u64, u64), InputFault>
-    ensures { IfOk result (λ span. IsSpanFrom until last (members_view item.now.members) span.0 span.1) }
+    ensures told { IfOk result (λ span. IsSpanFrom until last (members_view item.now.members) span.0 span.1) }
+    ensures refused { IfErr result (Excludes (λ (span : ℕ × ℕ).
+        IsSpanFrom until last (members_view item.now.members) span.0 span.1)) }
 {
     match item.optional("at") {
         None => read_from_to(item, until, last),
@@ -71,7 +80,9 @@ fn read_times(item: &Object<'_, '_>, until: u64, last: u64) -> Result<(u64, u64)
 }
 
 fn read_at(item: &Object<'_, '_>, at: &Reader<'_, '_>) -> Result<(u64, u64), InputFault>
-    ensures { IfOk result (λ span. IsAt (members_view item.now.members) (view at.now.value) span.0 span.1) }
+    ensures told { IfOk result (λ span. IsAt (members_view item.now.members) (view at.now.value) span.0 span.1) }
+    ensures refused { IfErr result (Excludes (λ (span : ℕ × ℕ).
+        IsAt (members_view item.now.members) (view at.now.value) span.0 span.1)) }
 {
     refuse(item, "from")?;
     refuse(item, "to")?;
@@ -80,7 +91,9 @@ fn read_at(item: &Object<'_, '_>, at: &Reader<'_, '_>) -> Result<(u64, u64), Inp
 }
 
 fn read_from_to(item: &Object<'_, '_>, until: u64, last: u64) -> Result<(u64, u64), InputFault>
-    ensures { IfOk result (λ span. IsFromTo until last (members_view item.now.members) span.0 span.1) }
+    ensures told { IfOk result (λ span. IsFromTo until last (members_view item.now.members) span.0 span.1) }
+    ensures refused { IfErr result (Excludes (λ (span : ℕ × ℕ).
+        IsFromTo until last (members_view item.now.members) span.0 span.1)) }
 {
     let from = read_from(item)?;
     let to = read_to(item, from, until, last)?;
@@ -89,8 +102,7 @@ fn read_from_to(item: &Object<'_, '_>, until: u64, last: u64) -> Result<(u64, u6
 
 /// The beginning of a span; the start of the rehearsal, where it isn't said.
 fn read_from(item: &Object<'_, '_>) -> Result<u64, InputFault>
-    ensures { IfOk result (λ from.
-        member_or duration_in (Some 0) (get_member (codes "from") (members_view item.now.members)) ≡ Some from) }
+    ensures { result_ok result ≡ member_or duration_in (Some 0) (get_member (codes "from") (members_view item.now.members)) }
 {
     match item.optional("from") {
         None => Ok(0),
@@ -104,6 +116,9 @@ fn read_to(item: &Object<'_, '_>, from: u64, until: u64, last: u64) -> Result<u6
         member_or duration_in (Some until) (get_member (codes "to") (members_view item.now.members)) ≡ Some to) }
     ensures ordered { IfOk result (λ to.
         MatchOption (get_member (codes "to") (members_view item.now.members)) (from ≤ last) (λ _. from ≤ to)) }
+    ensures refused { IfErr result (Excludes (λ (to : ℕ).
+        (member_or duration_in (Some until) (get_member (codes "to") (members_view item.now.members)) ≡ Some to)
+        × MatchOption (get_member (codes "to") (members_view item.now.members)) (from ≤ last) (λ _. from ≤ to))) }
 {
     let Some(member) = item.optional("to") else {
         check_begins(item, from, last)?;
@@ -118,7 +133,8 @@ fn read_to(item: &Object<'_, '_>, from: u64, until: u64, last: u64) -> Result<u6
 
 /// Refuses a span that begins after the last time.
 fn check_begins(item: &Object<'_, '_>, from: u64, last: u64) -> Result<(), InputFault>
-    ensures { OnOk result (from ≤ last) }
+    ensures begins { OnOk result (from ≤ last) }
+    ensures refused { IfErr result (λ _. last < from) }
 {
     if from > last {
         return Err(item.required("from")?.refuse(FaultKind::BadValue));
@@ -133,8 +149,11 @@ fn read_within(
     last: u64,
     plans: &[TimedAction],
 ) -> Result<(u64, u64), InputFault>
-    ensures { IfOk result (λ span.
+    ensures told { IfOk result (λ span.
         IsSpanWithin item.now.dialect last plans.now (members_view item.now.members) (view within.now.value) span.0 span.1) }
+    ensures refused { IfErr result (Excludes (λ (span : ℕ × ℕ).
+        IsSpanWithin item.now.dialect last plans.now (members_view item.now.members) (view within.now.value) span.0 span.1
+        × LooksForNone item.now.dialect (codes "of") (members_view item.now.members))) }
 {
     let resolves = read_when(item)?;
     let of = item.required("of")?;
@@ -152,7 +171,8 @@ fn first_time(
     matchers: &[Matcher],
     plans: &[TimedAction],
 ) -> Result<u64, InputFault>
-    ensures { IfOk result (λ time. first_insert last resolves matchers.now plans.now ≡ Some time) }
+    ensures first { IfOk result (λ time. first_insert last resolves matchers.now plans.now ≡ Some time) }
+    ensures refused { IfErr result (λ fault. IsTrue (is_refusal fault) → first_insert last resolves matchers.now plans.now ≡ None) }
 {
     match first_insert(of.alloc(), last, resolves, matchers, plans)? {
         None => Err(of.refuse(FaultKind::BadValue)),
@@ -162,7 +182,8 @@ fn first_time(
 
 /// The end of a duration that begins at `from`. `Value` above 2^64 - 1.
 fn end_of(within: &Reader<'_, '_>, from: u64) -> Result<u64, InputFault>
-    ensures { IfOk result (λ to. IsSomeAnd (duration_in (view within.now.value)) (λ length. to ≡ from + length)) }
+    ensures last { IfOk result (λ to. IsSomeAnd (duration_in (view within.now.value)) (IsEndOf from to)) }
+    ensures refused { IfErr result (λ _. (to : ℕ) → IsSomeAnd (duration_in (view within.now.value)) (IsEndOf from to) → ⊥) }
 {
     let length = duration(within)?;
     if length > u64::MAX - from {
@@ -173,7 +194,7 @@ fn end_of(within: &Reader<'_, '_>, from: u64) -> Result<u64, InputFault>
 
 /// Whether `when` says that the alert is resolved; it fires, where it isn't said.
 pub(crate) fn read_when(item: &Object<'_, '_>) -> Result<bool, InputFault>
-    ensures { IfOk result (λ resolves. resolves_in (members_view item.now.members) ≡ Some resolves) }
+    ensures { result_ok result ≡ resolves_in (members_view item.now.members) }
 {
     let Some(member) = item.optional("when") else {
         return Ok(false);

@@ -1,8 +1,9 @@
 //! The integration of an expectation: a position, a kind, or a kind with its position. `expectation` calls it.
-ghost use Rattle.std.specs.Prelude.{◌≡◌, IfOk, IfSome, codes};
+ghost use Rattle.std.specs.Prelude.{◌≡◌, ℕ, IfErr, IfOk, List, Option, codes};
 ghost use Rattle.serde_json.specs.Find.{get_member};
 ghost use Rattle.serde_json.specs.View.{members_view, view};
-ghost use Rattle.am_plans.specs.Expected.{IsSplit, IsTargetIn, IsTargetOf, position_named, position_text};
+ghost use Rattle.am_cli.specs.Read.{Excludes};
+ghost use Rattle.am_plans.specs.Expected.{IsSplit, IsTargetIn, IsTargetOf, position_named};
 
 use am_alerts::text::Text;
 use am_cli::fault::InputFault;
@@ -11,8 +12,10 @@ use am_model::config::MAX_INTEGRATIONS;
 
 /// The kind and the position of the integration, where they are said.
 pub(crate) fn read_target(item: &Object<'_, '_>) -> Result<(Option<Text>, Option<u32>), InputFault>
-    ensures { IfOk result (λ target.
+    ensures told { IfOk result (λ target.
         IsTargetIn (get_member (codes "integration") (members_view item.now.members)) target.0 target.1) }
+    ensures refused { IfErr result (Excludes (λ (target : Option (List ℕ) × Option ℕ).
+        IsTargetIn (get_member (codes "integration") (members_view item.now.members)) target.0 target.1)) }
 {
     match item.optional("integration") {
         None => Ok((None, None)),
@@ -21,7 +24,9 @@ pub(crate) fn read_target(item: &Object<'_, '_>) -> Result<(Option<Text>, Option
 }
 
 fn read_integration(member: &Reader<'_, '_>) -> Result<(Option<Text>, Option<u32>), InputFault>
-    ensures { IfOk result (λ target. IsTargetOf (view member.now.value) target.0 target.1) }
+    ensures told { IfOk result (λ target. IsTargetOf (view member.now.value) target.0 target.1) }
+    ensures refused { IfErr result (Excludes (λ (target : Option (List ℕ) × Option ℕ).
+        IsTargetOf (view member.now.value) target.0 target.1)) }
 {
     if !member.is_text() {
         let position = member.number_up_to(MAX_INTEGRATIONS as u64)?;
@@ -47,8 +52,7 @@ fn split(text: &str) -> (&str, Option<u32>)
 
 /// The position that is written so.
 fn position_of(text: &str) -> Option<u32>
-    ensures named { result ≡ position_named text.now }
-    ensures writes { IfSome result (λ position. text.now ≡ position_text position) }
+    ensures { result ≡ position_named text.now }
 {
     match text {
         "0" => Some(0),

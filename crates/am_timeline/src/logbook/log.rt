@@ -109,6 +109,7 @@ fn now_of(call: &Call) -> u64
         | Call::Begin { now }
         | Call::Finish { now, .. }
         | Call::Maintain { now }
+        | Call::Forget { now }
         | Call::Note { now, .. } => *now,
     }
 }

@@ -14,7 +14,7 @@ use Rattle.am_nflog.specs.Needed.{needed}
 use Rattle.am_retry.specs.declared.outcome.Outcome.{Outcome}
 use Rattle.am_model.proofs.lists.Words.{IsDistinct-upsert}
 use Rattle.am_model.specs.Begin.{entry_of, asked_about, asked_of, firing_of, resolved_of, label_sets, reply_asking, reply_taking, after_asking, after_taking, taken, next_due}
-use Rattle.am_model.specs.Causes.{insert_cause, silence_cause, begin_cause, maintain_cause, note_cause, asks_some, opens_by, is_full}
+use Rattle.am_model.specs.Causes.{insert_cause, silence_cause, begin_cause, maintain_cause, forget_cause, note_cause, asks_some, opens_by, is_full}
 use Rattle.am_model.specs.Configured.{route_of, route_muted, integrations_of}
 use Rattle.am_model.specs.Ticket.{TicketData}
 use Rattle.am_model.specs.Finish.{same_key, log_with, row_at, rows_after, logged_by, after_finish_of}
@@ -31,7 +31,7 @@ use Rattle.am_model.specs.declared.config.Integration.{Integration}
 use Rattle.am_model.specs.declared.fault.Fault.TheVariants.{TooManyOpen, HistoryFull}
 use Rattle.am_model.specs.declared.group.GroupName.{GroupName}
 use Rattle.am_model.specs.declared.record.Call.{Call}
-use Rattle.am_model.specs.declared.record.Call.TheVariants.{Insert, Silence, Begin, Finish, Maintain, Note}
+use Rattle.am_model.specs.declared.record.Call.TheVariants.{Insert, Silence, Begin, Finish, Maintain, Forget, Note}
 use Rattle.am_model.specs.declared.record.Reply.TheVariants as reply_is
 use Rattle.am_model.specs.declared.views.RowView.{RowView}
 use Rattle.am_board.specs.Refinement.{EqualUpToRowOrder}
@@ -77,6 +77,7 @@ module _ (config : Config) (s : State) (rows : List RowView) (moved : IsPermutat
   reply-rows id (Begin now) = ap Some (reply_taking-rows id (moment s now) (taken s (moment s now)))
   reply-rows id (Finish now number outcomes) = refl
   reply-rows id (Maintain now) = ap (λ n. Some (reply_is.Maintained (record { groups = count_by is_deserted s.groups; entries = n }))) (sym (count_by-permutation (has_expired (moment s now)) rows s.rows moved))
+  reply-rows id (Forget now) = refl
   reply-rows id (Note now number integration outcome) = refl
 
   preview_at-rows : (t : ℕ) → preview_at config (with_rows rows s) t ≡ preview_at config s t
@@ -118,6 +119,7 @@ module _ (config : Config) (s : State) (rows : List RowView) (moved : IsPermutat
   after_call-rows (Begin now) = after_taking-rows (moment s now) (taken s (moment s now))
   after_call-rows (Finish now number outcomes) = after_finish_of-rows (moment s now) outcomes (flush_numbered s.flushes number)
   after_call-rows (Maintain now) = record { rows = without-permutation (has_expired (moment s now)) rows s.rows moved; rest = refl }
+  after_call-rows (Forget now) = record { rows = moved; rest = refl }
   after_call-rows (Note now number integration outcome) = after_note_of-rows (moment s now) integration outcome (flush_numbered s.flushes number)
 
   -- ---- why calls are refused
@@ -183,6 +185,9 @@ module _ (a b : State) (agrees : EqualUpToRowOrder a b) where
 
   pub maintain_cause-agrees : (config : Config) (records : ℕ) → maintain_cause config records a ≡ maintain_cause config records b
   maintain_cause-agrees config records = ap (λ s. maintain_cause config records s) agrees.rest
+
+  pub forget_cause-agrees : (config : Config) (records : ℕ) → forget_cause config records a ≡ forget_cause config records b
+  forget_cause-agrees config records = ap (λ s. forget_cause config records s) agrees.rest
 
   pub note_cause-agrees : (config : Config) (id records : ℕ) (ticket : TicketData) (place : ℕ) → note_cause config id records a ticket place ≡ note_cause config id records b ticket place
   note_cause-agrees config id records ticket place = ap (λ s. note_cause config id records s ticket place) agrees.rest

@@ -26,7 +26,7 @@ use Rattle.am_model.specs.State.{AskedState, FlushState, State, moment, at_momen
 use Rattle.am_retry.specs.declared.outcome.Outcome.{Outcome}
 use Rattle.am_board.specs.Step.{AppliesCall, LeavesUnchanged, IsAnswer, IsCaused, IsNoteAnswer, IsNoteCaused}
 use Rattle.am_model.proofs.legal.FewGroups.{IsInsert}
-use Rattle.am_model.proofs.legal.FewKnown.{IsSilence}
+use Rattle.am_model.proofs.legal.FewKnown.{IsSilence, IsForget}
 use Rattle.am_model.specs.Begin.{next_due}
 use Rattle.am_board.proofs.lemmas.invariant.Agreeing.{row_views-agrees, group_views-agrees, next_due-agrees, preview_at-agrees, summary_at-agrees}
 use Rattle.am_model.specs.Views.{row_views, group_cmp, group_view, group_views, summary_at, summary}
@@ -89,11 +89,11 @@ module _ (b : Inside) (sound : IsSound b) (now : BoardData) (view_is : seen b b.
   refused (Err fault) h = ap (λ (items : List Record). seen_with b (b.past.items ++ items)) h.1.history ∙ view_is
 
   -- the board is sound again
-  pub sound_again : ((x : T) → P x → IsWithin b.config (after_call b.config (state_of b.state) call) new) → (r : Result T E) → MatchResult r P (λ fault. Q fault × LeavesUnchanged b.config b.state new) → IsSound (record b { state = new })
-  sound_again within (Ok x) h =
+  pub sound_again : IsForget call ≡ false → ((x : T) → P x → IsWithin b.config (after_call b.config (state_of b.state) call) new) → (r : Result T E) → MatchResult r P (λ fault. Q fault × LeavesUnchanged b.config b.state new) → IsSound (record b { state = new })
+  sound_again keeps within (Ok x) h =
       let limits : IsWithin b.config (after_call b.config (state_of b.state) call) new = within x h in
-      sound_then b sound (entry pass call (told x)) new (accepts x h) limits.0 limits.1 limits.2
-  sound_again within (Err fault) h = sound_still b sound new h.1
+      sound_then b sound (entry pass call (told x)) new (accepts x h) keeps limits.0 limits.1 limits.2
+  sound_again keeps within (Err fault) h = sound_still b sound new h.1
 
 -- why a call was refused, in other words
 pub caused : {T : Type 0} (cause other : Option Fault) → cause ≡ other → (P : T → Type 0) (S : Type 0) (r : Result T Fault) → MatchResult r (λ x. (cause ≡ None) × P x) (λ fault. IsAnswer cause fault × S) → IsCaused other r
@@ -182,7 +182,7 @@ module _ (b : Inside) (sound : IsSound b) (now : BoardData) (view_is : seen b b.
       let accepts = h.1.2 b.id in
       let room = note_room b.config (vec_len b.state.history) (state_of b.state) ticket place (flush_numbered (state_of b.state).flushes ticket.number) h.0 in
       let limits : IsWithin b.config (after b.config (state_of b.state) h.1.0) new = note_within h.1.0 h.1.1 accepts room in
-      sound_then b sound h.1.0 new accepts limits.0 limits.1 limits.2
+      sound_then b sound h.1.0 new accepts (ap (λ (x : Record). IsForget x.call) h.1.1.2) limits.0 limits.1 limits.2
   sound_noted Q (Err fault) h = sound_still b sound new h.1
 
   -- why a note isn't accepted, at the state after the history

@@ -67,5 +67,5 @@ module _ (b : Inside) (sound : IsSound b) (now : BoardData) (view_is : seen b b.
 
     pub finish_sound : vec_len new.flushes + 1 ≡ vec_len b.state.flushes → IsSound (record b { state = new })
     finish_sound closed =
-        sound_then b sound (entry pass call (replies.Finished x)) new accepted
+        sound_then b sound (entry pass call (replies.Finished x)) new accepted refl
         (few_after b sound call refl refl) (omega (arith, closed, sound.opened)) (omega (arith, closed, accepted.records, sound.kept))

@@ -1,6 +1,6 @@
 -- The names that are kept for known alerts stay those of their groups: a call puts an alert in the place of one with its labels alone, or
 -- adds it.
-use Rattle.std.proofs.Common.{◌≡◌, ◌≢◌, ℕ, ◌+◌, ◌<◌, true, false, eqb, eqb-true, Option, Some, None, List, [], ◌∷◌, ◌++◌, length, get_or, get_or-set_other, get_or-set_same, refl, sym, ap, ◌∙◌, subst, arith}
+use Rattle.std.proofs.Common.{◌≡◌, ◌≢◌, ℕ, ◌<◌, true, false, eqb, eqb-true, Option, Some, None, List, [], ◌∷◌, ◌++◌, length, get_or, get_or-set_other, get_or-set_same, refl, sym, ap, ◌∙◌, subst, arith}
 use Rattle.std.specs.Prelude.{unwrap_or}
 use Rattle.std.proofs.Math.ListN.{set, length-set, get_or-append}
 use Rattle.std.proofs.lemmas.Bool.{eqb-false}
@@ -15,14 +15,14 @@ use Rattle.am_mute.specs.Sources.{IsAt}
 use Rattle.am_model.specs.declared.config.Config.{Config}
 use Rattle.am_model.specs.declared.group.GroupName.{GroupName}
 use Rattle.am_model.specs.declared.record.Call.{Call}
-use Rattle.am_model.specs.declared.record.Call.TheVariants.{Insert, Silence, Begin, Finish, Maintain, Note}
+use Rattle.am_model.specs.declared.record.Call.TheVariants.{Insert, Silence, Begin, Finish, Maintain, Forget, Note}
 use Rattle.am_model.specs.declared.record.Reply.{Reply}
 use Rattle.am_model.specs.Records.{entry}
 use Rattle.am_model.specs.Insert.{same_alert, names_for}
 use Rattle.am_model.specs.Lists.{upsert}
 use Rattle.am_model.specs.Replay.{after_call}
 use Rattle.am_model.specs.State.{State}
-use Rattle.am_model.proofs.legal.FewKnown.{known_others}
+use Rattle.am_model.proofs.legal.FewKnown.{IsForget, known_others}
 use Rattle.am_model.proofs.lists.Places as lists
 use Rattle.am_model.proofs.lists.Places.{put_new}
 use Rattle.am_board.specs.GroupNameCache.{AreKept}
@@ -45,14 +45,15 @@ pub kept_none : (config : Config) (known : List AlertData) → AreKept config kn
 kept_none config known = record { within = omega arith; names = λ i a names is at. absurd (omega (arith, at.0)) }
 
 module _ (config : Config) (s : State) where
-  -- the names stay those of the known alerts' groups
-  pub kept_after : (call : Call) (kept : List (Option (List GroupName))) → AreKept config s.known kept → AreKept config (after_call config s call).known kept
-  kept_after (Insert now alert) kept were = kept_put config alert s.known kept were
-  kept_after (Silence now number matchers start end) kept were = were
-  kept_after (Begin now) kept were = subst (λ known. AreKept config known kept) (sym (known_others config s (Begin now) refl refl).0) were
-  kept_after (Finish now number outcomes) kept were = subst (λ known. AreKept config known kept) (sym (known_others config s (Finish now number outcomes) refl refl).0) were
-  kept_after (Maintain now) kept were = were
-  kept_after (Note now number integration outcome) kept were = subst (λ known. AreKept config known kept) (sym (known_others config s (Note now number integration outcome) refl refl).0) were
+  -- the names stay those of the known alerts' groups, unless a call forgets some
+  pub kept_after : (call : Call) (kept : List (Option (List GroupName))) → IsForget call ≡ false → AreKept config s.known kept → AreKept config (after_call config s call).known kept
+  kept_after (Insert now alert) kept e were = kept_put config alert s.known kept were
+  kept_after (Silence now number matchers start end) kept e were = were
+  kept_after (Begin now) kept e were = subst (λ known. AreKept config known kept) (sym (known_others config s (Begin now) refl refl refl).0) were
+  kept_after (Finish now number outcomes) kept e were = subst (λ known. AreKept config known kept) (sym (known_others config s (Finish now number outcomes) refl refl refl).0) were
+  kept_after (Maintain now) kept e were = were
+  kept_after (Forget now) kept e were = absurd (cc)
+  kept_after (Note now number integration outcome) kept e were = subst (λ known. AreKept config known kept) (sym (known_others config s (Note now number integration outcome) refl refl refl).0) were
 
 module _ (alert : AlertData) (known : List AlertData) where
   -- the alert stands where the one with its labels stood, or last

@@ -7,12 +7,12 @@ use Rattle.am_mute.specs.SourceIndex.{SourceIndex}
 use Rattle.am_mute.specs.Sources.{AreLearnt, HasKeys, HasSources, IsAt}
 use Rattle.am_model.specs.declared.config.Config.{Config}
 use Rattle.am_model.specs.declared.record.Call.{Call}
-use Rattle.am_model.specs.declared.record.Call.TheVariants.{Insert, Silence, Begin, Finish, Maintain, Note}
+use Rattle.am_model.specs.declared.record.Call.TheVariants.{Insert, Silence, Begin, Finish, Maintain, Forget, Note}
 use Rattle.am_model.specs.Insert.{same_alert}
 use Rattle.am_model.specs.Lists.{upsert}
 use Rattle.am_model.specs.Replay.{after_call}
 use Rattle.am_model.specs.State.{State}
-use Rattle.am_model.proofs.legal.FewKnown.{known_others}
+use Rattle.am_model.proofs.legal.FewKnown.{IsForget, known_others}
 
 module _ (alert : AlertData) where
   abbrev pub put : List AlertData → List AlertData
@@ -59,11 +59,12 @@ module _ (alert : AlertData) where
           subst (λ labels. HasKeys number rule i labels index) was.2 (learnt.sources number rule at i was.0 was.1 less)
 
 module _ (config : Config) (s : State) where
-  -- what was learnt is of the known alerts after a call too
-  pub learnt_after : (call : Call) (index : SourceIndex) → AreLearnt config.rules s.known index → AreLearnt config.rules (after_call config s call).known index
-  learnt_after (Insert now alert) index learnt = learnt_put alert config.rules s.known index learnt
-  learnt_after (Silence now number matchers start end) index learnt = learnt
-  learnt_after (Begin now) index learnt = subst (λ known. AreLearnt config.rules known index) (sym (known_others config s (Begin now) refl refl).0) learnt
-  learnt_after (Finish now number outcomes) index learnt = subst (λ known. AreLearnt config.rules known index) (sym (known_others config s (Finish now number outcomes) refl refl).0) learnt
-  learnt_after (Maintain now) index learnt = learnt
-  learnt_after (Note now number integration outcome) index learnt = subst (λ known. AreLearnt config.rules known index) (sym (known_others config s (Note now number integration outcome) refl refl).0) learnt
+  -- what was learnt is of the known alerts after a call too, unless it forgets some
+  pub learnt_after : (call : Call) (index : SourceIndex) → IsForget call ≡ false → AreLearnt config.rules s.known index → AreLearnt config.rules (after_call config s call).known index
+  learnt_after (Insert now alert) index e learnt = learnt_put alert config.rules s.known index learnt
+  learnt_after (Silence now number matchers start end) index e learnt = learnt
+  learnt_after (Begin now) index e learnt = subst (λ known. AreLearnt config.rules known index) (sym (known_others config s (Begin now) refl refl refl).0) learnt
+  learnt_after (Finish now number outcomes) index e learnt = subst (λ known. AreLearnt config.rules known index) (sym (known_others config s (Finish now number outcomes) refl refl refl).0) learnt
+  learnt_after (Maintain now) index e learnt = learnt
+  learnt_after (Forget now) index e learnt = absurd (cc)
+  learnt_after (Note now number integration outcome) index e learnt = subst (λ known. AreLearnt config.rules known index) (sym (known_others config s (Note now number integration outcome) refl refl refl).0) learnt

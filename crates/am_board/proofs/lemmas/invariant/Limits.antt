@@ -7,7 +7,8 @@ use Rattle.am_mute.specs.Silence.{SilenceData}
 use Rattle.am_board.specs.declared.board.Board.TheInside.{Inside}
 use Rattle.am_model.specs.declared.fault.Fault.TheVariants.{HistoryFull, TooManyNames, TooManySilences, TooManyOpen}
 use Rattle.am_model.specs.declared.record.Call.{Call}
-use Rattle.am_model.specs.declared.record.Call.TheVariants.{Insert, Begin, Maintain}
+use Rattle.am_model.specs.declared.record.Call.TheVariants.{Insert, Begin, Maintain, Forget}
+use Rattle.am_model.specs.declared.record.Forgotten.{Forgotten}
 use Rattle.am_model.specs.declared.record.Inserted.{Inserted}
 use Rattle.am_model.specs.declared.record.Maintained.{Maintained}
 use Rattle.am_model.specs.declared.record.Reply.{Reply}
@@ -19,7 +20,7 @@ use Rattle.am_model.specs.declared.config.Config.{Config}
 use Rattle.am_model.specs.declared.config.Integration.{Integration}
 use Rattle.am_board.specs.Board.{IsSound, whole}
 use Rattle.am_model.specs.Begin.{taken, asked_of, flush_asking, after_asking, after_taking}
-use Rattle.am_model.specs.Causes.{is_name_too_many, is_silence_too_many, insert_cause, silence_cause, begin_cause, maintain_cause, asks_some, opens_by}
+use Rattle.am_model.specs.Causes.{is_name_too_many, is_silence_too_many, insert_cause, silence_cause, begin_cause, maintain_cause, forget_cause, asks_some, opens_by}
 use Rattle.am_board.specs.History.{BoardData, records_at, state_at, reply_of}
 use Rattle.am_model.specs.Records.{call_of_silence, entry}
 use Rattle.am_board.specs.Refinement.{state_of}
@@ -28,7 +29,7 @@ use Rattle.am_model.specs.Replay.{replay, after_call}
 use Rattle.am_model.specs.Upkeep.{same_silence}
 use Rattle.am_model.specs.State.{GroupState, State, moment}
 use Rattle.am_board.specs.Step.{AppliesCall}
-use Rattle.am_board.proofs.lemmas.invariant.Agreeing.{insert_cause-agrees, silence_cause-agrees, maintain_cause-agrees, begin_cause-agrees}
+use Rattle.am_board.proofs.lemmas.invariant.Agreeing.{insert_cause-agrees, silence_cause-agrees, maintain_cause-agrees, forget_cause-agrees, begin_cause-agrees}
 use Rattle.am_model.proofs.legal.FewGroups.{few_inserted}
 use Rattle.am_model.proofs.legal.FewKnown.{fits-upsert, neither_cause}
 use Rattle.am_board.proofs.lemmas.invariant.Calls.{IsWithin, opened_then, room_of, seen}
@@ -71,6 +72,13 @@ module _ (b : Inside) (sound : IsSound b) (pass now : ℕ) (new : kept.State) wh
       (room_of b.config (vec_len b.state.history) (state_of b.state) 1 (Some HistoryFull) None none (λ h. absurd (cc))).0
       (few_after b sound (Maintain now) refl refl)
 
+  pub forget_within : (x : Forgotten) → forget_cause b.config (vec_len b.state.history) (state_of b.state) ≡ None
+      → AppliesCall b.config b.id (entry pass (Forget now) (replies.Forgotten x)) b.state new → IsWithin b.config (after_call b.config (state_of b.state) (Forget now)) new
+  forget_within x none accepts =
+      keeps_within b sound pass (Forget now) (replies.Forgotten x) new accepts (omega arith)
+      (room_of b.config (vec_len b.state.history) (state_of b.state) 1 (Some HistoryFull) None none (λ h. absurd (cc))).0
+      (few_after b sound (Forget now) refl refl)
+
 -- ---- a begin opens a flush only where one more may be open
 
 fits_asking : (config : Config) (s : State) (t : ℕ) (g : GroupState) (asked : List (ℕ × Integration)) → length s.flushes ≤ config.limits.flushes
@@ -112,6 +120,11 @@ module _ (b : Inside) (sound : IsSound b) (now : BoardData) (view_is : seen b b.
   maintain_caused =
       subst (λ (d : BoardData). maintain_cause b.config (vec_len b.state.history) (state_of b.state) ≡ maintain_cause d.config (records_at d) (state_at d)) view_is
       (maintain_cause-agrees (state_of b.state) replayed sound.agrees b.config (vec_len b.state.history) ∙ ap (λ n. maintain_cause b.config n replayed) (kept_counted b sound))
+
+  pub forget_caused : forget_cause b.config (vec_len b.state.history) (state_of b.state) ≡ forget_cause now.config (records_at now) (state_at now)
+  forget_caused =
+      subst (λ (d : BoardData). forget_cause b.config (vec_len b.state.history) (state_of b.state) ≡ forget_cause d.config (records_at d) (state_at d)) view_is
+      (forget_cause-agrees (state_of b.state) replayed sound.agrees b.config (vec_len b.state.history) ∙ ap (λ n. forget_cause b.config n replayed) (kept_counted b sound))
 
   pub begin_caused : (at : ℕ) → begin_cause b.config (vec_len b.state.history) (state_of b.state) (moment (state_of b.state) at) ≡ begin_cause now.config (records_at now) (state_at now) (moment (state_at now) at)
   begin_caused at =

@@ -31,7 +31,7 @@ use Rattle.am_board.proofs.lemmas.invariant.Agreeing.{EqualUpToRowOrder-refl, Eq
 use Rattle.am_model.proofs.legal.Bounded.{IsBounded, bounded}
 use Rattle.am_model.proofs.legal.Consistent.{consistent_replay}
 use Rattle.am_model.proofs.legal.FewGroups.{IsInsert, few_others}
-use Rattle.am_model.proofs.legal.FewKnown.{IsSilence, known_others}
+use Rattle.am_model.proofs.legal.FewKnown.{IsSilence, IsForget, fewer_others}
 use Rattle.am_model.proofs.configuration.Faultless.{few_integrations, retention_within}
 use Rattle.am_model.proofs.legal.Histories.{replay_appends, legal_appends}
 
@@ -57,10 +57,10 @@ module _ (b : Inside) (sound : IsSound b) where
   -- a call other than an insert and a silence passes none of these limits
   pub few_after : (call : Call) → IsInsert call ≡ false → IsSilence call ≡ false → IsFew b.config (after_call b.config (state_of b.state) call)
   few_after call e f =
-      let known = known_others b.config (state_of b.state) call e f in (
-        omega (arith, ap (λ (xs : List AlertData). length xs) known.0, sound.names),
+      let known = fewer_others b.config (state_of b.state) call e f in (
+        omega (arith, known.0, sound.names),
         omega (arith, few_others b.config (state_of b.state) call e, sound.groups),
-        omega (arith, ap (λ (xs : List SilenceData). length xs) known.1, sound.silences),
+        omega (arith, known.1, sound.silences),
       )
 
   -- the state after the board's history
@@ -137,10 +137,11 @@ module _ (b : Inside) (sound : IsSound b) where
     fewer : IsFew b.config (after b.config (state_of b.state) r) → IsFew b.config (state_of new)
     fewer = subst (IsFew b.config) (sym accepts.state.rest)
 
-    -- the board is sound again, where no limit is passed
-    pub sound_then : IsFew b.config (after b.config (state_of b.state) r) → vec_len new.flushes ≤ b.config.limits.flushes → vec_len new.history + vec_len new.flushes ≤ b.config.limits.history
-        → IsSound (record b { state = new })
-    sound_then few opened kept =
+    -- the board is sound again, where no limit is passed, and what it learnt and keeps is of the alerts that are known then
+    pub sound_with : (sources : SourceIndex) (destinations : List (Option (List GroupName))) → AreLearnt b.config.rules new.known.items sources → AreKept b.config new.known.items destinations
+        → IsFew b.config (after b.config (state_of b.state) r) → vec_len new.flushes ≤ b.config.limits.flushes → vec_len new.history + vec_len new.flushes ≤ b.config.limits.history
+        → IsSound (record b { state = new; sources = sources; destinations = destinations })
+    sound_with sources destinations learnt named few opened kept =
         record {
           limits = sound.limits;
           configured = sound.configured;
@@ -157,9 +158,18 @@ module _ (b : Inside) (sound : IsSound b) where
           room = accepts.room;
           routed = accepts.routed;
           prepared = accepts.prepared;
-          sources = subst (λ (s : State). AreLearnt b.config.rules s.known b.sources) (sym accepts.state.rest) (learnt_after b.config (state_of b.state) r.call b.sources sound.sources);
-          destinations = subst (λ (s : State). AreKept b.config s.known b.destinations) (sym accepts.state.rest) (kept_after b.config (state_of b.state) r.call b.destinations sound.destinations);
+          sources = learnt;
+          destinations = named;
         }
+
+    -- so it is with what it learnt and keeps, unless it forgot alerts
+    pub sound_then : IsForget r.call ≡ false → IsFew b.config (after b.config (state_of b.state) r) → vec_len new.flushes ≤ b.config.limits.flushes → vec_len new.history + vec_len new.flushes ≤ b.config.limits.history
+        → IsSound (record b { state = new })
+    sound_then keeps few opened kept =
+        sound_with b.sources b.destinations
+        (subst (λ (s : State). AreLearnt b.config.rules s.known b.sources) (sym accepts.state.rest) (learnt_after b.config (state_of b.state) r.call b.sources keeps sound.sources))
+        (subst (λ (s : State). AreKept b.config s.known b.destinations) (sym accepts.state.rest) (kept_after b.config (state_of b.state) r.call b.destinations keeps sound.destinations))
+        few opened kept
 
   module _ (new : kept.State) (stays : LeavesUnchanged b.config b.state new) where
     same_whole : whole b ≡ whole_with b new

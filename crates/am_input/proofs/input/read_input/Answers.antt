@@ -1,19 +1,106 @@
-use Rattle.std.proofs.Common.{◌≡◌, ◌∙◌, Option, subst}
+use Rattle.std.proofs.Common.{◌≡◌, ◌∙◌, Option, Some, None, ap, codes, subst, sym}
 use Rattle.std.specs.Prelude.{IsSomeAnd}
-use Rattle.serde_json.specs.Data.{Members}
-use Rattle.serde_json.specs.Find.{as_object}
+use Rattle.serde_json.specs.Data.{Data, Members}
+use Rattle.serde_json.specs.Find.{as_object, get_member}
 use Rattle.serde_json.specs.View.{members_view, view}
 use Rattle.serde_json.specs.declared.value.Value.{Value}
+use Rattle.am_cli.proofs.Decoding.{unknown}
+use Rattle.am_cli.proofs.Once.{one_parts, one_there}
+use Rattle.am_cli.specs.Configured.{DecodesToConfig}
+use Rattle.am_cli.specs.Decoding.{Has, HasNone}
 use Rattle.am_cli.specs.declared.reader.Dialect.{Dialect}
 use Rattle.am_cli.specs.declared.reader.Dialect.TheVariants.{Strict}
-use Rattle.am_input.specs.Request.{Requests}
+use Rattle.am_input.proofs.Refusals.{one_on, passed_on}
+use Rattle.am_input.specs.Configured.{IsConfigFor, IsReadOfTheirs, TellsPlainly, file_in}
+use Rattle.am_input.specs.Request.{IsSimple, Requests}
+use Rattle.am_input.specs.declared.input.Changes.{Changes}
+use Rattle.am_input.specs.declared.input.Input.{Input}
+use Rattle.am_model.specs.declared.config.Config.{Config}
+use Rattle.am_plans.proofs.Decodings.{found_none, none_and, some_and}
 use Rattle.am_input.proofs.input.read_input.Goals as goal
 
-pub returns : goal.returns
-returns g c =
+-- what the members ask for that isn't refused
+abbrev Asks : Dialect → Changes → Input → Members → Type 0
+Asks d changes input members =
+    Requests d changes members input.output input.start input.expectations.items input.rehearsal × IsSimple d changes members input.rehearsal
+
+abbrev Tells : Changes → Data → Input → Type 0
+Tells changes value input = IsSomeAnd (as_object value) (Asks Strict changes input)
+
+pub returns-clause-told : goal.returns-clause-told
+returns-clause-told g c =
     let input = c.in_ok-read_planned.field-0 in
     let dialect : c.in_ok-top.top.dialect ≡ Strict = c.in_ok-top.ensures.dialect ∙ c.strict-reader.ensures.dialect in
-    let Asks = λ (d : Dialect) (members : Members). Requests d c.args.changes members input.output input.start input.expectations.items input.rehearsal in
-    subst (λ (v : Value). IsSomeAnd (as_object (view v)) (Asks Strict)) c.strict-reader.ensures.value
-    (subst (λ (o : Option Members). IsSomeAnd o (Asks Strict)) c.in_ok-top.ensures.members
-    (subst (λ (d : Dialect). Asks d (members_view c.in_ok-top.top.members)) dialect c.in_ok-read_planned.ensures))
+    let Says = λ (d : Dialect) (members : Members). Requests d c.args.changes members input.output input.start input.expectations.items input.rehearsal in
+    subst (λ (v : Value). IsSomeAnd (as_object (view v)) (Says Strict)) c.strict-reader.ensures.value
+    (subst (λ (o : Option Members). IsSomeAnd o (Says Strict)) c.in_ok-top.ensures.members
+    (subst (λ (d : Dialect). Says d (members_view c.in_ok-top.top.members)) dialect c.in_ok-read_planned.ensures.told))
+
+-- the configuration that is told stands in `config`
+plainly : (d : Dialect) (changes : Changes) (members : Members) (input : Input) → Asks d changes input members → TellsPlainly d members input.rehearsal.config
+plainly d changes members input told =
+    let told_of : IsConfigFor None d members input.rehearsal.config =
+    subst (λ (file : Option Data). IsConfigFor file d members input.rehearsal.config) told.1.own told.0.configures in (
+      found_none (Has (DecodesToConfig d) (codes "config") members input.rehearsal.config) (λ value. HasNone (codes "config") members × IsReadOfTheirs value input.rehearsal.config)
+          (get_member (codes "alertmanager") members) (sym told.1.ours) told_of,
+      told.1.config,
+    )
+
+-- and is the one that was read
+same_config : (d : Dialect) (changes : Changes) (members : Members) (input : Input) (config : Config) → Asks d changes input members
+    → IsConfigFor (file_in changes) d members config → input.rehearsal.config ≡ config
+same_config d changes members input config told read =
+    let read_of : IsConfigFor None d members config = subst (λ (file : Option Data). IsConfigFor file d members config) told.1.own read in
+    let has = found_none (Has (DecodesToConfig d) (codes "config") members config) (λ value. HasNone (codes "config") members × IsReadOfTheirs value config)
+    (get_member (codes "alertmanager") members) (sym told.1.ours) read_of in
+    one_there (DecodesToConfig d) (λ value c k is also. one_parts d value c k is.parts also.parts) (get_member (codes "config") members) input.rehearsal.config config
+    (plainly d changes members input told).0 has
+
+-- what is told of an object that was read
+inside : (d : Dialect) (changes : Changes) (members : Members) (value : Data) (input : Input) → Some members ≡ as_object value → d ≡ Strict
+    → Tells changes value input → Asks d changes input members
+inside d changes members value input is strict told =
+    subst (λ (e : Dialect). Asks e changes input members) (sym strict) (some_and (Asks Strict changes input) members (as_object value) is told)
+
+pub returns-in_err-top-clause-refused : goal.returns-in_err-top-clause-refused
+returns-in_err-top-clause-refused g c =
+    let value = view c.args.value.now in
+    one_on (Tells c.args.changes value) c.from_residual.result c.in_err-top.field-0.0 c.from_residual.ensures.1
+    (λ refusal x told. none_and (Asks Strict c.args.changes x) (as_object value)
+    (c.in_err-top.ensures.members ∙ ap (λ (v : Value). as_object (view v)) c.strict-reader.ensures.value) told)
+
+pub returns-in_err-only-clause-refused : goal.returns-in_err-only-clause-refused
+returns-in_err-only-clause-refused g c =
+    let value = view c.args.value.now in
+    let top = c.in_ok-top.top in
+    let members = members_view top.members in
+    let is : Some members ≡ as_object value = c.in_ok-top.ensures.members ∙ ap (λ (v : Value). as_object (view v)) c.strict-reader.ensures.value in
+    let strict : top.dialect ≡ Strict = c.in_ok-top.ensures.dialect ∙ c.strict-reader.ensures.dialect in
+    one_on (Tells c.args.changes value) c.from_residual-in_err-only.result c.in_err-only.field-0.0 c.from_residual-in_err-only.ensures.1
+    (λ refusal x told. unknown _ c.in_err-only.ensures.known (inside top.dialect c.args.changes members value x is strict told).1.known)
+
+pub returns-in_err-configured-clause-refused : goal.returns-in_err-configured-clause-refused
+returns-in_err-configured-clause-refused g c =
+    let value = view c.args.value.now in
+    let top = c.in_ok-top.top in
+    let members = members_view top.members in
+    let is : Some members ≡ as_object value = c.in_ok-top.ensures.members ∙ ap (λ (v : Value). as_object (view v)) c.strict-reader.ensures.value in
+    let strict : top.dialect ≡ Strict = c.in_ok-top.ensures.dialect ∙ c.strict-reader.ensures.dialect in
+    passed_on (TellsPlainly top.dialect members) (Tells c.args.changes value) (λ x. x.rehearsal.config) c.from_residual-in_err-configured.result c.in_err-configured.field-0.0
+    c.from_residual-in_err-configured.ensures.1
+    (λ x told.
+    let asks = inside top.dialect c.args.changes members value x is strict told in
+    (c.in_err-configured.ensures.refused asks.1.own asks.1.ours, plainly top.dialect c.args.changes members x asks))
+
+pub returns-in_err-read_planned-clause-refused : goal.returns-in_err-read_planned-clause-refused
+returns-in_err-read_planned-clause-refused g c =
+    let value = view c.args.value.now in
+    let top = c.in_ok-top.top in
+    let members = members_view top.members in
+    let is : Some members ≡ as_object value = c.in_ok-top.ensures.members ∙ ap (λ (v : Value). as_object (view v)) c.strict-reader.ensures.value in
+    let strict : top.dialect ≡ Strict = c.in_ok-top.ensures.dialect ∙ c.strict-reader.ensures.dialect in
+    one_on (Tells c.args.changes value) c.from_residual-in_err-read_planned.result c.in_err-read_planned.field-0.0 c.from_residual-in_err-read_planned.ensures.1
+    (λ refusal x told.
+    let asks = inside top.dialect c.args.changes members value x is strict told in
+    c.in_err-read_planned.ensures.refused (c.in_ok-configured.ensures.timed asks.1.own asks.1.ours) refusal x
+    (asks.0, same_config top.dialect c.args.changes members x c.in_ok-configured.configured.config asks c.in_ok-configured.ensures.told, asks.1))

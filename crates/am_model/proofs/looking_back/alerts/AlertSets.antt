@@ -1,6 +1,6 @@
 -- What a begin lists is what looking back finds: the alerts that fire and those that are resolved, from the history alone.
 use Rattle.std.proofs.Common.{◌≡◌, ℕ, Bool, true, false, cond, not, ◌&&◌, ◌||◌, Option, Some, None, List, [], ◌∷◌, map, refl, sym, ap, ◌∙◌, subst}
-use Rattle.std.specs.Prelude.{IsPermutation, filter, count_by, is_some}
+use Rattle.std.specs.Prelude.{IsPermutation, filter, count_by, is_some, nat_le, nat_lt}
 use Rattle.std.specs.List.{AllByRecursion, IsDistinct, list_any, filter_map, cons_option}
 use Rattle.std.proofs.lemmas.List.Sorted.{IsPermutation-map, IsPermutation-refl}
 use Rattle.std.proofs.lemmas.Map.Keys.{IsDistinct-head, IsDistinct-tail, IsDistinct-cons}
@@ -8,14 +8,14 @@ use Rattle.am_alerts.specs.AlertData.{AlertData, is_resolved}
 use Rattle.am_alerts.specs.Labels.{same_label_set}
 use Rattle.am_alerts.specs.LabelOrder.{same_label_set_equiv, same_label_set-decides}
 use Rattle.am_alerts.specs.declared.labels.Label.{Label}
-use Rattle.am_mute.specs.Inhibit.{RuleData, is_inhibited_by}
+use Rattle.am_mute.specs.Inhibit.{RuleData, agrees_on, matches_both, is_inhibited_by}
 use Rattle.am_mute.specs.Mute.{is_muted}
-use Rattle.am_mute.specs.Silence.{SilenceData, silence_mutes}
+use Rattle.am_mute.specs.Silence.{SilenceData, silence_mutes, is_over}
 use Rattle.am_alerts.specs.Matcher.{match_all}
 use Rattle.am_model.specs.declared.config.Config.{Config}
 use Rattle.am_model.specs.declared.group.GroupName.{GroupName}
 use Rattle.am_model.specs.declared.record.Call.{Call}
-use Rattle.am_model.specs.declared.record.Call.TheVariants.{Insert, Silence, Begin, Finish, Maintain, Note}
+use Rattle.am_model.specs.declared.record.Call.TheVariants.{Insert, Silence, Begin, Finish, Maintain, Forget, Note}
 use Rattle.am_model.specs.declared.record.Record.{Record}
 use Rattle.am_model.specs.Begin.{alert_cmp, copied, label_sets, firing_of, resolved_of, copy_under, copy_of, count_resolved}
 use Rattle.am_model.specs.Configured.{rules_of, route_muted}
@@ -31,8 +31,8 @@ use Rattle.am_model.proofs.states.InOrder.{in_order-alerts, labels-copied, IsDis
 use Rattle.am_model.proofs.looking_back.Pasts.{last_insert-labels}
 use Rattle.am_model.proofs.looking_back.PastWords.{has_labels}
 use Rattle.am_model.proofs.looking_back.alerts.SameAlerts.{same-members}
-use Rattle.am_model.proofs.lists.Sets.{any-filter, any-alike, any-and, any-filter_map, latest-distinct, passes}
-use Rattle.std.proofs.lemmas.Bool.{and_right}
+use Rattle.am_model.proofs.lists.Sets.{IsBlindTo, any-filter, any-alike, any-and, any-filter_map, latest-distinct, passes}
+use Rattle.std.proofs.lemmas.Bool.{and_right, le-ltb, leb-true}
 
 -- ---- the known alerts of a past
 
@@ -70,6 +70,7 @@ known-inserted labels (r ∷ past) = by (stamp_told r.reply) r.call (known-inser
     by stamp (Begin now) rest = rest
     by stamp (Finish now number outcomes) rest = rest
     by stamp (Maintain now) rest = rest
+    by stamp (Forget now) rest = rest
     by stamp (Note now number integration outcome) rest = rest
 
 -- ---- what is present
@@ -244,13 +245,24 @@ unless-permutation (Some until) xs ys h = IsPermutation-refl []
 
 -- ---- what a begin lists
 
-module _ (config : Config) (s : State) (past : List Record)
-    (known : (test : AlertData → Bool) → list_any test s.known ≡ list_any test (known_in past))
-    (silences : (test : SilenceData → Bool) → list_any test s.silences ≡ list_any test (silences_in past)) where
-  muted-found : (labels : List Label) (t : ℕ) → is_muted labels t s.silences (rules_of config) s.known ≡ is_muted labels t (silences_in past) (rules_of config) (known_in past)
-  muted-found labels t = (λ j. silences (λ x. silence_mutes x t labels) j || list_any (λ (r : RuleData). match_all r.target labels && known (λ a. is_inhibited_by r t labels a) j) (rules_of config))
+-- what is resolved, or over, mutes nothing
+pub blind-inhibited : (r : RuleData) (t : ℕ) (labels : List Label) → IsBlindTo (λ a. is_resolved a t) (is_inhibited_by r t labels)
+blind-inhibited r t labels a e =
+    ap (λ b. not b && match_all r.source a.labels && agrees_on r.equal labels a.labels && not (matches_both r labels && matches_both r a.labels)) e
 
-  module _ (t : ℕ) (g : GroupState) (apart : IsDistinct same_member g.members) (there : (labels : List Label) → member_with labels g.members ≡ presence config g.name labels past) where
+pub blind-silenced : (t : ℕ) (labels : List Label) → IsBlindTo (is_over t) (λ x. silence_mutes x t labels)
+blind-silenced t labels x e =
+    ap (λ b. b && match_all x.matchers labels) (and_right (nat_le x.start t) (nat_lt t x.end) (le-ltb t x.end (leb-true x.end t e)))
+
+module _ (config : Config) (s : State) (past : List Record) (t : ℕ)
+    (known : (test : AlertData → Bool) → IsBlindTo (λ a. is_resolved a t) test → list_any test s.known ≡ list_any test (known_in past))
+    (silences : (test : SilenceData → Bool) → IsBlindTo (is_over t) test → list_any test s.silences ≡ list_any test (silences_in past)) where
+  muted-found : (labels : List Label) → is_muted labels t s.silences (rules_of config) s.known ≡ is_muted labels t (silences_in past) (rules_of config) (known_in past)
+  muted-found labels =
+      (λ j. silences (λ x. silence_mutes x t labels) (blind-silenced t labels) j
+      || list_any (λ (r : RuleData). match_all r.target labels && known (λ a. is_inhibited_by r t labels a) (blind-inhibited r t labels) j) (rules_of config))
+
+  module _ (g : GroupState) (apart : IsDistinct same_member g.members) (there : (labels : List Label) → member_with labels g.members ≡ presence config g.name labels past) where
     moved : IsPermutation g.members (present_in config g.name past)
     moved = members-present config g.name past g.members apart there
 
@@ -276,13 +288,13 @@ module _ (config : Config) (s : State) (past : List Record)
     pub firing-same : firing_of config s t g ≡ firing_alerts_in config g.name t past
     firing-same =
         in_order-alerts (unresolved t (copy_of config s t g)) (unresolved t (unless shut copy_then)) (without-permutation (λ a. is_resolved a t) (copy_of config s t g) (unless shut copy_then) copy-moved) (IsDistinct-firing config s t g apart)
-        ∙ (λ j. in_order alert_cmp (unresolved t (unless shut (without (λ a. muted-found a.labels t j) (map (λ m. copied t m.alert) (present_in config g.name past))))))
+        ∙ (λ j. in_order alert_cmp (unresolved t (unless shut (without (λ a. muted-found a.labels j) (map (λ m. copied t m.alert) (present_in config g.name past))))))
         ∙ ap (in_order alert_cmp) (unless-firing t shut _ _ (copied-firing t hushed_then (present_in config g.name past)))
 
     pub resolved-same : resolved_of config s t g ≡ resolved_alerts_in config g.name t past
     resolved-same =
         in_order-alerts (resolved t (copy_of config s t g)) (resolved t (unless shut copy_then)) (filter-permutation (λ a. is_resolved a t) (copy_of config s t g) (unless shut copy_then) copy-moved) (IsDistinct-resolved config s t g apart)
-        ∙ (λ j. in_order alert_cmp (resolved t (unless shut (without (λ a. muted-found a.labels t j) (map (λ m. copied t m.alert) (present_in config g.name past))))))
+        ∙ (λ j. in_order alert_cmp (resolved t (unless shut (without (λ a. muted-found a.labels j) (map (λ m. copied t m.alert) (present_in config g.name past))))))
         ∙ ap (in_order alert_cmp) (unless-resolved t shut _ _ (copied-resolved t hushed_then (present_in config g.name past)))
 
     -- and their label sets

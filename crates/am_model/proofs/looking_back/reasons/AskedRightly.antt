@@ -1,5 +1,5 @@
 -- A begin asks exactly the integrations that looking back says, and tells what looking back finds.
-use Rattle.std.proofs.Common.{◌≡◌, ℕ, Bool, true, false, ◌&&◌, ◌||◌, Some, List, [], ◌∷◌, map, refl, sym, ap, ◌∙◌, subst, if◌then◌else◌}
+use Rattle.std.proofs.Common.{◌≡◌, ℕ, ◌≤◌, Bool, true, false, ◌&&◌, ◌||◌, Some, List, [], ◌∷◌, map, refl, sym, ap, ◌∙◌, subst, arith, if◌then◌else◌}
 use Rattle.std.specs.Prelude.{All, filter, find, ◌==◌}
 use Rattle.std.specs.Cmp.{IsEquivalence}
 use Rattle.std.specs.List.{AllByRecursion, IsDistinct}
@@ -49,7 +49,11 @@ module _ (config : Config) (id : ℕ) (s : State) (past : List Record) (pass : �
   abbrev TellsThere : Call → State → Reply → Type 0
   TellsThere c new p = IsToldRightly config (moment_at (entry pass c p ∷ past)) past p
 
-  module _ (t : ℕ) (g : GroupState) (is : taken s t ≡ Some g) where
+  -- no call is before the clock
+  later : (now : ℕ) → s.clock ≤ moment s now
+  later now = omega arith
+
+  module _ (t : ℕ) (come : s.clock ≤ t) (g : GroupState) (is : taken s t ≡ Some g) where
     own : IsTaken s g
     own = taken-is s t g steady.groups is
 
@@ -62,8 +66,8 @@ module _ (config : Config) (id : ℕ) (s : State) (past : List Record) (pass : �
     -- those that are asked are those that are to be asked
     asked-found : map (λ i. i.0) (asked_of config s t g) ≡ asked_after config g.name t past
     asked-found =
-        let firing = firing-found config s past l.known l.silences t g apart there in
-        let resolved = resolved-found config s past l.known l.silences t g apart there in
+        let firing = firing-found config s past t (l.known t come) (l.silences t come) g apart there in
+        let resolved = resolved-found config s past t (l.known t come) (l.silences t come) g apart there in
         (λ j. map (λ (i : ℕ × Integration). i.0) (if is_empty (firing j) && is_empty (resolved j) then []
         else filter (λ (i : ℕ × Integration). needed same_label_set (option_map log_row (l.rows g.name i.0 j)) (firing j) (resolved j) i.1.send_resolved (route_of config g.name).repeat_interval t) (integrations_of config g.name)))
         ∙ by (is_empty (firing_in config g.name t past) && is_empty (resolved_in config g.name t past))
@@ -76,8 +80,8 @@ module _ (config : Config) (id : ℕ) (s : State) (past : List Record) (pass : �
     -- the reasons by the state are those that looking back finds
     pub reasons-found : (is : List (ℕ × Integration)) → map (reason_of config s t g) is ≡ map (reason_in config g.name t past) is
     reasons-found is =
-        let firing = firing-found config s past l.known l.silences t g apart there in
-        let resolved = resolved-found config s past l.known l.silences t g apart there in
+        let firing = firing-found config s past t (l.known t come) (l.silences t come) g apart there in
+        let resolved = resolved-found config s past t (l.known t come) (l.silences t come) g apart there in
         λ j. map (λ (i : ℕ × Integration). reason_where (route_muted config g.name t) (reason_told (l.rows g.name i.0 j) (firing j) (resolved j) i.1.send_resolved (route_of config g.name).repeat_interval t)) is
 
     -- and their notices list what is found
@@ -87,9 +91,9 @@ module _ (config : Config) (id : ℕ) (s : State) (past : List Record) (pass : �
           ticket = refl;
           group = refl;
           deadline = refl;
-          firing = firing-same config s past l.known l.silences t g apart there;
+          firing = firing-same config s past t (l.known t come) (l.silences t come) g apart there;
           resolved =
-              ap (λ xs. if i.1.send_resolved then xs else []) (resolved-same config s past l.known l.silences t g apart there)
+              ap (λ xs. if i.1.send_resolved then xs else []) (resolved-same config s past t (l.known t come) (l.silences t come) g apart there)
               ∙ ap (λ b. if b then resolved_alerts_in config g.name t past else []) (sym wants);
         }
 
@@ -140,11 +144,11 @@ module _ (config : Config) (id : ℕ) (s : State) (past : List Record) (pass : �
   telling now g is [] are new =
       let p = reply_asking config id s (moment s now) g [] in
       subst (λ t. IsToldRightly config t past p) (clock-step config s past k now (entry pass (Begin now) p) refl)
-      (count-same config s past l.known l.silences (moment s now) g (apart (moment s now) g is) (there (moment s now) g is))
+      (count-same config s past (moment s now) (l.known (moment s now) (later now)) (l.silences (moment s now) (later now)) g (apart (moment s now) (later now) g is) (there (moment s now) (later now) g is))
   telling now g is (i ∷ more) are new =
       let p = reply_asking config id s (moment s now) g (i ∷ more) in
       subst (λ t. IsToldRightly config t past p) (clock-step config s past k now (entry pass (Begin now) p) refl)
-      (record { asks = refl; deadline = refl; listed = notices-found (moment s now) g is (i ∷ more) are })
+      (record { asks = refl; deadline = refl; listed = notices-found (moment s now) (later now) g is (i ∷ more) are })
 
   asks_each : HoldsOfEach config id s Asks
   asks_each =
@@ -153,9 +157,10 @@ module _ (config : Config) (id : ℕ) (s : State) (past : List Record) (pass : �
         silence = λ now number matchers start end name e. absurd (false≢true e);
         nothing = λ now none name e. absurd (false≢true e);
         begin = λ now g is asked are.
-            asking now g asked (after_asking config s (moment s now) g asked) (ap (map (λ i. i.0)) (sym are) ∙ asked-found (moment s now) g is);
+            asking now g asked (after_asking config s (moment s now) g asked) (ap (map (λ i. i.0)) (sym are) ∙ asked-found (moment s now) (later now) g is);
         finish = λ now number outcomes f is name e. absurd (false≢true e);
         maintain = λ now name e. absurd (false≢true e);
+        forget = λ now name e. absurd (false≢true e);
         note = λ now number i outcome f is may name e. absurd (false≢true e);
       }
 
@@ -168,6 +173,7 @@ module _ (config : Config) (id : ℕ) (s : State) (past : List Record) (pass : �
         begin = λ now g is asked are. telling now g is asked are (after_asking config s (moment s now) g asked);
         finish = λ now number outcomes f is. tt;
         maintain = λ now. tt;
+        forget = λ now. tt;
         note = λ now number i outcome f is may. tt;
       }
 

@@ -1,5 +1,5 @@
 -- What a begin is to do, by the state, is what looking back finds.
-use Rattle.std.proofs.Common.{◌≡◌, ℕ, Option, Some, None, List, refl, sym, ap, subst}
+use Rattle.std.proofs.Common.{◌≡◌, ℕ, ◌≤◌, Option, Some, None, List, refl, sym, ap, subst, arith}
 use Rattle.std.specs.Option.{option_map}
 use Rattle.am_model.specs.declared.config.Config.{Config}
 use Rattle.am_model.specs.declared.record.Record.{Record}
@@ -15,7 +15,7 @@ use Rattle.am_model.proofs.looking_back.alerts.FoundAlerts.{steady_past, finds_p
 use Rattle.am_model.proofs.looking_back.rows.FoundRows.{tells_past}
 use Rattle.am_model.proofs.looking_back.Pasts.{state_after, IsLegalPast, legal_past, replay_is_past}
 
-module _ (config : Config) (id : ℕ) (past : List Record) (legal : IsLegalPast config id past) (t : ℕ) where
+module _ (config : Config) (id : ℕ) (past : List Record) (legal : IsLegalPast config id past) (t : ℕ) (later : (state_after config past).clock ≤ t) where
   abbrev state : State
   state = state_after config past
 
@@ -24,7 +24,7 @@ module _ (config : Config) (id : ℕ) (past : List Record) (legal : IsLegalPast 
   by-group None is = refl
   by-group (Some g) is =
       ap (λ reasons. Some (record { moment = t; group = g.name; muted = muted_of config state t g; reasons = reasons }))
-      (reasons-found config id state past 0 (steady_past config past) (finds_past config id past legal) (tells_past config id past legal) t g is (integrations_of config g.name))
+      (reasons-found config id state past 0 (steady_past config past) (finds_past config id past legal) (tells_past config id past legal) t later g is (integrations_of config g.name))
 
 -- after each legal history
 pub preview-found : PreviewsAreFound
@@ -32,4 +32,4 @@ preview-found config id history now legal =
     let s = replay config history in
     let is = replay_is_past config history in
     subst (λ (x : State). preview_at config x (moment x now) ≡ preview_by config x (moment x now) (λ g. reason_in config g.name (moment x now) (past_of history))) (sym is)
-    (by-group config id (past_of history) (legal_past config id history legal) (moment (state_after config (past_of history)) now) (taken (state_after config (past_of history)) (moment (state_after config (past_of history)) now)) refl)
+    (by-group config id (past_of history) (legal_past config id history legal) (moment (state_after config (past_of history)) now) (omega arith) (taken (state_after config (past_of history)) (moment (state_after config (past_of history)) now)) refl)

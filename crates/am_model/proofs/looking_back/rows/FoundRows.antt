@@ -19,7 +19,7 @@ use Rattle.am_model.proofs.legal.EachCall.{HoldsOfEach, each_call}
 use Rattle.am_model.proofs.looking_back.alerts.FoundAlerts.{steady_past, finds_past}
 use Rattle.am_model.proofs.looking_back.flushes.Opened.{Finds}
 use Rattle.am_model.proofs.looking_back.Pasts.{state_after, IsLegalPast, legal_past, replay_is_past}
-use Rattle.am_model.proofs.looking_back.rows.RowSteps.{Tells, tells-insert, tells-silence, tells-begin, tells-flush, tells-finish, tells-maintain, tells-note}
+use Rattle.am_model.proofs.looking_back.rows.RowSteps.{Tells, tells-insert, tells-silence, tells-begin, tells-flush, tells-finish, tells-maintain, tells-forget, tells-note}
 
 module _ (config : Config) (id : ℕ) (s : State) (past : List Record) (pass : ℕ) (steady : IsSteady s) (k : Finds config s past) (l : Tells config s past) where
   -- what is told after a call that leads to a state and was told a reply
@@ -27,7 +27,7 @@ module _ (config : Config) (id : ℕ) (s : State) (past : List Record) (pass : �
   After c new p = Tells config new (entry pass c p ∷ past)
 
   asking : (now : ℕ) (g : GroupState) → IsTaken s g → (asked : List (ℕ × Integration)) → After (Begin now) (after_asking config s (moment s now) g asked) (reply_asking config id s (moment s now) g asked)
-  asking now g is [] = tells-begin config s past k l (after_asking config s (moment s now) g []) pass now (reply_is.Quiet g.name (count_resolved (moment s now) g)) refl refl refl refl (λ n. refl)
+  asking now g is [] = tells-begin config s past k l (after_asking config s (moment s now) g []) pass now (reply_is.Quiet g.name (count_resolved (moment s now) g)) refl refl refl refl refl (λ n. refl)
   asking now g is (i ∷ more) = tells-flush config s past k l id pass now g (i ∷ more) steady is
 
   each : HoldsOfEach config id s After
@@ -35,10 +35,11 @@ module _ (config : Config) (id : ℕ) (s : State) (past : List Record) (pass : �
       record {
         insert = λ now a. tells-insert config s past k l pass now a steady;
         silence = λ now number matchers start end. tells-silence config s past k l pass now number matchers start end steady;
-        nothing = λ now none. tells-begin config s past k l (at_moment s (moment s now)) pass now reply_is.NothingDue refl refl refl refl (λ n. refl);
+        nothing = λ now none. tells-begin config s past k l (at_moment s (moment s now)) pass now reply_is.NothingDue refl refl refl refl refl (λ n. refl);
         begin = λ now g is asked are. asking now g (taken-is s (moment s now) g steady.groups is) asked;
         finish = λ now number outcomes f is. tells-finish config s past k l pass now number outcomes f is;
         maintain = λ now. tells-maintain config s past k l pass now steady;
+        forget = λ now. tells-forget config s past k l pass now;
         note = λ now number integration outcome f is may. tells-note config s past k l pass now number integration outcome f is;
       }
 
@@ -46,7 +47,7 @@ module _ (config : Config) (id : ℕ) (s : State) (past : List Record) (pass : �
 
 pub tells_past : (config : Config) (id : ℕ) (past : List Record) → IsLegalPast config id past → Tells config (state_after config past) past
 tells_past config id [] legal =
-    record { rows = λ name i. refl; known = λ test. refl; silences = λ test. refl; told = tt }
+    record { rows = λ name i. refl; known = λ t come test blind. refl; silences = λ t come test blind. refl; told = tt }
 tells_past config id (r ∷ past) legal =
     let s = state_after config past in
     let after = each config id s past r.pass (steady_past config past) (finds_past config id past legal.1) (tells_past config id past legal.1) in

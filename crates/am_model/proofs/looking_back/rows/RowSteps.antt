@@ -1,14 +1,14 @@
 -- What looking back finds in the log stays what a state has, call by call.
-use Rattle.std.proofs.Common.{◌≡◌, ℕ, ◌+◌, Bool, true, false, cond, not, ◌&&◌, ◌||◌, Option, Some, None, List, [], ◌∷◌, ◌++◌, map, refl, sym, ap, ◌∙◌, subst, arith}
+use Rattle.std.proofs.Common.{◌≡◌, ℕ, ◌+◌, ◌≤◌, Bool, true, false, cond, not, ◌&&◌, ◌||◌, Option, Some, None, List, [], ◌∷◌, ◌++◌, map, refl, sym, ap, ◌∙◌, subst, arith}
 use Rattle.std.specs.Prelude.{find, fold, ◌==◌}
 use Rattle.std.specs.Option.{option_or}
 use Rattle.std.specs.Cmp.{IsEquivalence}
 use Rattle.std.specs.List.{AllByRecursion, IsDistinct, list_any}
-use Rattle.std.proofs.lemmas.Bool.{ne_eqb, eqb-true, and_right}
+use Rattle.std.proofs.lemmas.Bool.{ne_eqb, eqb-true, and_right, and_parts, le-leb, leb-true}
 use Rattle.std.proofs.lemmas.Cmp.{nat_eq_equiv}
-use Rattle.am_alerts.specs.AlertData.{AlertData}
+use Rattle.am_alerts.specs.AlertData.{AlertData, has_come, is_resolved}
 use Rattle.am_alerts.specs.declared.labels.Label.{Label}
-use Rattle.am_mute.specs.Silence.{SilenceData, silence_of}
+use Rattle.am_mute.specs.Silence.{SilenceData, silence_of, is_over}
 use Rattle.am_alerts.specs.declared.matcher.MatcherParts.{MatcherParts}
 use Rattle.am_retry.specs.declared.outcome.Outcome.{Outcome}
 use Rattle.am_model.specs.declared.config.Config.{Config}
@@ -24,6 +24,7 @@ use Rattle.am_model.specs.Configured.{expiry_at}
 use Rattle.am_model.specs.Notice.{NoticeData}
 use Rattle.am_model.specs.look_back.Entry.{latest_first, known_in, silences_in, firing_in, resolved_in, row_of_begin, begins_group, asked_and_succeeded, logs, unless_expired, entry_in}
 use Rattle.am_model.specs.Finish.{same_key, row_at, log_with, has_succeeded, logged_by, finished, after_finish}
+use Rattle.am_model.specs.Forget.{is_grouped, is_idle, forgotten, after_forget}
 use Rattle.am_model.specs.Records.{entry}
 use Rattle.am_model.specs.Insert.{same_alert, same_member, inserted, after_insert}
 use Rattle.am_model.specs.look_back.Laws.{member_with}
@@ -38,7 +39,7 @@ use Rattle.am_model.proofs.legal.ConsistentState.{IsOpen, IsSteady}
 use Rattle.am_model.proofs.looking_back.alerts.FoundSteps.{clock-step}
 use Rattle.am_model.proofs.looking_back.flushes.Opened.{notices_at, asked_as, IsOpened, Finds, members-tidy}
 use Rattle.am_model.proofs.looking_back.PastWords.{unless, find-put, find-without}
-use Rattle.am_model.proofs.lists.Sets.{any-filter, any-alike, any-and, any-put, any-map}
+use Rattle.am_model.proofs.lists.Sets.{IsBlindTo, any-blind, any-filter, any-alike, any-and, any-put, any-map}
 use Rattle.am_model.proofs.looking_back.alerts.AlertSets.{firing-found, resolved-found}
 use Rattle.am_model.proofs.states.Alike.{same_alert_equiv, same_key_equiv, same_silence_equiv}
 
@@ -47,11 +48,12 @@ pub record IsToldBy (config : Config) (past : List Record) (f : FlushState) : Ty
   pub row : (t integration : ℕ) → row_of_begin config t integration (begin_of f.number past) ≡ Some (row_at config t f integration)
   pub group : (name : GroupName) → begins_group name (begin_of f.number past) ≡ same_name name f.group
 
--- what looking back finds in the log, of the known alerts and of the silences, is what a state has
+-- what looking back finds in the log is what a state has, and so is what it finds of the known alerts and of the silences, but for those
+-- that are resolved or over, which a state may have forgotten
 pub record Tells (config : Config) (s : State) (past : List Record) : Type 0 where
   pub rows : (name : GroupName) (integration : ℕ) → find (is_entry_of name integration) s.rows ≡ entry_in config name integration past
-  pub known : (test : AlertData → Bool) → list_any test s.known ≡ list_any test (known_in past)
-  pub silences : (test : SilenceData → Bool) → list_any test s.silences ≡ list_any test (silences_in past)
+  pub known : (t : ℕ) → s.clock ≤ t → (test : AlertData → Bool) → IsBlindTo (λ a. is_resolved a t) test → list_any test s.known ≡ list_any test (known_in past)
+  pub silences : (t : ℕ) → s.clock ≤ t → (test : SilenceData → Bool) → IsBlindTo (is_over t) test → list_any test s.silences ≡ list_any test (silences_in past)
   pub told : AllByRecursion (IsToldBy config past) s.flushes
 
 -- a record that isn't the flush's begin
@@ -63,11 +65,25 @@ told-step config r past f other o =
     }
 
 -- after the latest comes first
-latest-any : {X : Type 0} (like : X → X → Bool) → IsEquivalence like → (x : X) (xs ys : List X) → IsDistinct like xs → ((test : X → Bool) → list_any test xs ≡ list_any test ys) → (test : X → Bool)
-    → list_any test (upsert like x xs) ≡ list_any test (latest_first like (Some x) ys)
-latest-any like laws x xs ys h same test =
+latest-any : {X : Type 0} (like : X → X → Bool) → IsEquivalence like → (x : X) (xs ys : List X) → IsDistinct like xs → (gone : X → Bool) → ((test : X → Bool) → IsBlindTo gone test → list_any test xs ≡ list_any test ys)
+    → (test : X → Bool) → IsBlindTo gone test → list_any test (upsert like x xs) ≡ list_any test (latest_first like (Some x) ys)
+latest-any like laws x xs ys h gone same test blind =
     any-put like laws test x xs h
-    ∙ ap (λ b. test x || b) (any-filter test (λ y. not (like x y)) xs ∙ same (λ y. not (like x y) && test y) ∙ sym (any-filter test (λ y. not (like x y)) ys))
+    ∙ ap (λ b. test x || b) (any-filter test (λ y. not (like x y)) xs ∙ same (λ y. not (like x y) && test y) also ∙ sym (any-filter test (λ y. not (like x y)) ys))
+  where
+    also : IsBlindTo gone (λ y. not (like x y) && test y)
+    also y e = and_right (not (like x y)) (test y) (blind y e)
+
+-- what is resolved stays so, and what is over
+pub still-resolved : (a : AlertData) (t u : ℕ) → t ≤ u → is_resolved a t ≡ true → is_resolved a u ≡ true
+still-resolved a t u later e = by a.ends e
+  where
+    by : (o : Option ℕ) → has_come o t ≡ true → has_come o u ≡ true
+    by None e = e
+    by (Some end) e = let come = leb-true end t e in le-leb end u (omega (arith, come, later))
+
+pub still-over : (x : SilenceData) (t u : ℕ) → t ≤ u → is_over t x ≡ true → is_over u x ≡ true
+still-over x t u later e = let come = leb-true x.end t e in le-leb x.end u (omega (arith, come, later))
 
 -- ---- what is logged
 
@@ -156,13 +172,17 @@ module _ (config : Config) (s : State) (past : List Record) (k : Finds config s 
       by true = refl
       by false = refl
 
+  -- no call is before the clock
+  earlier : (now t : ℕ) → moment s now ≤ t → s.clock ≤ t
+  earlier now t come = omega (arith, come)
+
   pub tells-insert : (pass now : ℕ) (a : AlertData) → IsSteady s → Tells config (after_insert config s (moment s now) a) (entry pass (call.Insert now a) (reply_is.Inserted (inserted config s a)) ∷ past)
   tells-insert pass now a steady =
       let r = entry pass (call.Insert now a) (reply_is.Inserted (inserted config s a)) in
       record {
         rows = l.rows;
-        known = latest-any same_alert same_alert_equiv a s.known (known_in past) steady.known l.known;
-        silences = l.silences;
+        known = λ t come. latest-any same_alert same_alert_equiv a s.known (known_in past) steady.known (λ b. is_resolved b t) (l.known t (earlier now t come));
+        silences = λ t come. l.silences t (earlier now t come);
         told = all-weaker (IsToldBy config past) (IsToldBy config (r ∷ past)) (λ f o. told-step config r past f refl o) s.flushes l.told;
       }
 
@@ -173,20 +193,20 @@ module _ (config : Config) (s : State) (past : List Record) (k : Finds config s 
       let r = entry pass (call.Silence now id matchers start end) (reply_is.Silenced (silenced s x)) in
       record {
         rows = l.rows;
-        known = l.known;
-        silences = latest-any same_silence same_silence_equiv x s.silences (silences_in past) steady.silences l.silences;
+        known = λ t come. l.known t (earlier now t come);
+        silences = λ t come. latest-any same_silence same_silence_equiv x s.silences (silences_in past) steady.silences (is_over t) (l.silences t (earlier now t come));
         told = all-weaker (IsToldBy config past) (IsToldBy config (r ∷ past)) (λ f o. told-step config r past f refl o) s.flushes l.told;
       }
 
   -- a begin that opens no flush
-  pub tells-begin : (s' : State) (pass now : ℕ) (p : Reply) → s'.rows ≡ s.rows → s'.known ≡ s.known → s'.silences ≡ s.silences → s'.flushes ≡ s.flushes → ((number : ℕ) → is_flush number p ≡ false)
+  pub tells-begin : (s' : State) (pass now : ℕ) (p : Reply) → s'.clock ≡ moment s now → s'.rows ≡ s.rows → s'.known ≡ s.known → s'.silences ≡ s.silences → s'.flushes ≡ s.flushes → ((number : ℕ) → is_flush number p ≡ false)
       → Tells config s' (entry pass (call.Begin now) p ∷ past)
-  tells-begin s' pass now p rows known silences flushes other =
+  tells-begin s' pass now p clock rows known silences flushes other =
       let r = entry pass (call.Begin now) p in
       record {
         rows = λ name i. ap (find (is_entry_of name i)) rows ∙ l.rows name i;
-        known = λ test. ap (list_any test) known ∙ l.known test;
-        silences = λ test. ap (list_any test) silences ∙ l.silences test;
+        known = λ t come test blind. ap (list_any test) known ∙ l.known t (earlier now t (omega (arith, clock, come))) test blind;
+        silences = λ t come test blind. ap (list_any test) silences ∙ l.silences t (earlier now t (omega (arith, clock, come))) test blind;
         told = subst (AllByRecursion (IsToldBy config (r ∷ past))) (sym flushes) (all-weaker (IsToldBy config past) (IsToldBy config (r ∷ past)) (λ f o. told-step config r past f (other f.number) o) s.flushes l.told);
       }
 
@@ -203,13 +223,13 @@ module _ (config : Config) (s : State) (past : List Record) (k : Finds config s 
       let next = s.next_number in
       let apart = subst (IsDistinct same_member) taken.own (members-tidy s.inserts g.name s.groups steady.tidy).members in
       let there = λ (labels : List Label). ap (member_with labels) (sym taken.own) ∙ k.found g.name labels in
-      let firing = firing-found config s past l.known l.silences t g apart there in
-      let resolved = resolved-found config s past l.known l.silences t g apart there in
+      let firing = firing-found config s past t (l.known t (omega arith)) (l.silences t (omega arith)) g apart there in
+      let resolved = resolved-found config s past t (l.known t (omega arith)) (l.silences t (omega arith)) g apart there in
       let at : t ≡ moment_at (r ∷ past) = clock-step config s past k now r refl in
       record {
         rows = l.rows;
-        known = l.known;
-        silences = l.silences;
+        known = λ u come. l.known u (earlier now u come);
+        silences = λ u come. l.silences u (earlier now u come);
         told =
             all-push (IsToldBy config (r ∷ past)) s.flushes (flush_asking config s t g asked)
             (all-both (IsToldBy config past) (IsOpen next s.groups) (IsToldBy config (r ∷ past))
@@ -242,8 +262,8 @@ module _ (config : Config) (s : State) (past : List Record) (k : Finds config s 
             ∙ ap (λ n. begins_group name (begin_of n past) && (asked_and_succeeded n outcomes past i (begin_of n past) && not (was_noted n i past))) same)
             (ap (λ u. row_of_begin config u i (begin_of number past)) (sym at) ∙ ap (λ n. row_of_begin config t i (begin_of n past)) (sym same) ∙ told.row t i)
             (l.rows name i);
-        known = l.known;
-        silences = l.silences;
+        known = λ u come. l.known u (earlier now u come);
+        silences = λ u come. l.silences u (earlier now u come);
         told =
             all-filter (IsToldBy config (r ∷ past)) (λ h. not (h.number == f.number)) s.flushes
             (all-weaker (IsToldBy config past) (IsToldBy config (r ∷ past)) (λ h o. told-step config r past h refl o) s.flushes l.told);
@@ -260,14 +280,28 @@ module _ (config : Config) (s : State) (past : List Record) (k : Finds config s 
             ∙ ap (λ u. unless (has_expired u) (find (is_entry_of name i) s.rows)) at
             ∙ ap (unless (has_expired (moment_at (r ∷ past)))) (l.rows name i)
             ∙ by (moment_at (r ∷ past)) (entry_in config name i past);
-        known = l.known;
-        silences = l.silences;
+        known = λ u come. l.known u (earlier now u come);
+        silences = λ u come. l.silences u (earlier now u come);
         told = all-weaker (IsToldBy config past) (IsToldBy config (r ∷ past)) (λ f o. told-step config r past f refl o) s.flushes l.told;
       }
     where
       by : (u : ℕ) (o : Option RowView) → unless (has_expired u) o ≡ unless_expired u o
       by u None = refl
       by u (Some row) = refl
+
+  pub tells-forget : (pass now : ℕ) → Tells config (after_forget s (moment s now)) (entry pass (call.Forget now) (reply_is.Forgotten (forgotten s (moment s now))) ∷ past)
+  tells-forget pass now =
+      let r = entry pass (call.Forget now) (reply_is.Forgotten (forgotten s (moment s now))) in
+      let t = moment s now in
+      record {
+        rows = l.rows;
+        known = λ u come test blind.
+            any-blind (is_idle s.groups t) test (λ a e. blind a (still-resolved a t u come (and_parts (is_resolved a t) (not (is_grouped s.groups a)) e).0)) s.known
+            ∙ l.known u (earlier now u come) test blind;
+        silences = λ u come test blind.
+            any-blind (is_over t) test (λ x e. blind x (still-over x t u come e)) s.silences ∙ l.silences u (earlier now u come) test blind;
+        told = all-weaker (IsToldBy config past) (IsToldBy config (r ∷ past)) (λ f o. told-step config r past f refl o) s.flushes l.told;
+      }
 
   pub tells-note : (pass now number n : ℕ) (outcome : Option Outcome) (f : FlushState) → flush_numbered s.flushes number ≡ Some f
       → Tells config (after_note config s (moment s now) n f) (entry pass (call.Note now number n outcome) reply_is.Noted ∷ past)
@@ -285,8 +319,8 @@ module _ (config : Config) (s : State) (past : List Record) (k : Finds config s 
             (ap (λ b. b && (i == n)) (sym (told.group name) ∙ ap (λ m. begins_group name (begin_of m past)) same) ∙ ap (λ b. begins_group name (begin_of number past) && b) (nat_eq_equiv.symm i n))
             (ap (λ u. row_of_begin config u i (begin_of number past)) (sym at) ∙ ap (λ m. row_of_begin config t i (begin_of m past)) (sym same) ∙ told.row t i)
             (l.rows name i);
-        known = l.known;
-        silences = l.silences;
+        known = λ u come. l.known u (earlier now u come);
+        silences = λ u come. l.silences u (earlier now u come);
         told =
             all-map (λ h. cond (h.number == f.number) (with_note n h) h) (IsToldBy config (r ∷ past)) s.flushes
             (all-weaker (IsToldBy config past) (λ h. IsToldBy config (r ∷ past) (cond (h.number == f.number) (with_note n h) h))

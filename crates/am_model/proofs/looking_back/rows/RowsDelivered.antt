@@ -10,7 +10,7 @@ use Rattle.am_retry.specs.declared.outcome.Outcome.{Outcome}
 use Rattle.am_model.specs.declared.config.Config.{Config}
 use Rattle.am_model.specs.declared.group.GroupName.{GroupName}
 use Rattle.am_model.specs.declared.record.Call.{Call}
-use Rattle.am_model.specs.declared.record.Call.TheVariants.{Insert, Silence, Begin, Finish, Maintain, Note}
+use Rattle.am_model.specs.declared.record.Call.TheVariants.{Insert, Silence, Begin, Finish, Maintain, Forget, Note}
 use Rattle.am_model.specs.declared.record.Record.{Record}
 use Rattle.am_model.specs.declared.record.Reply.{Reply}
 use Rattle.am_model.specs.declared.record.Reply.TheVariants as reply_is
@@ -109,6 +109,7 @@ logged_delivered config id =
       begin = λ now g taken asked are name i e. absurd (false≢true e);
       finish = λ now number outcomes f is name i e. finish_reports name i now number outcomes past e;
       maintain = λ now name i e. absurd (false≢true e);
+      forget = λ now name i e. absurd (false≢true e);
       note = λ now number i outcome f is may name j e. note_reports config s past (finds_past config id past before) (tells_past config id past before) now number i outcome f is may name j e;
     }) r.call r.reply told)
 
@@ -134,6 +135,7 @@ row_moment config t i row (q ∷ before) e = by (moment_at (q ∷ before)) q.rep
         moment_or (Some x) = x.moment
     by begun (reply_is.Finished finished) e = absurd (cc)
     by begun (reply_is.Maintained maintained) e = absurd (cc)
+    by begun (reply_is.Forgotten forgotten) e = absurd (cc)
     by begun reply_is.Noted e = absurd (cc)
 
 -- a flush of a group gives one
@@ -149,6 +151,7 @@ row_there config t i name (q ∷ before) e none = by (moment_at (q ∷ before)) 
     by begun (reply_is.Flush number group deadline notices) e none = absurd (cc)
     by begun (reply_is.Finished finished) e none = false≢true e
     by begun (reply_is.Maintained maintained) e none = false≢true e
+    by begun (reply_is.Forgotten forgotten) e none = false≢true e
     by begun reply_is.Noted e none = false≢true e
 
 logs_begin : (name : GroupName) (i : ℕ) (past : List Record) (c : Call) → logs name i past c ≡ true → begins_group name (begin_named past c) ≡ true
@@ -158,6 +161,7 @@ logs_begin name i past (Begin now) e = absurd (false≢true e)
 logs_begin name i past (Finish now number outcomes) e =
     (and_parts (begins_group name (begin_of number past)) (asked_and_succeeded number outcomes past i (begin_of number past) && not (was_noted number i past)) e).0
 logs_begin name i past (Maintain now) e = absurd (false≢true e)
+logs_begin name i past (Forget now) e = absurd (false≢true e)
 logs_begin name i past (Note now number j outcome) e = (and_parts (begins_group name (begin_of number past)) (j == i) e).0
 
 -- what a maintenance leaves was there
@@ -168,6 +172,7 @@ left_there t (Begin now) row o e = e
 left_there t (Finish now number outcomes) row o e = e
 left_there t (Maintain now) row None e = e
 left_there t (Maintain now) row (Some x) e = elim (has_expired t x) as (λ b. cond b None (Some x) ≡ Some row → Some x ≡ Some row) [ true ↦ λ e. absurd (cc) | false ↦ λ e. e ] e
+left_there t (Forget now) row o e = e
 left_there t (Note now number integration outcome) row o e = e
 
 -- the row that a record logs is of its moment

@@ -1,4 +1,4 @@
-use Rattle.std.proofs.Common.{take}
+use Rattle.std.proofs.Common.{◌≡◌, length, take}
 use Rattle.serde_json.specs.View.{items_view}
 use Rattle.am_cli.specs.Decoding.{DecodeEach}
 use Rattle.am_plans.specs.Expected.{IsKnownIn}
@@ -6,5 +6,7 @@ use Rattle.am_plans.proofs.expectation.read_list.Given as goal
 
 -- what the values so far say is expected
 abbrev pub invariant-loop-index : goal.invariant-loop-index
-invariant-loop-index l =
-    DecodeEach (IsKnownIn l.member.dialect l.config l.until l.last l.plans) (items_view (take l.index l.values)) l.expectations.items
+invariant-loop-index l = record {
+  told : DecodeEach (IsKnownIn l.member.dialect l.config l.until l.last l.plans) (items_view (take l.index l.values)) l.expectations.items;
+  count : length l.expectations.items ≡ l.index;
+}

@@ -11,8 +11,8 @@ loop-one-preserved c =
     ∙ ap (λ ps. ps ++ c.in-Some.one.plan ∷ []) c.loop-one.invariant
     ∙ sym (map-append (λ (p : Planned). p.plan) c.loop-one.yielded (c.in-Some.one ∷ []))
 
-pub returns : goal.returns
-returns c =
+pub returns-clause-plans : goal.returns-clause-plans
+returns-clause-plans c =
     let all = c.args.planned.items in
     let gives = c.into_iter-one-iterator.ensures.into_iter_gives in
     let end = YieldsList-end (YieldsList-from_vec {s = c.into_iter-one-iterator.result} all gives.0 (gives.1 ∙ c.args.planned.ok.0)) c.loop-one.yielded c.loop-one.one-iterator c.loop-one.yielded_by c.next.result c.next.new.self c.in-None.is c.next.ensures.steps in

@@ -2,7 +2,7 @@ use Rattle.std.proofs.Common.{◌≡◌, ◌∙◌, ℕ, List, ap, if◌then◌e
 use Rattle.std.specs.List.{range_with_len}
 use Rattle.am_terms.specs.declared.event.Event.{Event}
 use Rattle.am_timeline.specs.Changed.{changed}
-use Rattle.am_timeline.specs.Filtered.{filtered}
+use Rattle.am_timeline.specs.Filtered.{filtered, left_of}
 use Rattle.am_timeline.specs.Playback.{PlaybackData}
 use Rattle.am_rehearse.specs.Printed.{playback_with, selected}
 use Rattle.am_rehearse.proofs.Tales.{output_of-board}
@@ -27,9 +27,12 @@ returns g c =
     }) in
     let is_narrowed : narrowed ≡ filtered playback wanted.filter =
     c.with_events-filtered.ensures
-    ∙ ap (λ (events : List Event). record playback { events = events }) (c.as_slice-2.ensures.value ∙ c.in_ok-of_filter.ensures) in
-    let is_kept : shown ≡ record narrowed { events = c.in_ok-kept.kept.items } =
-    c.with_events-shown.ensures ∙ ap (λ (events : List Event). record narrowed { events = events }) c.as_slice-3.ensures.value in
+    ∙ ap (λ (events : List Event). record playback { events = events })
+    (c.of.ensures ∙ ap (λ (events : List Event). left_of c.in_ok-of_filter.of_filter events) c.events.ensures ∙ c.in_ok-of_filter.ensures) in
+    let is_kept : shown ≡ record narrowed { events = left_of c.in_ok-kept.kept narrowed.events } =
+    c.with_events-shown.ensures
+    ∙ ap (λ (events : List Event). record narrowed { events = events })
+    (c.of-2.ensures ∙ ap (λ (events : List Event). left_of c.in_ok-kept.kept events) c.events-2.ensures) in
     let is_chosen : shown ≡ (if wanted.changes then changed narrowed times else narrowed) = is_kept ∙ c.in_ok-kept.ensures in
     let is_selected : shown ≡ selected wanted playback times =
     is_chosen ∙ ap (λ (s : PlaybackData). if wanted.changes then changed s times else s) is_narrowed in

@@ -1,4 +1,4 @@
-use Rattle.std.proofs.Common.{subst}
+use Rattle.std.proofs.Common.{refl, subst}
 use Rattle.std.specs.Prelude.{IfOk}
 use Rattle.am_model.specs.declared.record.Call.TheVariants.{Begin}
 use Rattle.am_board.specs.History.{BoardData, reply_of, IsFresh}
@@ -13,7 +13,7 @@ take_group-requires-clause-good c = good c.self.inside c.self.invariant
 pub invariant_of-self : goal.invariant_of-self
 invariant_of-self c =
     sound_again c.self.inside c.self.invariant c.args.self.now c.self.view_is c.take_group.new.state c.args.pass (Begin c.args.now) reply_of _
-    (λ x h. h.1) _ (λ x h. begin_within c.self.inside c.self.invariant c.args.pass c.args.now c.take_group.new.state x h.0 h.1) c.take_group.result c.take_group.ensures
+    (λ x h. h.1) _ refl (λ x h. begin_within c.self.inside c.self.invariant c.args.pass c.args.now c.take_group.new.state x h.0 h.1) c.take_group.result c.take_group.ensures
 
 pub returns-clause-recorded : goal.returns-clause-recorded
 returns-clause-recorded c =

@@ -1,4 +1,4 @@
-use Rattle.std.proofs.Common.{◌∙◌, Option, subst}
+use Rattle.std.proofs.Common.{◌∙◌, Option, refl, subst}
 use Rattle.std.specs.Prelude.{IfOk}
 use Rattle.std.proofs.lemmas.Result.{IfOk-weaker}
 use Rattle.am_model.specs.declared.preview.Preview.{Preview}
@@ -24,7 +24,7 @@ replied both = reply_of both.0
 pub invariant_of-self : goal.invariant_of-self
 invariant_of-self c =
     sound_again c.self.inside c.self.invariant c.args.self.now c.self.view_is c.take_previewed.new.state c.args.pass (Begin c.args.now) replied _
-    (λ x h. h.1) _ (λ x h. begin_within c.self.inside c.self.invariant c.args.pass c.args.now c.take_previewed.new.state x.0 h.0 h.1) c.take_previewed.result c.take_previewed.ensures
+    (λ x h. h.1) _ refl (λ x h. begin_within c.self.inside c.self.invariant c.args.pass c.args.now c.take_previewed.new.state x.0 h.0 h.1) c.take_previewed.result c.take_previewed.ensures
 
 pub returns-clause-recorded : goal.returns-clause-recorded
 returns-clause-recorded c =

@@ -1,4 +1,4 @@
-use Rattle.std.proofs.Common.{List, subst, sym}
+use Rattle.std.proofs.Common.{List, refl, subst, sym}
 use Rattle.am_alerts.specs.AlertData.{AlertData}
 use Rattle.am_mute.specs.Inhibit.{RuleData}
 use Rattle.am_mute.specs.Sources.{AreLearnt}
@@ -18,7 +18,7 @@ put_alert-inserted-requires c = record { good = good c.self.inside c.self.invari
 before : (c : After-put_alert-inserted) → IsSound (record c.self.inside { state = c.put_alert-inserted.new.state })
 before c =
     sound_again c.self.inside c.self.invariant c.args.self.now c.self.view_is c.put_alert-inserted.new.state c.args.pass (Insert c.args.now c.args.alert) replies.Inserted _
-    (λ x h. h.1 c.self.inside.id) _ (λ x h. insert_within c.self.inside c.self.invariant c.args.pass c.args.now c.put_alert-inserted.new.state c.args.alert x h.0 (h.1 c.self.inside.id)) c.put_alert-inserted.result c.put_alert-inserted.ensures.put
+    (λ x h. h.1 c.self.inside.id) _ refl (λ x h. insert_within c.self.inside c.self.invariant c.args.pass c.args.now c.put_alert-inserted.new.state c.args.alert x h.0 (h.1 c.self.inside.id)) c.put_alert-inserted.result c.put_alert-inserted.ensures.put
 
 -- what was learnt before is of the known alerts with the new one
 learnt : (c : After-put_alert-inserted) → AreLearnt c.self.inside.config.rules c.put_alert-inserted.new.state.known.items c.self.inside.sources

@@ -1,3 +1,4 @@
+use Rattle.std.proofs.Common.{refl}
 use Rattle.am_model.specs.declared.record.Call.TheVariants.{Maintain}
 use Rattle.am_model.specs.declared.record.Reply.TheVariants as replies
 use Rattle.am_board.proofs.lemmas.invariant.Calls.{recorded, told_now, refused, sound_again, caused}
@@ -11,7 +12,7 @@ sweep-requires c = record { good = good c.self.inside c.self.invariant }
 pub invariant_of-self : goal.invariant_of-self
 invariant_of-self c =
     sound_again c.self.inside c.self.invariant c.args.self.now c.self.view_is c.sweep.new.state c.args.pass (Maintain c.args.now) replies.Maintained _
-    (λ x h. h.1 c.self.inside.id) _ (λ x h. maintain_within c.self.inside c.self.invariant c.args.pass c.args.now c.sweep.new.state x h.0 (h.1 c.self.inside.id)) c.sweep.result c.sweep.ensures
+    (λ x h. h.1 c.self.inside.id) _ refl (λ x h. maintain_within c.self.inside c.self.invariant c.args.pass c.args.now c.sweep.new.state x h.0 (h.1 c.self.inside.id)) c.sweep.result c.sweep.ensures
 
 pub returns-clause-recorded : goal.returns-clause-recorded
 returns-clause-recorded c =

@@ -1,3 +1,4 @@
+use Rattle.std.proofs.Common.{refl}
 use Rattle.am_model.specs.Records.{call_of_silence}
 use Rattle.am_model.specs.declared.record.Reply.TheVariants as replies
 use Rattle.am_board.proofs.lemmas.invariant.Calls.{recorded, told_now, refused, sound_again, caused}
@@ -11,7 +12,7 @@ put_silence-requires c = record { good = good c.self.inside c.self.invariant }
 pub invariant_of-self : goal.invariant_of-self
 invariant_of-self c =
     sound_again c.self.inside c.self.invariant c.args.self.now c.self.view_is c.put_silence.new.state c.args.pass (call_of_silence c.args.now c.args.silence) replies.Silenced _
-    (λ x h. h.1 c.self.inside.id) _ (λ x h. silence_within c.self.inside c.self.invariant c.args.pass c.args.now c.put_silence.new.state c.args.silence x h.0 (h.1 c.self.inside.id)) c.put_silence.result c.put_silence.ensures
+    (λ x h. h.1 c.self.inside.id) _ refl (λ x h. silence_within c.self.inside c.self.invariant c.args.pass c.args.now c.put_silence.new.state c.args.silence x h.0 (h.1 c.self.inside.id)) c.put_silence.result c.put_silence.ensures
 
 pub returns-clause-recorded : goal.returns-clause-recorded
 returns-clause-recorded c =

@@ -1,11 +1,12 @@
-use Rattle.std.proofs.Common.{◌≡◌, [], ◌∷◌, ◌++◌, sym, ap, ◌∙◌, append_assoc}
+use Rattle.std.proofs.Common.{◌≡◌, ℕ, List, [], ◌∷◌, ◌++◌, Bor, sym, ap, ◌∙◌, append_assoc}
 use Rattle.std.proofs.lemmas.List.{append-nil}
 use Rattle.serde_json.proofs.Views.{Entry}
 use Rattle.serde_json.specs.Data.{string}
 use Rattle.serde_json.specs.Find.{as_str}
 use Rattle.serde_json.specs.View.{members_view, view}
 use Rattle.am_cli.specs.Configured.{text_members}
-use Rattle.am_cli.proofs.Members.{text_more}
+use Rattle.am_cli.proofs.Decoding.{handed_on, starved}
+use Rattle.am_cli.proofs.Members.{text_more, texts_at}
 use Rattle.am_cli.proofs.Names.{is_string}
 use Rattle.am_cli.proofs.reader.Object.texts.Goals as goal
 
@@ -25,8 +26,26 @@ loop-name-preserved c =
           ∙ ap text_members (sym c.in_ok-push.ensures.items),
     )
 
-pub returns : goal.returns
-returns c =
+pub returns-clause-texts : goal.returns-clause-texts
+returns-clause-texts c =
     let l = c.loop-name in
     let done = l.invariant.0 in
     ap members_view (l.invariant.1 ∙ ap (λ es. done ++ es) c.in-None.ensures.steps.0 ∙ append-nil done) ∙ l.invariant.2
+
+-- a member that is no text
+pub returns-in_err-text-clause-refused : goal.returns-in_err-text-clause-refused
+returns-in_err-text-clause-refused c =
+    let l = c.loop-name in
+    let done = l.invariant.0 in
+    let e : Entry = (c.in-Some.name.now, c.in-Some.value.now) in
+    let left = c.next.new.self in
+    let all : c.args.self.now.members ≡ done ++ e ∷ left = l.invariant.1 ∙ ap (λ es. done ++ es) c.in-Some.ensures.steps in
+    let Tells = λ (ts : List (Bor (List ℕ) × Bor (List ℕ))). members_view c.args.self.now.members ≡ text_members ts in
+    handed_on Tells c.from_residual.result c.in_err-text.field-0.0 c.from_residual.ensures.1
+    (λ refusal ts told. texts_at done left e ts (sym (ap members_view all) ∙ told)
+    (sym (c.in_err-text.ensures.text ∙ ap (λ v. as_str (view v)) c.member-member.ensures.value)))
+
+pub returns-in_err-push-clause-refused : goal.returns-in_err-push-clause-refused
+returns-in_err-push-clause-refused c =
+    let Tells = λ (ts : List (Bor (List ℕ) × Bor (List ℕ))). members_view c.args.self.now.members ≡ text_members ts in
+    starved Tells c.from_residual-in_err-push.result c.from_residual-in_err-push.ensures.1

@@ -1,9 +1,14 @@
 use Rattle.std.proofs.Common.{◌≡◌, ◌+◌, ◌<◌, ◌++◌, ◌∷◌, ◌∙◌, [], List, ap, length, subst, sym, take, vec_len, arith}
 use Rattle.std.proofs.lemmas.List.{take_more}
+use Rattle.std.specs.List.{list_all}
+use Rattle.std.specs.Prelude.{IsTrue}
+use Rattle.serde_json.specs.Find.{as_array}
 use Rattle.serde_json.specs.View.{items_view, view}
 use Rattle.serde_json.specs.declared.value.Value.{Value}
-use Rattle.am_cli.specs.Decoding.{DecodeEach}
-use Rattle.am_cli.proofs.Members.{has_all, tell_more}
+use Rattle.am_cli.specs.Decoding.{DecodeEach, IsList}
+use Rattle.am_cli.specs.declared.reader.Dialect.{Dialect}
+use Rattle.am_cli.proofs.Decoding.{handed_on, missing, starved}
+use Rattle.am_cli.proofs.Members.{has_all, tell_more, told_list}
 use Rattle.am_cli.proofs.reader.Reader.list.Goals as goal
 
 pub loop-index-preserved : goal.loop-index-preserved
@@ -18,7 +23,7 @@ loop-index-preserved g c =
     take_more values i value here ∙ ap (λ (v : Value). take i values ++ v ∷ []) (sym c.index-values-index.is) in
     let read : decodes_to (view value) x =
     subst (λ (v : Value). decodes_to (view v) x) c.item.ensures.value
-    (subst (λ dialect. g.T.FromJson.decodes_to dialect (view c.item.result.value) x) c.item.ensures.dialect c.in_ok-read.ensures) in
+    (subst (λ dialect. g.T.FromJson.decodes_to dialect (view c.item.result.value) x) c.item.ensures.dialect c.in_ok-read.ensures.told) in
     let more = tell_more decodes_to (take i values) c.loop-index.items.items value x c.loop-index.invariant.told read in
     let pushed = c.in_ok-push.ensures.items in
     record {
@@ -32,3 +37,36 @@ pub returns-clause-count : goal.returns-clause-count
 returns-clause-count g c =
     let all : vec_len c.loop-index.items ≡ length c.in_ok-values.values.now = omega arith in
     has_all _ c.in_ok-values.values.now _ c.in_ok-values.ensures.items all
+
+pub returns-in_err-values-clause-refused : goal.returns-in_err-values-clause-refused
+returns-in_err-values-clause-refused g c =
+    let decodes_to = g.T.FromJson.decodes_to c.args.self.now.dialect in
+    let array = as_array (view c.args.self.now.value) in
+    let Tells = λ (xs : List g.row.T.Denot). IsList decodes_to (view c.args.self.now.value) xs × IsTrue (list_all g.T.FromJson.never_refused xs) in
+    handed_on Tells c.from_residual.result c.in_err-values.field-0.0 c.from_residual.ensures.1
+    (λ refusal xs told. missing (λ items. DecodeEach decodes_to items xs) array c.in_err-values.ensures.items told.0)
+
+-- an item that tells nothing that is sure to be read
+pub returns-in_err-read-clause-refused : goal.returns-in_err-read-clause-refused
+returns-in_err-read-clause-refused g c =
+    let decodes_to = g.T.FromJson.decodes_to c.args.self.now.dialect in
+    let array = as_array (view c.args.self.now.value) in
+    let values = c.in_ok-values.values.now in
+    let i = c.loop-index.index in
+    let value = c.index-values-index.result in
+    let here : i < length values = omega arith in
+    let Tells = λ (xs : List g.row.T.Denot). IsList decodes_to (view c.args.self.now.value) xs × IsTrue (list_all g.T.FromJson.never_refused xs) in
+    handed_on Tells c.from_residual-in_err-read.result c.in_err-read.field-0.0 c.from_residual-in_err-read.ensures.1
+    (λ refusal xs told.
+    let at = told_list decodes_to g.T.FromJson.never_refused array values xs i value c.in_ok-values.ensures.items here c.index-values-index.is told.0 told.1 in
+    c.in_err-read.ensures.refused refusal at.0 (
+      subst (λ (dialect : Dialect). g.T.FromJson.decodes_to dialect (view c.item.result.value) at.0) (sym c.item.ensures.dialect)
+          (subst (λ (v : Value). decodes_to (view v) at.0) (sym c.item.ensures.value) at.1),
+      at.2,
+    ))
+
+pub returns-in_err-push-clause-refused : goal.returns-in_err-push-clause-refused
+returns-in_err-push-clause-refused g c =
+    let decodes_to = g.T.FromJson.decodes_to c.args.self.now.dialect in
+    let Tells = λ (xs : List g.row.T.Denot). IsList decodes_to (view c.args.self.now.value) xs × IsTrue (list_all g.T.FromJson.never_refused xs) in
+    starved Tells c.from_residual-in_err-push.result c.from_residual-in_err-push.ensures.1

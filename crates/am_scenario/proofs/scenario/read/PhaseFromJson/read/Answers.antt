@@ -8,8 +8,8 @@ use Rattle.am_scenario.specs.Decoding.{DecodesToLane}
 use Rattle.am_scenario.specs.declared.scenario.Lane.{Lane}
 use Rattle.am_scenario.proofs.scenario.read.PhaseFromJson.read.Goals as goal
 
-pub returns : goal.returns
-returns c =
+pub returns-clause-told : goal.returns-clause-told
+returns-clause-told c =
     let members = members_view c.in_ok-phase.phase.members in
     let lanes : List Lane = c.in_ok-lanes.lanes.items in
     record {

@@ -1,0 +1,80 @@
+//! Calls on the notification log.
+ghost use Rattle.std.specs.Prelude.{◌≡◌, IsTrue};
+ghost use Rattle.std.specs.Ordering.{nat_cmp};
+ghost use Rattle.am_nflog.specs.Members.{is_ascending};
+
+use crate::requests::probe::Probe;
+use am_nflog::{LogKey, LogRow, Members, NfLog, needs_update};
+use std::alloc::{AllocError, Global};
+
+pub fn make_calls(probe: &Probe, alloc: Global) -> Result<(), AllocError> {
+    keep_rows(probe, alloc)?;
+    ask_update(probe, &row(alloc)?);
+    Ok(())
+}
+
+fn key() -> LogKey<u64>
+    ensures { result ≡ record { group = 1; integration = 0 } }
+{
+    LogKey {
+        group: 1,
+        integration: 0,
+    }
+}
+
+/// A row at 100, in which 1 and 3 fired and nothing was resolved; it is collected from 1,000 on.
+fn row(alloc: Global) -> Result<LogRow<u64>, AllocError> {
+    Ok(LogRow {
+        moment: 100,
+        firing: members(alloc, &[1, 3])?,
+        resolved: members(alloc, &[])?,
+        expiry: 1_000,
+    })
+}
+
+fn members(alloc: Global, list: &[u64]) -> Result<Members<u64>, AllocError>
+    requires { IsTrue (is_ascending nat_cmp list.now) }
+{
+    Members::new(alloc, list.to_vec(alloc)?)
+}
+
+/// Makes a key known, and puts a row at it.
+fn keep_rows(probe: &Probe, alloc: Global) -> Result<(), AllocError> {
+    probe.ask("NfLog::new");
+    let mut log: NfLog<u64, u64> = NfLog::new(alloc)?;
+    probe.tell(&log.len());
+    probe.ask("with memory: NfLog::reserve");
+    log.reserve(key())?;
+    probe.tell(&log.len());
+    let row = row(alloc)?;
+    probe.ask("NfLog::put");
+    log.put(&key(), row);
+    probe.tell(&log.len());
+    collect(probe, &mut log);
+    Ok(())
+}
+
+/// Looks for the row, asks for its key once more, and has the row collected and the key forgotten.
+fn collect(probe: &Probe, log: &mut NfLog<u64, u64>) {
+    probe.ask("NfLog::get");
+    let row = log.get(&key());
+    probe.tell(&row.is_some());
+    probe.ask("NfLog::reserve, of a known key");
+    let reserved = log.reserve(key());
+    probe.tell(&reserved);
+    probe.ask("NfLog::collect");
+    let gone = log.collect(1_000);
+    probe.tell(&gone);
+    probe.ask("NfLog::forget");
+    log.forget(&[2]);
+    probe.tell(&log.len());
+}
+
+fn ask_update(probe: &Probe, row: &LogRow<u64>) {
+    probe.ask("Members::share");
+    let shared = row.firing.share();
+    probe.tell(&shared.is_ok());
+    probe.ask("needs_update");
+    let is_needed = needs_update(Some(row), &[1], &[2], true, 50, 100);
+    probe.tell(&is_needed);
+}

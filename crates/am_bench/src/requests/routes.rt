@@ -1,0 +1,41 @@
+//! Calls on routes and configurations.
+use crate::requests::probe::Probe;
+use crate::requests::values::{children, config, route};
+use am_alerts::route::{Child, Route, Routes};
+use am_board::config::Config;
+use std::alloc::{AllocError, Global};
+
+pub fn make_calls(probe: &Probe, alloc: Global) -> Result<(), AllocError> {
+    make_routes(probe, route(alloc, "root")?, children(alloc)?);
+    make_routes(probe, route(alloc, "other")?, Vec::new(alloc));
+    let config = config(alloc)?;
+    count_routes(probe, &config.routes);
+    check_config(probe, &config);
+    Ok(())
+}
+
+fn make_routes(probe: &Probe, root: Route, children: Vec<Child>) {
+    probe.ask("Routes::new");
+    let made = Routes::new(root, children);
+    probe.tell(&made.is_ok());
+}
+
+fn count_routes(probe: &Probe, routes: &Routes) {
+    probe.ask("Routes::last");
+    let last = routes.last();
+    probe.tell(&last);
+    if last > 0 {
+        probe.ask("Routes::below");
+        let below = routes.below(last);
+        probe.tell(&below);
+    }
+}
+
+fn check_config(probe: &Probe, config: &Config) {
+    probe.ask("Config::receiver");
+    let receiver = config.receiver("team");
+    probe.tell(&receiver.is_some());
+    probe.ask("Config::check");
+    let checked = config.check();
+    probe.tell(&checked);
+}

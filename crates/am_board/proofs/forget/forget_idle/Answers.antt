@@ -1,0 +1,61 @@
+use Rattle.std.proofs.Common.{◌≡◌, ℕ, List, ◌++◌, ◌∷◌, [], length, map, not, ◌&&◌, arith, Some, None, sym, ap, ◌∙◌, subst, vec_len, count_by, if◌then◌else◌}
+use Rattle.std.specs.Prelude.{IsPermutation, All}
+use Rattle.std.proofs.lemmas.List.Sorted.{IsPermutation-refl}
+use Rattle.am_alerts.specs.AlertData.{AlertData, is_resolved}
+use Rattle.am_mute.specs.Silence.{SilenceData, is_over}
+use Rattle.am_nflog.specs.Log.{without_unused}
+use Rattle.am_model.specs.declared.fault.Fault.TheVariants.{HistoryFull}
+use Rattle.am_model.specs.declared.group.GroupName.{GroupName}
+use Rattle.am_model.specs.declared.record.Call.TheVariants.{Forget}
+use Rattle.am_model.specs.declared.record.Reply.TheVariants.{Forgotten}
+use Rattle.am_model.specs.declared.views.RowView.{RowView}
+use Rattle.am_model.specs.Forget.{is_idle}
+use Rattle.am_model.specs.Lists.{without}
+use Rattle.am_model.specs.Records.{entry}
+use Rattle.am_model.specs.State.{State, GroupState, moment, same_name}
+use Rattle.am_board.specs.declared.flush.OpenFlush.{OpenFlush}
+use Rattle.am_board.specs.declared.group.Group.{Group}
+use Rattle.am_board.specs.Forgetting.{is_idle_but_for, AreGrouped}
+use Rattle.am_board.specs.LogRows.{log_rows, row_under}
+use Rattle.am_board.specs.Refinement.{state_of, group_state, IsPrepared}
+use Rattle.am_board.proofs.lemmas.forget.Flushing.{prepared-forgotten}
+use Rattle.am_board.proofs.lemmas.invariant.Staying.{not_full}
+use Rattle.am_board.proofs.forget.forget_idle.Goals as goal
+
+with_fewer : (s : State) (rows : List RowView) (t u : ℕ) (ks ls : List AlertData) (xs ys : List SilenceData) → t ≡ u → ks ≡ ls → xs ≡ ys
+    → ◌≡◌ {A = State} (record s { clock = t; known = ks; silences = xs; rows = rows }) (record s { clock = u; known = ls; silences = ys; rows = rows })
+with_fewer s rows t u ks ls xs ys e f g = λ i. record s { clock = e i; known = f i; silences = g i; rows = rows }
+
+pub returns : goal.returns
+returns c =
+    let old = c.args.state.now in
+    let counted : vec_len old.flushes ≡ length old.flushes.items = omega arith in
+    let full = not_full c.args.config.now old 1 counted (omega arith) in
+    let t = c.moment-t.result in
+    let u = moment (state_of old) c.args.now in
+    let e : t ≡ u = c.moment-t.ensures in
+    let gs : List GroupState = map group_state old.groups.items in
+    let sets = c.in_ok-grouped.grouped.keys in
+    let grouped : AreGrouped sets gs = subst (λ (groups : List Group). AreGrouped sets (map group_state groups)) c.as_slice.ensures.value c.in_ok-grouped.ensures in
+    let same : (a : AlertData) → is_idle_but_for sets t a ≡ is_idle gs u a = λ a i. is_resolved a (e i) && not (grouped a i) in
+    let known : c.drop_idle.new.self.items ≡ without (is_idle gs u) old.known.items = c.drop_idle.ensures.items ∙ (λ i. without (λ a. same a i) old.known.items) in
+    let alerts : c.drop_idle.result ≡ count_by (is_idle gs u) old.known.items = c.drop_idle.ensures.count ∙ (λ i. count_by (λ a. same a i) old.known.items) in
+    let quiet : c.drop_over.new.self.items ≡ without (is_over u) old.silences.items = c.drop_over.ensures.items ∙ ap (λ m. without (is_over m) old.silences.items) e in
+    let silences : c.drop_over.result ≡ count_by (is_over u) old.silences.items = c.drop_over.ensures.count ∙ ap (λ m. count_by (is_over m) old.silences.items) e in
+    let rows : log_rows c.forget.new.self ≡ log_rows old.log = ap (map row_under) c.forget.ensures.rows in
+    let names : c.in_ok-flushing.flushing.items ≡ map (λ f. f.group) old.flushes.items = c.in_ok-flushing.ensures ∙ ap (map (λ (f : OpenFlush). f.group)) c.as_slice-2.ensures.value in
+    let log = c.forget.ensures.forgotten ∙ ap (λ (ns : List GroupName). without_unused same_name ns old.log) (c.as_slice-3.ensures.value ∙ names) in (
+      ap (λ b. if b then Some HistoryFull else None) full,
+      λ id. record {
+        told = λ i. Some (Forgotten (record { alerts = sym alerts i; silences = sym silences i }));
+        state = record {
+          rows = subst (λ l. IsPermutation l (log_rows old.log)) (sym rows) (IsPermutation-refl (log_rows old.log));
+          rest = with_fewer (state_of old) (log_rows c.forget.new.self) t u _ _ _ _ e known quiet;
+        };
+        routed = c.requires.good.routed;
+        prepared = subst (λ l. All (IsPrepared c.args.config.now l) old.flushes.items) (sym log) (prepared-forgotten c.args.config.now old.log old.flushes.items c.requires.good.prepared);
+        history = c.push_reserved.ensures.items ∙ ap (λ h. h ++ entry c.args.pass (Forget c.args.now) (Forgotten (record { alerts = c.drop_idle.result; silences = c.drop_over.result })) ∷ []) c.in_ok-reserve.ensures.items;
+        records = omega arith;
+        room = omega (arith, c.in_ok-reserve.ensures.ok, c.in_ok-reserve.ensures.len, c.push_reserved.ensures.len, c.push_reserved.ensures.capacity, c.len.ensures);
+      },
+    )

@@ -1,0 +1,125 @@
+//! Forgetting: `Board::forget` calls `forget_idle`. Known alerts that are resolved and in no group
+//! go, and so do silences that are over.
+//!
+//! The label sets that are in groups are gathered first, and then looked up: one look-up for each
+//! alert of a group, and one for each known alert that is resolved. From the first change on
+//! nothing can fail. The log forgets its keys without a row too, but those of open flushes, whose
+//! finish needs them. No definition sees these keys.
+ghost use Rattle.std.specs.Prelude.{◌≡◌, ℕ, List, None, IfOk, MatchResult, OnOk, map, vec_len};
+ghost use Rattle.am_alerts.specs.AlertData.{AlertData};
+ghost use Rattle.am_model.specs.Causes.{forget_cause};
+ghost use Rattle.am_model.specs.Records.{entry};
+ghost use Rattle.am_mute.specs.Sources.{AreLearnt};
+ghost use Rattle.am_board.specs.Forgetting.{AreGrouped, AddsLabelsOf};
+ghost use Rattle.am_board.specs.GroupNameCache.{AreKept};
+ghost use Rattle.am_board.specs.Refinement.{group_state, member_state, state_of};
+ghost use Rattle.am_board.specs.Step.{StateInvariant, AppliesCall, LeavesUnchanged, IsAnswer};
+
+use crate::config::Config;
+use crate::destinations::GroupNameCache;
+use crate::fault::Fault;
+use crate::flush::OpenFlush;
+use crate::group::{Group, GroupName, Member};
+use crate::record::{Call, Forgotten, Record, Reply};
+use crate::state::State;
+use am_alerts::alert::Alert;
+use am_alerts::labels::Labels;
+use am_mute::sources::Sources;
+use indexmap::IndexSet;
+use std::alloc::{AllocError, Global};
+
+/// Removes the known alerts that are resolved and in no group, and the silences that are over.
+pub(crate) fn forget_idle(
+    alloc: Global,
+    config: &Config,
+    state: &mut State,
+    pass: u32,
+    now: u64,
+) -> Result<Forgotten, Fault>
+    requires good { StateInvariant config.now state.old }
+    ensures { MatchResult result
+        (λ forgotten. (forget_cause config.now (vec_len state.old.history) (state_of state.old) ≡ None)
+        × ((id : ℕ) → AppliesCall config.now id (entry pass (Call.Forget now) (Reply.Forgotten forgotten)) state.old state.new))
+        (λ fault. IsAnswer (forget_cause config.now (vec_len state.old.history) (state_of state.old)) fault
+        × LeavesUnchanged config.now state.old state.new) }
+{
+    if !state.has_room(1, config.limits.history) {
+        return Err(Fault::HistoryFull);
+    }
+    let grouped = grouped_labels(alloc, state.groups.as_slice())?;
+    let flushing = flushing_groups(alloc, state.flushes.as_slice())?;
+    state.history.reserve(state.flushes.len() + 1)?;
+
+    let t = state.moment(now);
+    state.clock = t;
+    let forgotten = Forgotten {
+        alerts: state.known.drop_idle(&grouped, t),
+        silences: state.silences.drop_over(alloc, t),
+    };
+    state.log.forget(flushing.as_slice());
+    let call = Call::Forget { now };
+    let reply = Reply::Forgotten(forgotten);
+    state.history.push_reserved(Record { pass, call, reply });
+    Ok(forgotten)
+}
+
+/// Makes the index of sources anew, and drops the cached group names, if so many alerts went.
+///
+/// Both go by the places of known alerts. Where memory for the index is refused a later insert
+/// completes it.
+pub(crate) fn renew(
+    alloc: Global,
+    config: &Config,
+    known: &[Alert],
+    gone: usize,
+    sources: &mut Sources,
+    destinations: &mut GroupNameCache,
+)
+    ensures sources { (before : List AlertData) → AreLearnt config.now.rules before sources.old → (gone ≡ 0 → known.now ≡ before)
+        → AreLearnt config.now.rules known.now sources.new }
+    ensures destinations { (before : List AlertData) → AreKept config.now before destinations.old → (gone ≡ 0 → known.now ≡ before)
+        → AreKept config.now known.now destinations.new }
+{
+    if gone == 0 {
+        return;
+    }
+    *destinations = GroupNameCache::new(alloc);
+    *sources = Sources::new(alloc);
+    let _ = sources.learn(alloc, config.rules.as_slice(), known);
+}
+
+/// The label sets of the alerts of these groups.
+fn grouped_labels(alloc: Global, groups: &[Group]) -> Result<IndexSet<Labels>, AllocError>
+    ensures { IfOk result (λ sets. AreGrouped sets.keys (map group_state groups.now)) }
+{
+    let mut sets = IndexSet::new(alloc);
+    for group in groups {
+        add_labels(alloc, &mut sets, group.members.as_slice())?;
+    }
+    Ok(sets)
+}
+
+/// Adds the label sets of these alerts.
+fn add_labels(
+    alloc: Global,
+    sets: &mut IndexSet<Labels>,
+    members: &[Member],
+) -> Result<(), AllocError>
+    ensures { OnOk result (AddsLabelsOf (map member_state members.now) sets.old.keys sets.new.keys) }
+{
+    for member in members {
+        sets.insert(member.alert.labels().copy(alloc)?)?;
+    }
+    Ok(())
+}
+
+/// The names of the groups of these flushes.
+fn flushing_groups(alloc: Global, flushes: &[OpenFlush]) -> Result<Vec<GroupName>, AllocError>
+    ensures { IfOk result (λ names. names.items ≡ map (λ f. f.group) flushes.now) }
+{
+    let mut names = Vec::with_capacity(alloc, flushes.len())?;
+    for flush in flushes {
+        names.push(flush.group.copy(alloc)?)?;
+    }
+    Ok(names)
+}

@@ -1,0 +1,280 @@
+-- A JSON value tells one matcher, one rule, one configuration at most.
+use Rattle.std.proofs.Common.{◌≡◌, ◌∙◌, ℕ, true, false, List, [], ◌∷◌, Option, Some, None, MatchOption, Bor, codes, is_some, refl, sym, ap, subst}
+use Rattle.std.specs.List.{list_any}
+use Rattle.std.specs.Str.{bytes_eq}
+use Rattle.serde_json.specs.Data.{Data, Items, no_items, item, string, Members}
+use Rattle.serde_json.specs.Find.{as_array, as_bool, as_object, as_str, get_member}
+use Rattle.am_alerts.specs.Labels.{labels_in}
+use Rattle.am_alerts.specs.RoutingTree.{tree_of}
+use Rattle.am_alerts.specs.declared.matcher.MatcherParts.{MatcherParts}
+use Rattle.am_alerts.specs.declared.route.Child.{Child}
+use Rattle.am_alerts.specs.declared.route.GroupBy.TheVariants.{All, Names}
+use Rattle.am_alerts.specs.declared.route.Route.{Route}
+use Rattle.am_model.specs.Config.{greatest_limits}
+use Rattle.am_model.specs.declared.config.Config.{Config}
+use Rattle.am_model.specs.declared.config.Integration.{Integration}
+use Rattle.am_model.specs.declared.config.Limits.{Limits}
+use Rattle.am_model.specs.declared.config.Receiver.{Receiver}
+use Rattle.am_mute.specs.Inhibit.{RuleData}
+use Rattle.am_cli.specs.Configured.{DecodesToPairs, DecodesToMatcher, DecodesToOptions, IsGroupBy, IsMatcher, IsMatcherIn, IsPair, all_labels, text_members}
+use Rattle.am_cli.specs.Configured.{DecodesToChild, DecodesToIntegration, DecodesToLimits, DecodesToReceiver, DecodesToRoot, DecodesToRule}
+use Rattle.am_cli.specs.Configured.{HasChild, HasIntegration, HasLimits, HasParts, HasReceiver, HasRoot, HasRule}
+use Rattle.am_cli.specs.Decoding.{DecodeEach, IsDuration, IsFlag, IsInterval, IsList, IsNumber, IsObject, IsText}
+use Rattle.am_cli.specs.MatcherText.{IsMatcherText, operator_text}
+use Rattle.am_cli.specs.Read.{duration_in, interval_in, number_in}
+use Rattle.am_cli.specs.declared.reader.Dialect.{Dialect}
+use Rattle.am_cli.specs.declared.reader.Dialect.TheVariants.{Lenient, Strict}
+use Rattle.am_cli.proofs.MatcherTexts.{one_op, one_text}
+
+-- a JSON value tells one at most
+abbrev pub IsOne : {X : Type 0} → (Data → X → Type 0) → Type 0
+IsOne {X = X} tells = (value : Data) (x y : X) → tells value x → tells value y → x ≡ y
+
+pub one_read : {X : Type 0} (reading : Data → Option X) → IsOne (λ value x. reading value ≡ Some x)
+one_read reading value x y is also = cc
+
+pub one_each : {X : Type 0} (tells : Data → X → Type 0) → IsOne tells → (items : Items) (xs ys : List X) → DecodeEach tells items xs → DecodeEach tells items ys → xs ≡ ys
+one_each tells one no_items [] [] is also = refl
+one_each tells one no_items [] (y ∷ ys) is also = absurd also
+one_each tells one no_items (x ∷ xs) ys is also = absurd is
+one_each tells one (item v vs) [] ys is also = absurd is
+one_each tells one (item v vs) (x ∷ xs) [] is also = absurd also
+one_each tells one (item v vs) (x ∷ xs) (y ∷ ys) is also =
+    let same = one v x y is.0 also.0 in
+    let rest = one_each tells one vs xs ys is.1 also.1 in
+    λ i. same i ∷ rest i
+
+-- what is there, and must be
+pub one_there : {A X : Type 0} (tells : A → X → Type 0) → ((a : A) (x y : X) → tells a x → tells a y → x ≡ y) → (found : Option A) (x y : X)
+    → MatchOption found ⊥ (λ a. tells a x) → MatchOption found ⊥ (λ a. tells a y) → x ≡ y
+one_there tells one None x y is also = absurd is
+one_there tells one (Some a) x y is also = one a x y is also
+
+-- what is there, or what stands for it
+pub one_or : {X : Type 0} (tells : Data → X → Type 0) → IsOne tells → (absent : X) (found : Option Data) (x y : X)
+    → MatchOption found (x ≡ absent) (λ value. tells value x) → MatchOption found (y ≡ absent) (λ value. tells value y) → x ≡ y
+one_or tells one absent None x y is also = is ∙ sym also
+one_or tells one absent (Some value) x y is also = one value x y is also
+
+pub one_list : {X : Type 0} (tells : Data → X → Type 0) → IsOne tells → IsOne (IsList tells)
+one_list tells one value xs ys is also = one_there (DecodeEach tells) (one_each tells one) (as_array value) xs ys is also
+
+pub one_object : {X : Type 0} (has : Members → X → Type 0) → ((members : Members) (x y : X) → has members x → has members y → x ≡ y) → IsOne (IsObject has)
+one_object has one value x y is also = one_there has one (as_object value) x y is also
+
+-- ---- labels
+
+one_label : (v : Data) (p q : Bor (List ℕ) × Bor (List ℕ)) → IsPair v p → IsPair v q → (p.0.now ≡ q.0.now) × (p.1.now ≡ q.1.now)
+one_label v p q is also =
+    let same : Some (item (string p.0.now) (item (string p.1.now) no_items)) ≡ Some (item (string q.0.now) (item (string q.1.now) no_items)) = sym is ∙ also in
+    ((cc), (cc))
+
+one_more : (p q : Bor (List ℕ) × Bor (List ℕ)) (ps qs : List (Bor (List ℕ) × Bor (List ℕ))) → p.0.now ≡ q.0.now → p.1.now ≡ q.1.now
+    → labels_in ps ≡ labels_in qs → labels_in (p ∷ ps) ≡ labels_in (q ∷ qs)
+one_more p q ps qs name value rest = λ i. record { name = name i; value = value i } ∷ rest i
+
+one_items : (items : Items) (ps qs : List (Bor (List ℕ) × Bor (List ℕ))) → DecodeEach IsPair items ps → DecodeEach IsPair items qs → labels_in ps ≡ labels_in qs
+one_items no_items [] [] is also = refl
+one_items no_items [] (q ∷ qs) is also = absurd also
+one_items no_items (p ∷ ps) qs is also = absurd is
+one_items (item v vs) [] qs is also = absurd is
+one_items (item v vs) (p ∷ ps) [] is also = absurd also
+one_items (item v vs) (p ∷ ps) (q ∷ qs) is also =
+    let same = one_label v p q is.0 also.0 in
+    one_more p q ps qs same.0 same.1 (one_items vs ps qs is.1 also.1)
+
+one_array : (found : Option Items) (ps qs : List (Bor (List ℕ) × Bor (List ℕ))) → MatchOption found ⊥ (λ items. DecodeEach IsPair items ps)
+    → MatchOption found ⊥ (λ items. DecodeEach IsPair items qs) → labels_in ps ≡ labels_in qs
+one_array None ps qs is also = absurd is
+one_array (Some items) ps qs is also = one_items items ps qs is also
+
+one_members : (ps qs : List (Bor (List ℕ) × Bor (List ℕ))) → text_members ps ≡ text_members qs → labels_in ps ≡ labels_in qs
+one_members [] [] is = refl
+one_members [] (q ∷ qs) is = absurd (cc)
+one_members (p ∷ ps) [] is = absurd (cc)
+one_members (p ∷ ps) (q ∷ qs) is = one_more p q ps qs (cc) (cc) (one_members ps qs (cc))
+
+-- the pairs that a value tells are those of one list of labels
+pub one_pairs : (dialect : Dialect) (value : Data) (ps qs : List (Bor (List ℕ) × Bor (List ℕ))) → DecodesToPairs dialect value ps → DecodesToPairs dialect value qs
+    → labels_in ps ≡ labels_in qs
+one_pairs Lenient value ps qs is also = one_array (as_array value) ps qs is also
+one_pairs Strict value ps qs is also = by (as_object value) is also
+  where
+    by : (o : Option Members) → MatchOption o (MatchOption (as_array value) ⊥ (λ items. DecodeEach IsPair items ps)) (λ members. members ≡ text_members ps)
+        → MatchOption o (MatchOption (as_array value) ⊥ (λ items. DecodeEach IsPair items qs)) (λ members. members ≡ text_members qs)
+        → labels_in ps ≡ labels_in qs
+    by None is also = one_array (as_array value) ps qs is also
+    by (Some ms) is also = one_members ps qs (sym is ∙ also)
+
+-- in the strict dialect the members of an object are pairs
+pub object_pairs : (value : Data) (members : Members) (ps : List (Bor (List ℕ) × Bor (List ℕ))) → Some members ≡ as_object value
+    → DecodesToPairs Strict value ps → members ≡ text_members ps
+object_pairs value ms ps is told =
+    subst (λ (o : Option Members). MatchOption o (IsList IsPair value ps) (λ ms. ms ≡ text_members ps)) (sym is) told
+
+-- what is no object is an array of pairs
+pub array_pairs : (value : Data) (ps : List (Bor (List ℕ) × Bor (List ℕ))) → is_some (as_object value) ≡ false → DecodesToPairs Strict value ps
+    → IsList IsPair value ps
+array_pairs value ps other told = by (as_object value) other told
+  where
+    by : (o : Option Members) → is_some o ≡ false → MatchOption o (IsList IsPair value ps) (λ ms. ms ≡ text_members ps) → IsList IsPair value ps
+    by None other told = told
+    by (Some ms) other told = absurd (cc)
+
+-- an object that is none
+pub no_object : (value : Data) → None ≡ as_object value → is_some (as_object value) ≡ true → ⊥
+no_object value none some = absurd (cc (ap is_some none))
+
+-- ---- matchers
+
+pub one_three : IsOne IsMatcher
+one_three value m n is also =
+    let same : Some (item (string m.name) (item (string (operator_text m.op)) (item (string m.value) no_items)))
+    ≡ Some (item (string n.name) (item (string (operator_text n.op)) (item (string n.value) no_items))) = sym is ∙ also in
+    let name : m.name ≡ n.name = cc in
+    let op : m.op ≡ n.op = one_op m.op n.op (cc) in
+    let text : m.value ≡ n.value = cc in
+    λ i. record { name = name i; op = op i; value = text i }
+
+-- the second of a matcher's texts is its operator's
+pub same_operator : (m : MatcherParts) (name operator value : List ℕ)
+    → Some (item (string m.name) (item (string (operator_text m.op)) (item (string m.value) no_items)))
+    ≡ Some (item (string name) (item (string operator) (item (string value) no_items))) → operator_text m.op ≡ operator
+same_operator m name operator value is = cc
+
+-- the matcher of three texts
+pub written_so : (found : Option Items) (name operator value : List ℕ) (parts : MatcherParts)
+    → found ≡ Some (item (string name) (item (string operator) (item (string value) no_items))) → parts.name ≡ name
+    → operator_text parts.op ≡ operator → parts.value ≡ value
+    → found ≡ Some (item (string parts.name) (item (string (operator_text parts.op)) (item (string parts.value) no_items)))
+written_so found name operator value parts is same_name same_op same_value = cc
+
+one_written : (dialect : Dialect) → IsOne (IsMatcherIn dialect)
+one_written Lenient value m n is also = one_three value m n is also
+one_written Strict value m n is also = by (as_str value) is also
+  where
+    by : (o : Option (List ℕ)) → MatchOption o (IsMatcher value m) (λ text. IsMatcherText text m) → MatchOption o (IsMatcher value n) (λ text. IsMatcherText text n) → m ≡ n
+    by None is also = one_three value m n is also
+    by (Some text) is also = one_text text m n is also
+
+pub one_matcher : (dialect : Dialect) → IsOne (DecodesToMatcher dialect)
+one_matcher dialect value m n is also = one_written dialect value m n is.written also.written
+
+pub one_matchers : (dialect : Dialect) (found : Option Data) (ms ns : List MatcherParts) → MatchOption found (ms ≡ []) (λ value. IsList (DecodesToMatcher dialect) value ms)
+    → MatchOption found (ns ≡ []) (λ value. IsList (DecodesToMatcher dialect) value ns) → ms ≡ ns
+one_matchers dialect found ms ns is also =
+    one_or (IsList (DecodesToMatcher dialect)) (one_list (DecodesToMatcher dialect) (one_matcher dialect)) [] found ms ns is also
+
+-- ---- texts and rules
+
+pub one_text_of : IsOne IsText
+one_text_of = one_read as_str
+
+one_rule_of : (dialect : Dialect) (members : Members) (r s : RuleData) → HasRule dialect members r → HasRule dialect members s → r ≡ s
+one_rule_of dialect members r s is also =
+    let source = one_matchers dialect (get_member (codes "source") members) r.source s.source is.source also.source in
+    let target = one_matchers dialect (get_member (codes "target") members) r.target s.target is.target also.target in
+    let equal = one_or (IsList IsText) (one_list IsText one_text_of) [] (get_member (codes "equal") members) r.equal s.equal is.equal also.equal in
+    λ i. record { source = source i; target = target i; equal = equal i }
+
+pub one_rule : (dialect : Dialect) → IsOne (DecodesToRule dialect)
+one_rule dialect = one_object (HasRule dialect) (one_rule_of dialect)
+
+-- ---- routes
+
+all_named : (names : List (List ℕ)) → DecodeEach IsText (item (string all_labels) no_items) names → list_any (λ name. bytes_eq name all_labels) names ≡ true
+all_named [] each = absurd each
+all_named (n ∷ []) each =
+    let same : n ≡ all_labels = cc in
+    ap (λ (t : List ℕ). list_any (λ name. bytes_eq name all_labels) (t ∷ [])) same
+all_named (n ∷ m ∷ ns) each = absurd each.1
+
+-- names that are told beside all labels alone
+pub all_or_names : (value : Data) (names : List (List ℕ)) → as_array value ≡ Some (item (string all_labels) no_items) → IsList IsText value names
+    → list_any (λ name. bytes_eq name all_labels) names ≡ true
+all_or_names value names is told =
+    all_named names (subst (λ (o : Option Items). MatchOption o ⊥ (λ items. DecodeEach IsText items names)) is told)
+
+pub one_group_by : IsOne IsGroupBy
+one_group_by value All All is also = refl
+one_group_by value All (Names names) is also = absurd (cc (all_or_names value names is also.0, also.1))
+one_group_by value (Names names) All is also = absurd (cc (all_or_names value names also is.0, is.1))
+one_group_by value (Names names) (Names others) is also = ap Names (one_list IsText one_text_of value names others is.0 also.0)
+
+-- routes of one name with these options
+pub one_options : (members : Members) (r s : Route) → r.name ≡ s.name → DecodesToOptions members r → DecodesToOptions members s → r ≡ s
+one_options members r s name is also =
+    let receiver = one_there IsText one_text_of (get_member (codes "receiver") members) r.receiver s.receiver is.receiver also.receiver in
+    let group_by = one_or IsGroupBy one_group_by (Names []) (get_member (codes "group_by") members) r.group_by s.group_by is.group_by also.group_by in
+    let wait = one_or IsDuration (one_read duration_in) 30000 (get_member (codes "group_wait") members) r.group_wait s.group_wait is.group_wait also.group_wait in
+    let interval = one_or IsInterval (one_read interval_in) 300000 (get_member (codes "group_interval") members) r.group_interval s.group_interval is.group_interval also.group_interval in
+    let repeat = one_or IsInterval (one_read interval_in) 14400000 (get_member (codes "repeat_interval") members) r.repeat_interval s.repeat_interval is.repeat_interval also.repeat_interval in
+    λ i. record { name = name i; receiver = receiver i; group_by = group_by i; group_wait = wait i; group_interval = interval i; repeat_interval = repeat i }
+
+one_root_of : (dialect : Dialect) (members : Members) (r s : Route) → HasRoot dialect members r → HasRoot dialect members s → r ≡ s
+one_root_of dialect members r s is also =
+    one_options members r s (is.name ∙ sym also.name) is.options also.options
+
+pub one_root : (dialect : Dialect) → IsOne (DecodesToRoot dialect)
+one_root dialect = one_object (HasRoot dialect) (one_root_of dialect)
+
+one_child_of : (dialect : Dialect) (members : Members) (c d : Child) → HasChild dialect members c → HasChild dialect members d → c ≡ d
+one_child_of dialect members c d is also =
+    let name = one_there IsText one_text_of (get_member (codes "name") members) c.route.name d.route.name is.name also.name in
+    let route = one_options members c.route d.route name is.options also.options in
+    let matchers = one_matchers dialect (get_member (codes "matchers") members) c.matchers d.matchers is.matchers also.matchers in
+    let goes_on = one_or IsFlag (one_read as_bool) false (get_member (codes "continue") members) c.goes_on d.goes_on is.goes_on also.goes_on in
+    λ i. record { route = route i; matchers = matchers i; goes_on = goes_on i }
+
+pub one_child : (dialect : Dialect) → IsOne (DecodesToChild dialect)
+one_child dialect = one_object (HasChild dialect) (one_child_of dialect)
+
+-- ---- receivers, limits and the whole
+
+one_integration_of : (dialect : Dialect) (members : Members) (m n : Integration) → HasIntegration dialect members m → HasIntegration dialect members n → m ≡ n
+one_integration_of dialect members m n is also =
+    let kind = one_there IsText one_text_of (get_member (codes "kind") members) m.kind n.kind is.kind also.kind in
+    let resolved = one_or IsFlag (one_read as_bool) true (get_member (codes "send_resolved") members) m.send_resolved n.send_resolved is.send_resolved also.send_resolved in
+    λ i. record { kind = kind i; send_resolved = resolved i }
+
+pub one_integration : (dialect : Dialect) → IsOne (DecodesToIntegration dialect)
+one_integration dialect = one_object (HasIntegration dialect) (one_integration_of dialect)
+
+one_receiver_of : (dialect : Dialect) (members : Members) (r s : Receiver) → HasReceiver dialect members r → HasReceiver dialect members s → r ≡ s
+one_receiver_of dialect members r s is also =
+    let name = one_there IsText one_text_of (get_member (codes "name") members) r.name s.name is.name also.name in
+    let integrations = one_there (IsList (DecodesToIntegration dialect)) (one_list (DecodesToIntegration dialect) (one_integration dialect)) (get_member (codes "integrations") members)
+    r.integrations s.integrations is.integrations also.integrations in
+    λ i. record { name = name i; integrations = integrations i }
+
+pub one_receiver : (dialect : Dialect) → IsOne (DecodesToReceiver dialect)
+one_receiver dialect = one_object (HasReceiver dialect) (one_receiver_of dialect)
+
+one_limits_of : (dialect : Dialect) (members : Members) (l m : Limits) → HasLimits dialect members l → HasLimits dialect members m → l ≡ m
+one_limits_of dialect members l m is also =
+    let names = one_or IsNumber (one_read number_in) greatest_limits.names (get_member (codes "names") members) l.names m.names is.names also.names in
+    let groups = one_or IsNumber (one_read number_in) greatest_limits.groups (get_member (codes "groups") members) l.groups m.groups is.groups also.groups in
+    let silences = one_or IsNumber (one_read number_in) greatest_limits.silences (get_member (codes "silences") members) l.silences m.silences is.silences also.silences in
+    let flushes = one_or IsNumber (one_read number_in) greatest_limits.flushes (get_member (codes "flushes") members) l.flushes m.flushes is.flushes also.flushes in
+    let history = one_or IsNumber (one_read number_in) greatest_limits.history (get_member (codes "history") members) l.history m.history is.history also.history in
+    λ i. record { names = names i; groups = groups i; silences = silences i; flushes = flushes i; history = history i }
+
+pub one_limits : (dialect : Dialect) → IsOne (DecodesToLimits dialect)
+one_limits dialect = one_object (HasLimits dialect) (one_limits_of dialect)
+
+one_parts_of : (dialect : Dialect) (members : Members) (c d : Config) → HasParts dialect members c → HasParts dialect members d → c ≡ d
+one_parts_of dialect members c d is also =
+    let retention = one_or IsDuration (one_read duration_in) 432000000 (get_member (codes "retention") members) c.retention d.retention is.retention also.retention in
+    let limits = one_or (DecodesToLimits dialect) (one_limits dialect) greatest_limits (get_member (codes "limits") members) c.limits d.limits is.limits also.limits in
+    let receivers = one_there (IsList (DecodesToReceiver dialect)) (one_list (DecodesToReceiver dialect) (one_receiver dialect)) (get_member (codes "receivers") members)
+    c.receivers d.receivers is.receivers also.receivers in
+    let root = one_there (DecodesToRoot dialect) (one_root dialect) (get_member (codes "route") members) c.routes.root d.routes.root is.root also.root in
+    let children = one_or (IsList (DecodesToChild dialect)) (one_list (DecodesToChild dialect) (one_child dialect)) [] (get_member (codes "children") members)
+    is.children also.children is.listed also.listed in
+    let routes : c.routes ≡ d.routes = is.tree ∙ (λ i. tree_of (root i) (children i)) ∙ sym also.tree in
+    let rules = one_or (IsList (DecodesToRule dialect)) (one_list (DecodesToRule dialect) (one_rule dialect)) [] (get_member (codes "inhibit") members)
+    c.rules d.rules is.rules also.rules in
+    λ i. record { routes = routes i; receivers = receivers i; rules = rules i; retention = retention i; limits = limits i }
+
+pub one_parts : (dialect : Dialect) → IsOne (IsObject (HasParts dialect))
+one_parts dialect = one_object (HasParts dialect) (one_parts_of dialect)

@@ -1,0 +1,25 @@
+use Rattle.std.proofs.Common.{◌≡◌, List, [], subst, sym}
+use Rattle.std.specs.List.{list_all}
+use Rattle.std.specs.Prelude.{IsTrue}
+use Rattle.serde_json.specs.Find.{get_member}
+use Rattle.serde_json.specs.View.{members_view, view}
+use Rattle.am_cli.specs.Decoding.{HasOr, IsList}
+use Rattle.am_cli.specs.declared.reader.Dialect.{Dialect}
+use Rattle.am_cli.proofs.Decoding.{found, narrowed}
+use Rattle.am_cli.proofs.reader.Object.list_or_none.Goals as goal
+
+pub returns-in-Some-clause-refused : goal.returns-in-Some-clause-refused
+returns-in-Some-clause-refused g c =
+    let member = c.in-Some.member in
+    let name = c.args.name.now in
+    let members = members_view c.args.self.now.members in
+    let decodes_to = g.T.FromJson.decodes_to in
+    let There = λ (xs : List g.row.T.Denot). IsList (decodes_to member.dialect) (view member.value) xs × IsTrue (list_all g.T.FromJson.never_refused xs) in
+    let Tells = λ (xs : List g.row.T.Denot). HasOr (IsList (decodes_to c.args.self.now.dialect)) [] name members xs × IsTrue (list_all g.T.FromJson.never_refused xs) in
+    narrowed There Tells
+    (λ xs told. (
+      subst (λ (dialect : Dialect). IsList (decodes_to dialect) (view member.value) xs) (sym c.in-Some.ensures.dialect)
+          (found (xs ≡ []) (λ v. IsList (decodes_to c.args.self.now.dialect) v xs) (view member.value) (get_member name members) c.in-Some.ensures.value told.0),
+      told.1,
+    ))
+    c.list.result c.list.ensures.refused

@@ -1,0 +1,4 @@
+-- members tell one list of planned actions at most
+pub mod OnePlan
+-- refusals that are handed on
+pub mod Refusals

@@ -1,0 +1,26 @@
+use Rattle.std.proofs.Common.{◌≡◌, ◌≢◌, Some, None, codes}
+use Rattle.serde_json.specs.Data.{Data, Members}
+use Rattle.serde_json.specs.Find.{get_member}
+use Rattle.serde_json.specs.View.{members_view, view}
+use Rattle.am_cli.proofs.Decoding.{found}
+use Rattle.am_cli.specs.Decoding.{HasNone}
+use Rattle.am_plans.proofs.Decodings.{failed, fails_less}
+use Rattle.am_plans.specs.Expected.{SaysExactly}
+use Rattle.am_plans.proofs.expectation.content.check_exactly.Goals as goal
+
+alone : (members : Members) (value : Data) → Some value ≡ get_member (codes "exactly") members → SaysExactly members
+    → HasNone (codes "firing") members × HasNone (codes "resolved") members
+alone members value is told =
+    found Unit (λ v. HasNone (codes "firing") members × HasNone (codes "resolved") members) value (get_member (codes "exactly") members) is told
+
+pub returns-in_err-refuse_beside-clause-refused : goal.returns-in_err-refuse_beside-clause-refused
+returns-in_err-refuse_beside-clause-refused c =
+    let members = members_view c.args.item.now.members in
+    failed (SaysExactly members → ⊥) c.from_residual.result
+    (λ told. c.in_err-refuse_beside.ensures.there (alone members (view c.in-Some.exactly.value) c.in-Some.ensures.value told).0)
+
+pub returns-clause-refused : goal.returns-clause-refused
+returns-clause-refused c =
+    let members = members_view c.args.item.now.members in
+    fails_less (get_member (codes "resolved") members ≢ None) (SaysExactly members → ⊥)
+    (λ there told. there (alone members (view c.in-Some.exactly.value) c.in-Some.ensures.value told).1) c.refuse_beside-2.result c.refuse_beside-2.ensures.there

@@ -1,5 +1,5 @@
 -- Forgetting: between the code of a forgetting and its definition. Which label sets are in groups.
-use Rattle.std.specs.Prelude.{◌≡◌, ℕ, Bool, not, ◌&&◌, ◌||◌, List}
+use Rattle.std.specs.Prelude.{◌≡◌, ℕ, Bool, not, ◌&&◌, ◌||◌, List, [], ◌∷◌}
 use Rattle.std.specs.List.{list_any}
 use Rattle.am_alerts.specs.AlertData.{AlertData, is_resolved}
 use Rattle.am_alerts.specs.Labels.{same_label_set}
@@ -27,3 +27,8 @@ AddsLabelsOf members old new = (a : AlertData) → is_labelled new a ≡ (is_lab
 -- whether an alert is resolved at t, and its label set isn't one of these
 abbrev pub is_idle_but_for : List (List Label) → ℕ → AlertData → Bool
 is_idle_but_for sets t a = is_resolved a t && not (is_labelled sets a)
+
+-- the first of these alerts was tested, and those after it are left; where there is none, nothing is said
+abbrev pub TestsFirst : List (List Label) → ℕ → List AlertData → Bool → List AlertData → Type 0
+TestsFirst sets t [] stays left = Unit {0}
+TestsFirst sets t (a ∷ others) stays left = (stays ≡ not (is_idle_but_for sets t a)) × (left ≡ others)

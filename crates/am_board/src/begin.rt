@@ -1,8 +1,9 @@
 //! Begins: `Board::begin` calls `take_group`, which picks the group and opens a flush or ends it at
 //! once.
 //!
-//! Steps of `take_group`: `Groups::first_due` picks the group, `put_in_order` sorts it, `plan`
-//! finds what is unmuted and whom to notify. A begin that opens a flush allocates in this order:
+//! Steps, if the history has room (`take_with_room`): `Groups::first_due` picks the group,
+//! `put_in_order` sorts it, `plan` finds what is unmuted and whom to notify. A begin that opens a
+//! flush allocates in this order:
 //! - the unmuted alerts, their label sets, the integrations that need an update;
 //! - all that goes into the board and the ticket;
 //! - the capacity of the history, the open flush, the log keys.
@@ -70,8 +71,34 @@ pub(crate) struct ChosenGroup {
 }
 
 /// Takes the group that is due first and has no open flush, and opens a flush of it unless no
-/// integration needs an update. `is_quiet` says that none does: then that isn't worked out.
+/// integration needs an update.
 pub(crate) fn take_group(
+    alloc: Global,
+    config: &Config,
+    id: u64,
+    state: &mut State,
+    sources: &Sources,
+    pass: u32,
+    now: u64,
+) -> Result<Begun, Fault>
+    requires good { StateInvariant config.now state.old }
+    requires sources { AreLearnt config.now.rules state.old.known.items sources.now }
+    ensures { MatchResult result
+        (λ begun. (begin_cause config.now (vec_len state.old.history) (state_of state.old) (moment (state_of state.old) now) ≡ None)
+        × AppliesCall config.now id (entry pass (Call.Begin now) (reply_of begun)) state.old state.new × IsFresh id begun)
+        (λ fault. IsAnswer (begin_cause config.now (vec_len state.old.history) (state_of state.old) (moment (state_of state.old) now)) fault
+        × LeavesUnchanged config.now state.old state.new) }
+{
+    if !state.has_room(2, config.limits.history) {
+        return Err(Fault::HistoryFull);
+    }
+    take_with_room(alloc, config, id, state, sources, pass, now, false)
+}
+
+/// Does what `take_group` does once the history is known to have room.
+///
+/// `is_quiet` says that no integration needs an update: then that isn't worked out.
+pub(crate) fn take_with_room(
     alloc: Global,
     config: &Config,
     id: u64,
@@ -83,6 +110,7 @@ pub(crate) fn take_group(
 ) -> Result<Begun, Fault>
     requires good { StateInvariant config.now state.old }
     requires sources { AreLearnt config.now.rules state.old.known.items sources.now }
+    requires room { vec_len state.old.history + vec_len state.old.flushes + 2 ≤ config.now.limits.history }
     requires quiet { is_quiet ≡ true → IsQuietAt config.now (state_of state.old) (moment (state_of state.old) now) }
     ensures { MatchResult result
         (λ begun. (begin_cause config.now (vec_len state.old.history) (state_of state.old) (moment (state_of state.old) now) ≡ None)
@@ -90,9 +118,6 @@ pub(crate) fn take_group(
         (λ fault. IsAnswer (begin_cause config.now (vec_len state.old.history) (state_of state.old) (moment (state_of state.old) now)) fault
         × LeavesUnchanged config.now state.old state.new) }
 {
-    if !state.has_room(2, config.limits.history) {
-        return Err(Fault::HistoryFull);
-    }
     let t = state.moment(now);
     let Some(place) = state.groups.first_due(state.flushes.as_slice(), t) else {
         return begin_nothing(state, pass, now, t);

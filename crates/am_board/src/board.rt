@@ -109,7 +109,8 @@ impl Board {
     /// - `TooManyGroups`: with the missing groups there would be more than the limit.
     /// - `NoMemory`, which can precede `TooManyGroups` while the groups are looked for.
     ///
-    /// Cost: constant on average for a known label set; a new one is matched with all routes.
+    /// Cost: constant on average for a known label set; a new one is matched with all routes and
+    /// inhibition rules.
     pub fn insert(
         &mut self,
         alloc: Global,
@@ -195,7 +196,6 @@ impl Board {
             &self.sources,
             pass,
             now,
-            false,
         )
     }
 
@@ -295,16 +295,22 @@ impl Board {
     /// Forgets the known alerts that are resolved and in no group, and the silences that are over.
     ///
     /// An alert is resolved if its end is at or before `now` (milliseconds), a silence is over if
-    /// its end is. A forgotten alert that is inserted again is a new one. A program that runs for
-    /// long calls it now and then, so that no limit of names or silences is reached by what is over
-    /// (Alertmanager's GC of alerts and of silences).
+    /// its end is. Until they are forgotten both count for the limits of names and of silences, so a
+    /// program that runs for long calls this now and then (Alertmanager's GC of alerts and of
+    /// silences). A resolved alert still counts while it is in a group, as where a notification of
+    /// that group fails.
+    ///
+    /// A forgotten label set that is inserted again counts as a new one for the limit. Its groups
+    /// are as they were, with their due times and log rows. A silence that is set again under a
+    /// forgotten id isn't `replaced`.
     ///
     /// # Errors
     ///
     /// In this order, and each changes nothing: `HistoryFull`, then `NoMemory`.
     ///
-    /// Cost: one look-up for each alert of a group, and for each resolved one. Where an alert went,
-    /// the others are learned anew as inhibition sources.
+    /// Cost: one look-up for each alert of a group, and two for each resolved one that is known.
+    /// Where an alert went, all that are left are matched anew with the sources of the inhibition
+    /// rules. Cached group names stay.
     pub fn forget(&mut self, alloc: Global, pass: u32, now: u64) -> Result<Forgotten, Fault>
         ensures recorded { IfOk result
             (λ forgotten. self.new ≡ with_record self.old (entry pass (Call.Forget now) (Reply.Forgotten forgotten))) }
@@ -312,14 +318,20 @@ impl Board {
         ensures cause { IsCaused (forget_cause self.old.config (records_at self.old) (state_at self.old)) result }
         ensures refused { OnErr result (self.new ≡ self.old) }
     {
-        let forgotten = forget_idle(alloc, &self.config, &mut self.state, pass, now)?;
+        let forgotten = forget_idle(
+            alloc,
+            &self.config,
+            &mut self.state,
+            &mut self.destinations,
+            pass,
+            now,
+        )?;
         renew(
             alloc,
             &self.config,
             self.state.known.as_slice(),
             forgotten.alerts,
             &mut self.sources,
-            &mut self.destinations,
         );
         Ok(forgotten)
     }

@@ -1,20 +1,26 @@
 //! The names of the groups that known alerts go to. `insert` fills and reads this cache. `forget`
-//! empties it where an alert goes, since names are by place.
+//! drops the names of the alerts that go, and moves the others, since names are by place.
 //!
 //! A name in it is the group's own shared copy where the group exists. It is not replaced when the
 //! group goes: the next group of that name takes it over. A group is found by its name each time,
 //! and not by a cached place, since a maintenance moves groups.
 ghost use Rattle.std.specs.Prelude.{◌≡◌, ◌<◌, [], IfSome, List, length, position};
+ghost use Rattle.am_board.specs.Forgetting.{is_idle_but_for, TestsFirst};
 ghost use Rattle.am_alerts.specs.AlertData.{AlertData};
 ghost use Rattle.am_alerts.specs.Labels.{same_label_set};
 ghost use Rattle.am_alerts.specs.declared.labels.Label.{Label};
 ghost use Rattle.am_board.specs.GroupNameCache.{AreKept};
 ghost use Rattle.am_mute.specs.Sources.{IsAt};
 ghost use Rattle.am_model.specs.Insert.{names_for};
+ghost use Rattle.am_model.specs.Lists.{without};
 ghost use Rattle.am_model.specs.declared.config.Config.{Config};
 
 use crate::group::GroupName;
+use crate::known::is_idle;
+use am_alerts::alert::Alert;
+use am_alerts::labels::Labels;
 use am_alerts::sequence::Sequence;
+use indexmap::IndexSet;
 use std::alloc::{AllocError, Global};
 use std::marker::Model;
 
@@ -78,5 +84,26 @@ impl GroupNameCache {
         }
         self.names[place] = Some(names);
         Ok(())
+    }
+    /// Drops the names of those of these known alerts that are resolved at `t` and whose label set
+    /// isn't one of these. The others move to the places that their alerts get.
+    pub(crate) fn drop_idle(&mut self, known: &[Alert], sets: &IndexSet<Labels>, t: u64)
+        ensures { (config : Config) → AreKept config known.now self.old
+            → AreKept config (without (is_idle_but_for sets.now.keys t) known.now) self.new }
+    {
+        let mut rest = known;
+        self.names.retain(
+            |_names: &Option<Sequence<GroupName>>| -> bool
+                ensures { TestsFirst sets.entry.now.keys t rest.entry.now result rest.exit.now }
+            {
+                match rest.split_first() {
+                    None => false,
+                    Some((alert, others)) => {
+                        rest = others;
+                        !is_idle(alert, sets, t)
+                    }
+                }
+            },
+        );
     }
 }

@@ -2,14 +2,17 @@
 //! go, and so do silences that are over.
 //!
 //! The label sets that are in groups are gathered first, and then looked up: one look-up for each
-//! alert of a group, and one for each known alert that is resolved. From the first change on
-//! nothing can fail. The log forgets its keys without a row too, but those of open flushes, whose
-//! finish needs them. No definition sees these keys.
+//! alert of a group, and two for each known alert that is resolved, since the cached group names
+//! move by a walk of their own. From the first change on nothing can fail. The log forgets its keys
+//! without a row too, except those of open flushes, whose finish needs them. The definitions don't
+//! see these keys: clause `keys` of `forget_idle` alone says that they go.
 ghost use Rattle.std.specs.Prelude.{◌≡◌, ℕ, List, None, IfOk, MatchResult, OnOk, map, vec_len};
 ghost use Rattle.am_alerts.specs.AlertData.{AlertData};
 ghost use Rattle.am_model.specs.Causes.{forget_cause};
 ghost use Rattle.am_model.specs.Records.{entry};
+ghost use Rattle.am_model.specs.State.{same_name};
 ghost use Rattle.am_mute.specs.Sources.{AreLearnt};
+ghost use Rattle.am_nflog.specs.Log.{without_unused};
 ghost use Rattle.am_board.specs.Forgetting.{AreGrouped, AddsLabelsOf};
 ghost use Rattle.am_board.specs.GroupNameCache.{AreKept};
 ghost use Rattle.am_board.specs.Refinement.{group_state, member_state, state_of};
@@ -28,20 +31,26 @@ use am_mute::sources::Sources;
 use indexmap::IndexSet;
 use std::alloc::{AllocError, Global};
 
-/// Removes the known alerts that are resolved and in no group, and the silences that are over.
+/// Removes the known alerts that are resolved and in no group, with their cached names, and the
+/// silences that are over. The log forgets the keys without a row, except those of open flushes.
 pub(crate) fn forget_idle(
     alloc: Global,
     config: &Config,
     state: &mut State,
+    destinations: &mut GroupNameCache,
     pass: u32,
     now: u64,
 ) -> Result<Forgotten, Fault>
     requires good { StateInvariant config.now state.old }
-    ensures { MatchResult result
+    requires kept { AreKept config.now state.old.known.items destinations.old }
+    ensures forgot { MatchResult result
         (λ forgotten. (forget_cause config.now (vec_len state.old.history) (state_of state.old) ≡ None)
         × ((id : ℕ) → AppliesCall config.now id (entry pass (Call.Forget now) (Reply.Forgotten forgotten)) state.old state.new))
         (λ fault. IsAnswer (forget_cause config.now (vec_len state.old.history) (state_of state.old)) fault
         × LeavesUnchanged config.now state.old state.new) }
+    ensures keys { OnOk result
+        (state.new.log ≡ without_unused same_name (map (λ f. f.group) state.old.flushes.items) state.old.log) }
+    ensures kept { AreKept config.now state.new.known.items destinations.new }
 {
     if !state.has_room(1, config.limits.history) {
         return Err(Fault::HistoryFull);
@@ -52,6 +61,7 @@ pub(crate) fn forget_idle(
 
     let t = state.moment(now);
     state.clock = t;
+    destinations.drop_idle(state.known.as_slice(), &grouped, t);
     let forgotten = Forgotten {
         alerts: state.known.drop_idle(&grouped, t),
         silences: state.silences.drop_over(alloc, t),
@@ -63,27 +73,23 @@ pub(crate) fn forget_idle(
     Ok(forgotten)
 }
 
-/// Makes the index of sources anew, and drops the cached group names, if so many alerts went.
+/// Makes the index of sources anew, if `gone` isn't zero.
 ///
-/// Both go by the places of known alerts. Where memory for the index is refused a later insert
-/// completes it.
+/// It goes by the places of known alerts. Where memory for it is refused a later insert completes
+/// it.
 pub(crate) fn renew(
     alloc: Global,
     config: &Config,
     known: &[Alert],
     gone: usize,
     sources: &mut Sources,
-    destinations: &mut GroupNameCache,
 )
-    ensures sources { (before : List AlertData) → AreLearnt config.now.rules before sources.old → (gone ≡ 0 → known.now ≡ before)
+    ensures { (before : List AlertData) → AreLearnt config.now.rules before sources.old → (gone ≡ 0 → known.now ≡ before)
         → AreLearnt config.now.rules known.now sources.new }
-    ensures destinations { (before : List AlertData) → AreKept config.now before destinations.old → (gone ≡ 0 → known.now ≡ before)
-        → AreKept config.now known.now destinations.new }
 {
     if gone == 0 {
         return;
     }
-    *destinations = GroupNameCache::new(alloc);
     *sources = Sources::new(alloc);
     let _ = sources.learn(alloc, config.rules.as_slice(), known);
 }

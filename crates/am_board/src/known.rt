@@ -114,7 +114,7 @@ impl Known {
 }
 
 /// Whether an alert is resolved at `t`, and its label set isn't one of these.
-fn is_idle(alert: &Alert, sets: &IndexSet<Labels>, t: u64) -> bool
+pub(crate) fn is_idle(alert: &Alert, sets: &IndexSet<Labels>, t: u64) -> bool
     ensures { result ≡ is_idle_but_for sets.now.keys t alert.now }
 {
     alert.resolved_at(t) && !sets.contains(alert.labels())

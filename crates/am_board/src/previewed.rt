@@ -18,7 +18,7 @@ ghost use Rattle.am_board.specs.LogRows.{log_rows};
 ghost use Rattle.am_board.specs.Refinement.{state_of};
 ghost use Rattle.am_board.specs.Step.{StateInvariant, AppliesCall, LeavesUnchanged, IsAnswer, IsCaused};
 
-use crate::begin::{Begun, take_group};
+use crate::begin::{Begun, take_with_room};
 use crate::board::Board;
 use crate::config::Config;
 use crate::fault::Fault;
@@ -90,7 +90,7 @@ fn take_previewed(
     }
     let preview = preview_of(alloc, config, state, sources, now)?;
     let is_quiet = is_quiet(&preview);
-    match take_group(alloc, config, id, state, sources, pass, now, is_quiet) {
+    match take_with_room(alloc, config, id, state, sources, pass, now, is_quiet) {
         Ok(begun) => Ok((begun, preview)),
         Err(fault) => Err(fault),
     }

@@ -1,3 +1,4 @@
 pub mod Flushing
 pub mod Forgotten
 pub mod Grouped
+pub mod KeptNames

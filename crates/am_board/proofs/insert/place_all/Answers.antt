@@ -1,5 +1,5 @@
-use Rattle.std.proofs.Common.{◌≡◌, ◌∙◌, ◌≤◌, ◌++◌, ◌∷◌, [], ℕ, suc, List, Some, map, vec_len, length, arith, sym, ap, subst}
-use Rattle.std.specs.Prelude.{All, fold, reverse, ◌==◌}
+use Rattle.std.proofs.Common.{◌≡◌, ◌∙◌, ◌≤◌, ◌++◌, ◌∷◌, [], ℕ, suc, List, Some, map, vec_len, arith, sym, ap, subst}
+use Rattle.std.specs.Prelude.{fold, reverse, ◌==◌}
 use Rattle.std.proofs.lemmas.List.{reverse-append, reverse-reverse}
 use Rattle.std.proofs.lemmas.List.Elements.{All-pop}
 use Rattle.std.proofs.lemmas.List.Sorted.{All-permutation}

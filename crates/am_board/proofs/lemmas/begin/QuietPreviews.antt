@@ -1,5 +1,5 @@
 -- Where a preview has no reason to notify an integration, a begin asks none.
-use Rattle.std.proofs.Common.{◌≡◌, ℕ, Bool, true, false, not, ◌&&◌, ◌||◌, Option, Some, None, List, [], ◌∷◌, map, refl, sym, ap, ◌∙◌, subst, if◌then◌else◌}
+use Rattle.std.proofs.Common.{◌≡◌, ℕ, Bool, true, false, not, ◌&&◌, ◌||◌, Option, Some, None, List, [], ◌∷◌, map, refl, sym, ap, ◌∙◌, if◌then◌else◌}
 use Rattle.std.specs.Prelude.{filter, find}
 use Rattle.std.specs.List.{list_any}
 use Rattle.std.specs.Option.{option_map, option_map_or}
@@ -12,7 +12,7 @@ use Rattle.am_model.specs.declared.preview.Preview.{Preview}
 use Rattle.am_model.specs.declared.reason.Reason.{Reason}
 use Rattle.am_model.specs.declared.reason.Reason.TheVariants.{NothingLeft}
 use Rattle.am_model.specs.declared.views.RowView.{RowView}
-use Rattle.am_model.specs.Begin.{alert_cmp, asked_of, copy_under, firing_of, is_entry_of, label_sets, needs, resolved_of, taken}
+use Rattle.am_model.specs.Begin.{alert_cmp, asked_of, copy_under, firing_of, is_entry_of, label_sets, needs, resolved_of}
 use Rattle.am_model.specs.Configured.{integrations_of, route_muted, route_of, rules_of}
 use Rattle.am_model.specs.Lists.{in_order, unless, without}
 use Rattle.am_model.specs.State.{GroupState, State}

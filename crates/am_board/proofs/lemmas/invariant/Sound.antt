@@ -1,11 +1,9 @@
 -- What each accepted or refused call leaves of a board.
-use Rattle.std.proofs.Common.{◌≡◌, ℕ, ◌+◌, ◌*◌, ◌≤◌, false, Option, Some, None, List, [], ◌∷◌, ◌++◌, drop, length, vec_len, refl, sym, ap, ◌∙◌, subst, arith, append_assoc, length-append}
+use Rattle.std.proofs.Common.{◌≡◌, ◌+◌, ◌*◌, ◌≤◌, false, Option, Some, None, List, [], ◌∷◌, ◌++◌, drop, length, vec_len, refl, sym, ap, ◌∙◌, subst, arith, append_assoc, length-append}
 use Rattle.std.specs.Prelude.{sum_by, All}
 use Rattle.std.proofs.lemmas.List.Elements.{All-nil}
 use Rattle.am_alerts.specs.RoutingTree.{last_of}
-use Rattle.am_alerts.specs.AlertData.{AlertData}
 use Rattle.am_alerts.specs.declared.limits.TheConstants.{MAX_ROUTES}
-use Rattle.am_mute.specs.Silence.{SilenceData}
 use Rattle.am_mute.specs.SourceIndex.{SourceIndex}
 use Rattle.am_mute.specs.Sources.{AreLearnt}
 use Rattle.am_model.specs.declared.config.Config.{Config}

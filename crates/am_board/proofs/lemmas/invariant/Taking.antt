@@ -1,5 +1,5 @@
 -- A board hands out the records that it keeps.
-use Rattle.std.proofs.Common.{◌≡◌, ℕ, ◌+◌, ◌<◌, ◌≤◌, true, false, List, [], ◌++◌, Some, None, length, vec_len, vec_capacity, refl, sym, ap, ◌∙◌, subst, arith, append-nil, Vec, Global, nat_lt, if◌then◌else◌}
+use Rattle.std.proofs.Common.{◌≡◌, ℕ, ◌+◌, ◌<◌, ◌≤◌, true, false, List, [], ◌++◌, Some, None, length, vec_len, vec_capacity, sym, ap, ◌∙◌, subst, arith, append-nil, Vec, Global, nat_lt, if◌then◌else◌}
 use Rattle.std.proofs.lemmas.Bool.Decides.{nat_tests}
 use Rattle.am_ghost.specs.declared.ghost_list.GhostList.{GhostList}
 use Rattle.am_model.specs.declared.config.TheConstants.{MAX_HANDED}

@@ -2,7 +2,7 @@ use Rattle.std.proofs.Common.{◌≡◌, ◌∙◌, ◌++◌, List, Vec, Global,
 use Rattle.am_model.specs.declared.record.Record.{Record}
 use Rattle.am_board.specs.History.{BoardData}
 use Rattle.am_board.proofs.lemmas.invariant.Sound.{all_counted, few_calls}
-use Rattle.am_board.proofs.lemmas.invariant.Taking.{few_enough, none_open, seen_taken, sound_taken, too_many}
+use Rattle.am_board.proofs.lemmas.invariant.Taking.{few_enough, seen_taken, sound_taken}
 use Rattle.am_board.proofs.board.Board.take_history.Goals as goal
 
 pub overflow_add-handed : goal.overflow_add-handed

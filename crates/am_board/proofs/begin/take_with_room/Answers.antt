@@ -18,8 +18,8 @@ use Rattle.am_model.specs.declared.fault.Fault.{Fault}
 use Rattle.am_model.specs.State.{moment}
 use Rattle.am_board.proofs.lemmas.begin.Causes.{told, taken-none, cause-closed, cause-few, cause-quiet, planned_none, planned_some, planned_err, taking_found}
 use Rattle.am_board.proofs.lemmas.invariant.GroupNames.{routed_at}
-use Rattle.am_board.proofs.begin.take_group.Goals as goal
-use Rattle.am_board.proofs.begin.take_group.Goals.{After-at, After-due_again-due, In-Some-2}
+use Rattle.am_board.proofs.begin.take_with_room.Goals as goal
+use Rattle.am_board.proofs.begin.take_with_room.Goals.{After-at, After-due_again-due, In-Some-2}
 use Rattle.am_board.proofs.lemmas.invariant.Staying.{stays_itself}
 
 within : (c : After-at) → c.in-Some.place < length c.args.state.now.groups.items
@@ -43,7 +43,7 @@ returns-in_default c =
     let config = c.args.config.now in
     let s = c.args.state.now in
     let none = taken-none s c.moment-t.result s.groups.items c.as_slice.result.now refl c.as_slice.ensures.value c.in_default.ensures.first in
-    let cause = cause-closed config s c.args.now c.moment-t.result c.moment-t.ensures (c.has_room.ensures.0 c.if-not-has_room.false) (ap (λ o. opens_by config (state_of s) c.moment-t.result o) none) in
+    let cause = cause-closed config s c.args.now c.moment-t.result c.moment-t.ensures c.requires.room (ap (λ o. opens_by config (state_of s) c.moment-t.result o) none) in
     told config c.args.id c.args.pass c.args.now s c.begin_nothing.new.state (begin_cause config (vec_len s.history) (state_of s) (moment (state_of s) c.args.now)) c.begin_nothing.result cause
     (c.begin_nothing.ensures config c.args.id c.requires.good c.moment-t.ensures none)
 
@@ -58,7 +58,7 @@ returns-then-is_quiet c =
     let g = c.at.result.now in
     let quiet = subst (λ (n : ℕ). IsQuietAt config (state_of s) n) (sym c.moment-t.ensures) (c.requires.quiet c.if-is_quiet.true) in
     let none = quiet (group_state g) (takes at).first in
-    let cause = cause-quiet config c.args.id s (chosen at) g (takes at) (c.has_room.ensures.0 c.if-not-has_room.false) none in
+    let cause = cause-quiet config c.args.id s (chosen at) g (takes at) c.requires.room none in
     told config c.args.id c.args.pass c.args.now s c.begin_quiet.new.state (begin_cause config (vec_len s.history) (state_of s) (moment (state_of s) c.args.now)) c.begin_quiet.result cause
     (c.begin_quiet.ensures config c.args.id g c.requires.good (takes at) none)
 
@@ -90,7 +90,7 @@ returns-in_err-plan c =
     let same = c.put_in_order.ensures in
     let plan = subst (Plans c.args.config.now c.args.id (chosen at) (Err c.in_err-plan.field-0.0)) same c.in_err-plan.ensures in
     rw (p.1, p.2) (
-      planned_err c.args.config.now c.args.id c.args.state.now (chosen at) c.at.result.now (takes at) (c.has_room.ensures.0 c.if-not-has_room.false) c.in_err-plan.field-0.0 plan,
+      planned_err c.args.config.now c.args.id c.args.state.now (chosen at) c.at.result.now (takes at) c.requires.room c.in_err-plan.field-0.0 plan,
       subst (LeavesUnchanged c.args.config.now c.args.state.now) (sym same) (stays_itself c.args.config.now c.args.state.now c.requires.good),
     )
 
@@ -136,7 +136,7 @@ returns-in-None c =
     let same = c.put_in_order.ensures in
     let g = c.at.result.now in
     let none = planned_none config c.args.id s (chosen at) g (takes at) c.in_ok-plan.field-0 (subst (Plans config c.args.id (chosen at) (Ok c.in_ok-plan.field-0)) same c.in_ok-plan.ensures) c.in-None.is in
-    let cause = cause-quiet config c.args.id s (chosen at) g (takes at) (c.has_room.ensures.0 c.if-not-has_room.false) none in
+    let cause = cause-quiet config c.args.id s (chosen at) g (takes at) c.requires.room none in
     let ends = subst (λ (x : State). StateInvariant config x → IsChosen config x (chosen at) g → asked_of config (state_of x) c.moment-t.result (group_state g) ≡ [] → IsEnd config c.args.id c.args.pass c.args.now x c.begin_quiet-in-None.new.state c.begin_quiet-in-None.result)
     same (c.begin_quiet-in-None.ensures config c.args.id g) in
     told config c.args.id c.args.pass c.args.now s c.begin_quiet-in-None.new.state (begin_cause config (vec_len s.history) (state_of s) (moment (state_of s) c.args.now)) c.begin_quiet-in-None.result cause
@@ -149,7 +149,7 @@ returns-in-Some-2 c =
     let at = (goal.at.returns-in-Some-2 c).After-due_again-due in
     let g = c.at.result.now in
     let plan = opened (goal.at.returns-in-Some-2 c).In-Some-2 (takes at) in
-    let cause = cause-few config s c.args.now c.moment-t.result c.moment-t.ensures (c.has_room.ensures.0 c.if-not-has_room.false) plan.1 in
+    let cause = cause-few config s c.args.now c.moment-t.result c.moment-t.ensures c.requires.room plan.1 in
     let ends = subst (λ (x : State). StateInvariant config x → IsChosen config x (chosen at) g → asked_of config (state_of x) c.moment-t.result (group_state g) ≢ []
     → IsPlannedFlush config c.args.id (state_of x) c.moment-t.result (group_state g) c.in-Some-2.planned → IsEnd config c.args.id c.args.pass c.args.now x c.begin_flush.new.state c.begin_flush.result)
     c.put_in_order.ensures (c.begin_flush.ensures config g) in

@@ -28,6 +28,8 @@ pub mod Refinement
 pub mod Keyed
 -- the stored known alerts, under their labels, in the order of arrival
 pub mod Known
+-- between the code of a load and the definitions
+pub mod Loading
 -- the stored log as the list of its rows
 pub mod LogRows
 -- the stored alerts of a group, with the order of their labels

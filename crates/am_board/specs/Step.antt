@@ -6,6 +6,8 @@ use Rattle.am_model.specs.declared.config.TheConstants.{MAX_HANDED, MAX_HISTORY}
 use Rattle.am_model.specs.declared.fault.Fault.{Fault}
 use Rattle.am_model.specs.declared.fault.Fault.TheVariants.{NoMemory, HistoryFull}
 use Rattle.am_model.specs.declared.fault.Fault.TheVariants.{TooManyNames, TooManyGroups, TooManySilences, TooManyOpen}
+use Rattle.am_model.specs.declared.fault.LoadFault.{LoadFault}
+use Rattle.am_model.specs.declared.fault.LoadFault.TheVariants as load
 use Rattle.am_model.specs.declared.fault.NoteFault.{NoteFault}
 use Rattle.am_model.specs.declared.fault.NoteFault.TheVariants as note
 use Rattle.am_model.specs.declared.fault.TakeFault.{TakeFault}
@@ -77,6 +79,16 @@ IsNoteAnswer (Some cause) fault = fault ≡ cause
 abbrev pub IsNoteCaused : {T : Type 0} → Option NoteFault → Result T NoteFault → Type 0
 IsNoteCaused cause (Ok x) = cause ≡ None
 IsNoteCaused cause (Err fault) = IsNoteAnswer cause fault
+
+-- a fault that a load may be answered where this is the first cause other than memory
+abbrev pub IsLoadAnswer : Option LoadFault → LoadFault → Type 0
+IsLoadAnswer None fault = fault ≡ load.NoMemory
+IsLoadAnswer (Some cause) fault = fault ≡ cause
+
+-- the result of a load is caused so
+abbrev pub IsLoadCaused : {T : Type 0} → Option LoadFault → Result T LoadFault → Type 0
+IsLoadCaused cause (Ok x) = cause ≡ None
+IsLoadCaused cause (Err fault) = IsLoadAnswer cause fault
 
 -- a fault that a taking of the records may be answered where this is the cause other than memory
 abbrev pub IsTakeAnswer : Option TakeFault → TakeFault → Type 0

@@ -3,32 +3,34 @@
 ghost use Rattle.std.specs.Prelude.{◌≡◌, ◌≢◌, ◌↔◌, None, Some, IfOk, IfErr, OnOk, OnErr, IsErrOf};
 ghost use Rattle.std.specs.Option.{option_map};
 ghost use Rattle.am_alerts.specs.Fault.{ok_unless};
-ghost use Rattle.am_model.specs.Causes.{insert_cause, silence_cause, begin_cause, maintain_cause, forget_cause, note_cause};
+ghost use Rattle.am_model.specs.Causes.{insert_cause, silence_cause, begin_cause, maintain_cause, forget_cause, load_cause, note_cause};
 ghost use Rattle.am_model.specs.Config.{AreAllowed, config_fault};
 ghost use Rattle.am_board.specs.History.{opening, state_at, records_at, IsReplyAt, with_record, reply_of, IsFresh};
 ghost use Rattle.am_board.specs.History.{HandsBack, IsForeign, IsNotOpen};
 ghost use Rattle.am_model.specs.Records.{entry, call_of_silence, IsNoteOf};
 ghost use Rattle.am_model.specs.State.{moment, flush_numbered};
-ghost use Rattle.am_board.specs.Step.{IsCaused, IsNoteCaused};
+ghost use Rattle.am_board.specs.Step.{IsCaused, IsLoadCaused, IsNoteCaused};
 
 use crate::begin::{Begun, take_group};
 use crate::config::Config;
 use crate::destinations::GroupNameCache;
-use crate::fault::{BoardFault, Fault, FinishFault, NoteFault};
+use crate::fault::{BoardFault, Fault, FinishFault, LoadFault, NoteFault};
 use crate::finish::finish_flush;
 use crate::flush::find_flush;
 use crate::forget::{forget_idle, renew};
 use crate::insert::put_alert;
+use crate::load::load_row;
 use crate::maintain::sweep;
 use crate::note::note_success;
 use crate::record::{
-    Call, Finished, Forgotten, Inserted, Maintained, Noted, Record, Reply, Silenced,
+    Call, Finished, Forgotten, Inserted, Loaded, Maintained, Noted, Record, Reply, Silenced,
 };
 use crate::silence::put_silence;
 use crate::state::State;
 use crate::ticket::Ticket;
 use am_alerts::alert::Alert;
 use am_ghost::GhostList;
+use am_model::views::RowView;
 use am_mute::silence::Silence;
 use am_mute::sources::Sources;
 use std::alloc::Global;
@@ -334,6 +336,34 @@ impl Board {
             &mut self.sources,
         );
         Ok(forgotten)
+    }
+
+    /// Takes over a row that another board's log had, as `rows` returns it (`nflog.Log.Merge`).
+    ///
+    /// It is put into the log, unless its expiry is before `now` (milliseconds), or the log has a row
+    /// for its group and integration of the same time or a later one; the reply says which. From
+    /// then on it counts as a row of this board's own. `carry::carried` returns the rows to load
+    /// for those of a board with another configuration.
+    ///
+    /// # Errors
+    ///
+    /// In this order, and each changes nothing: `NoIntegration`, `Unordered`, `Ahead`,
+    /// `HistoryFull`, then `NoMemory`.
+    pub fn load(
+        &mut self,
+        alloc: Global,
+        pass: u32,
+        row: RowView,
+        now: u64,
+    ) -> Result<Loaded, LoadFault>
+        ensures recorded { IfOk result
+            (λ loaded. self.new ≡ with_record self.old (entry pass (Call.Load now row) (Reply.Loaded loaded))) }
+        ensures reply { IfOk result (λ loaded. IsReplyAt self.old (Call.Load now row) (Reply.Loaded loaded)) }
+        ensures cause { IsLoadCaused
+            (load_cause self.old.config (records_at self.old) (state_at self.old) (moment (state_at self.old) now) row) result }
+        ensures refused { OnErr result (self.new ≡ self.old) }
+    {
+        load_row(alloc, &self.config, &mut self.state, pass, now, row)
     }
 
     /// Returns the configuration, which `Config::check` accepts.

@@ -3,7 +3,9 @@ ghost use Rattle.std.specs.Prelude.{◌≡◌};
 ghost use Rattle.am_board.specs.Faults.{finish_fault_number, FinishFaultsAre};
 
 use crate::ticket::Ticket;
-pub use am_model::fault::{BoardFault, Fault, NotOpen, NoteFault, ReportFault, TakeFault};
+pub use am_model::fault::{
+    BoardFault, Fault, LoadFault, NotOpen, NoteFault, ReportFault, TakeFault,
+};
 
 /// Why a finish fails. It can have a ticket in it, which must be finished.
 pub enum FinishFault {

@@ -11,7 +11,7 @@
 //! - `due`, `order`, `destinations`: indexes and caches, which only save time. No contract above
 //!   them mentions them.
 //! - `insert`, `silence`, `begin` (with `unmuted`, `dedup`, `plan`), `note`, `finish`, `maintain`,
-//!   `forget`: one module for each call, named after it.
+//!   `forget`, `load`: one module for each call, named after it.
 //!
 //! Each module of a call has one function over the plain state with the exact contract. It relies
 //! on `StateInvariant` and ensures `AppliesCall` or `LeavesUnchanged` (specs/Step.antt). The
@@ -35,6 +35,7 @@ mod groups;
 pub mod history;
 mod insert;
 mod known;
+mod load;
 mod maintain;
 mod members;
 mod note;

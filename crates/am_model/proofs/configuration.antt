@@ -1,3 +1,4 @@
+pub mod Carried
 pub mod Faultless
 pub mod FewAsked
 pub mod GroupReceiver

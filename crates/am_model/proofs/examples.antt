@@ -1,9 +1,11 @@
 pub mod Base
+pub mod Carried
 pub mod Entries
 pub mod Flushes
 pub mod Forgotten
 pub mod Groups
 pub mod Laws
+pub mod Loaded
 pub mod Logged
 pub mod LookBack
 pub mod Muted

@@ -2,6 +2,7 @@
 use Rattle.std.specs.Prelude.{ℕ, ◌+◌, Bool, true, false, not, ◌&&◌, ◌==◌, nat_lt, nat_le, List, [], ◌∷◌, length, Option, Some, None}
 use Rattle.std.specs.Prelude.{slice_get, if◌then◌else◌}
 use Rattle.std.specs.List.{list_any}
+use Rattle.std.specs.Option.{option_or}
 use Rattle.am_alerts.specs.AlertData.{AlertData}
 use Rattle.am_mute.specs.Silence.{SilenceData}
 use Rattle.am_retry.specs.declared.outcome.Outcome.{Outcome}
@@ -9,12 +10,16 @@ use Rattle.am_model.specs.declared.config.Config.{Config}
 use Rattle.am_model.specs.declared.config.Integration.{Integration}
 use Rattle.am_model.specs.declared.fault.Fault.{Fault}
 use Rattle.am_model.specs.declared.fault.Fault.TheVariants.{TooManyNames, TooManyGroups, TooManySilences, TooManyOpen, HistoryFull}
+use Rattle.am_model.specs.declared.fault.LoadFault.{LoadFault}
+use Rattle.am_model.specs.declared.fault.LoadFault.TheVariants as load
 use Rattle.am_model.specs.declared.fault.NoteFault.{NoteFault}
 use Rattle.am_model.specs.declared.fault.NoteFault.TheVariants as note
+use Rattle.am_model.specs.declared.views.RowView.{RowView}
 use Rattle.am_model.specs.Begin.{taken, asked_of}
 use Rattle.am_model.specs.Notice.{NoticeData}
 use Rattle.am_model.specs.Ticket.{TicketData, outcome_of}
 use Rattle.am_model.specs.Insert.{inserted, same_alert}
+use Rattle.am_model.specs.Load.{has_integration, is_ordered}
 use Rattle.am_model.specs.Note.{is_ready, asked_by}
 use Rattle.am_model.specs.State.{GroupState, AskedState, FlushState, State, flush_numbered}
 use Rattle.am_model.specs.Upkeep.{silenced}
@@ -71,6 +76,18 @@ maintain_cause config records s = if is_full config records s 1 then Some Histor
 -- why a forgetting is refused
 abbrev pub forget_cause : Config → ℕ → State → Option Fault
 forget_cause config records s = if is_full config records s 1 then Some HistoryFull else None
+
+-- why a row may not be loaded at t
+abbrev pub row_cause : Config → ℕ → RowView → Option LoadFault
+row_cause config t row =
+    if not (has_integration config row) then Some load.NoIntegration
+    else (if not (is_ordered row) then Some load.Unordered
+    else (if nat_lt t row.moment then Some load.Ahead else None))
+
+-- why a load at t is refused
+abbrev pub load_cause : Config → ℕ → State → ℕ → RowView → Option LoadFault
+load_cause config records s t row =
+    option_or (row_cause config t row) (if is_full config records s 1 then Some load.HistoryFull else None)
 
 -- why an integration isn't noted with this outcome, as a flush asked it
 abbrev pub asked_cause : Config → ℕ → State → Option Outcome → Option AskedState → Option NoteFault

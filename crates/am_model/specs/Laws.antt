@@ -11,7 +11,7 @@ use Rattle.am_model.specs.declared.record.Call.{Call}
 use Rattle.am_model.specs.declared.record.Record.{Record}
 use Rattle.am_model.specs.declared.record.Reply.{Reply}
 use Rattle.am_model.specs.declared.record.Reply.TheVariants.{Inserted, Silenced, NothingDue, Quiet, Flush}
-use Rattle.am_model.specs.declared.record.Reply.TheVariants.{Finished, Maintained, Forgotten, Noted}
+use Rattle.am_model.specs.declared.record.Reply.TheVariants.{Finished, Maintained, Forgotten, Loaded, Noted}
 use Rattle.am_model.specs.Records.{now_of}
 use Rattle.am_model.specs.Configured.{route_of}
 use Rattle.am_model.specs.Finish.{same_key}
@@ -58,6 +58,7 @@ last_begin_after name s t last (Flush number group deadline notices) = if same_n
 last_begin_after name s t last (Finished finished) = last
 last_begin_after name s t last (Maintained maintained) = if is_empty (members_in s.groups name) then None else last
 last_begin_after name s t last (Forgotten forgotten) = last
+last_begin_after name s t last (Loaded loaded) = last
 last_begin_after name s t last Noted = last
 
 -- the same after some records, from a state on
@@ -154,6 +155,7 @@ bare_reply (Flush number group deadline notices) = Flush number group deadline n
 bare_reply (Finished finished) = Finished finished
 bare_reply (Maintained maintained) = Maintained maintained
 bare_reply (Forgotten forgotten) = Forgotten (record { alerts = 0; silences = 0 })
+bare_reply (Loaded loaded) = Loaded loaded
 bare_reply Noted = Noted
 
 -- a state without what a forgetting changes

@@ -1,5 +1,7 @@
 -- a begin: the flush of the group that was due first
 pub mod Begin
+-- which rows a log under a new configuration takes over of one under an old one
+pub mod Carry
 -- the first cause, except memory, for which a call fails at a state after so many records
 pub mod Causes
 -- which configurations are valid, and the first fault of one that isn't
@@ -18,6 +20,8 @@ pub mod Insert
 pub mod Laws
 -- operations on the lists of a state, which put, remove, change and order elements
 pub mod Lists
+-- a load: a row that another board's log had is put into the log
+pub mod Load
 -- a note: the success of one integration is logged before its flush is finished
 pub mod Note
 -- a notice as contracts see it

@@ -6,10 +6,11 @@ use Rattle.am_model.specs.declared.config.TheConstants.{MAX_RECEIVERS, MAX_INTEG
 use Rattle.am_model.specs.declared.config.TheConstants.{MAX_NAMES, MAX_GROUPS, MAX_SILENCES, MAX_FLUSHES, MAX_HISTORY, MAX_HANDED}
 use Rattle.am_model.specs.declared.fault.BoardFault.TheVariants as board
 use Rattle.am_model.specs.declared.fault.Fault.TheVariants as call
+use Rattle.am_model.specs.declared.fault.LoadFault.TheVariants as load
 use Rattle.am_model.specs.declared.fault.NoteFault.TheVariants as note
 use Rattle.am_model.specs.declared.fault.ReportFault.TheVariants as report
 use Rattle.am_model.specs.declared.fault.TakeFault.TheVariants as taking
-use Rattle.am_model.specs.declared.law.TheConstants.{CALL_FAULTS, NOTE_FAULTS, CONFIG_FAULTS, TAKE_FAULTS, REPORT_FAULTS}
+use Rattle.am_model.specs.declared.law.TheConstants.{CALL_FAULTS, NOTE_FAULTS, LOAD_FAULTS, CONFIG_FAULTS, TAKE_FAULTS, REPORT_FAULTS}
 use Rattle.am_model.specs.declared.notice.TheConstants.{MIN_FLUSH_TIMEOUT, MAX_DEADLINE}
 use Rattle.am_model.specs.Config.{greatest_limits}
 use Rattle.am_model.specs.Faults.{board_fault_number}
@@ -50,6 +51,13 @@ NoteFaultsAre =
     NOTE_FAULTS
     ≡ (note.NoMemory, 1) ∷ (note.HistoryFull, 6) ∷ (note.Foreign, 7)
     ∷ (note.NotOpen, 8) ∷ (note.NotReady, 9) ∷ (note.Already, 10) ∷ []
+
+-- law: the numbers of the faults of a load
+abbrev pub LoadFaultsAre : Type 0
+LoadFaultsAre =
+    LOAD_FAULTS
+    ≡ (load.NoMemory, 1) ∷ (load.HistoryFull, 6) ∷ (load.NoIntegration, 11)
+    ∷ (load.Unordered, 12) ∷ (load.Ahead, 13) ∷ []
 
 -- law: the numbers of the faults of a configuration
 abbrev pub ConfigFaultsAre : Type 0

@@ -183,6 +183,16 @@ impl Config {
         }
     }
 
+    /// Returns the integrations of the receiver of this name, or none where there is none.
+    pub fn integrations_named(&self, name: &str) -> &[Integration]
+        ensures { result.now ≡ integrations_named name.now self.now.receivers }
+    {
+        match self.receiver(name) {
+            None => &[],
+            Some(receiver) => receiver.integrations.as_slice(),
+        }
+    }
+
     /// Adds an integration of a group's receiver: its kind, `/` and its position.
     pub fn push_integration(
         &self,

@@ -2,6 +2,7 @@
 ghost use Rattle.std.specs.Prelude.{◌≡◌};
 ghost use Rattle.am_model.specs.declared.fault.Fault.TheVariants as fault;
 ghost use Rattle.am_model.specs.declared.fault.BoardFault.TheVariants as board_fault;
+ghost use Rattle.am_model.specs.declared.fault.LoadFault.TheVariants as load_fault;
 ghost use Rattle.am_model.specs.declared.fault.TakeFault.TheVariants as take_fault;
 ghost use Rattle.am_model.specs.Faults.{board_fault_number};
 
@@ -72,6 +73,32 @@ pub enum NoteFault {
     NotReady = 9,
     #[error("the integration was noted before")]
     Already = 10,
+}
+
+/// Why a load is refused. The board doesn't change.
+///
+/// The order is `NoIntegration`, `Unordered`, `Ahead`, `HistoryFull`, `NoMemory`: first what is so
+/// of the row whenever it is handed in.
+#[derive(Clone, Copy, Debug, PartialEq, Eq, Error)]
+pub enum LoadFault {
+    #[error("out of memory")]
+    NoMemory = 1,
+    #[error("the history has no room for the record")]
+    HistoryFull = 6,
+    #[error("there is no such route, or its receiver has no such integration")]
+    NoIntegration = 11,
+    #[error("the row's label sets aren't in their order, each once")]
+    Unordered = 12,
+    #[error("the row's time is after the board's")]
+    Ahead = 13,
+}
+
+impl From<AllocError> for LoadFault {
+    ghost from_gives = { λ _ e. e ≡ load_fault.NoMemory };
+
+    fn from(_error: AllocError) -> LoadFault {
+        LoadFault::NoMemory
+    }
 }
 
 /// Why a board's history isn't handed out. The board doesn't change.

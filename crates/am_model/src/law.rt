@@ -1,20 +1,21 @@
 //! The laws of histories, the limits and the faults' numbers, as calls that verifiers read. Each
 //! has an empty body: its `ensures` is the statement.
+ghost use Rattle.am_model.specs.Carry.{CarriedRowsFit, RestartsCarryRows};
 ghost use Rattle.am_model.specs.Laws.{ReplayAppends, LegalAppends, ClockIsMoment, BeginningsAreLegal};
 ghost use Rattle.am_model.specs.Laws.{ReplaysAreConsistent, ReplaysKnowMembers, LegalKeepsBegins};
 ghost use Rattle.am_model.specs.Laws.{ForgettingChangesNoReply, ForgettingChangesNoState};
 ghost use Rattle.am_model.specs.look_back.Interval.{BeginsKeepTheInterval};
 ghost use Rattle.am_model.specs.look_back.Laws.{EveryLegalHistory, AlertsAreFound, ShownAlertsAreFound, RowsAreFound, ShownRowsAreFound};
-ghost use Rattle.am_model.specs.look_back.Laws.{OnlyDeliveredIsLogged, RowsComeByDelivery, RowsWereDelivered, RefiringAlertsStay};
+ghost use Rattle.am_model.specs.look_back.Laws.{OnlyDeliveredIsLogged, RowsComeByDelivery, RowsWereDelivered, LoadsPutLaterRows, RefiringAlertsStay};
 ghost use Rattle.am_model.specs.look_back.Laws.{FlushesEndOnce};
 ghost use Rattle.am_model.specs.look_back.Laws.{BeginsNotifyExactlyWhomNeeded, NoticesListPresentAlerts, LooksBack};
 ghost use Rattle.am_model.specs.look_back.Preview.{PreviewsAreFound};
 ghost use Rattle.am_model.specs.look_back.Reasons.{BeginsHaveReasons, ReasonsAreSo, NotYetEnds};
 ghost use Rattle.am_model.specs.Values.{LimitsAre, DefaultIs, TimesAre};
-ghost use Rattle.am_model.specs.Values.{CallFaultsAre, NoteFaultsAre, ConfigFaultsAre, BoardFaultsAre, TakeFaultsAre, ReportFaultsAre};
+ghost use Rattle.am_model.specs.Values.{CallFaultsAre, NoteFaultsAre, LoadFaultsAre, ConfigFaultsAre, BoardFaultsAre, TakeFaultsAre, ReportFaultsAre};
 
 use crate::config::ConfigFault;
-use crate::fault::{Fault, NoteFault, ReportFault, TakeFault};
+use crate::fault::{Fault, LoadFault, NoteFault, ReportFault, TakeFault};
 
 const CALL_FAULTS: [(Fault, u8); 6] = [
     (Fault::NoMemory, Fault::NoMemory as u8),
@@ -32,6 +33,14 @@ const NOTE_FAULTS: [(NoteFault, u8); 6] = [
     (NoteFault::NotOpen, NoteFault::NotOpen as u8),
     (NoteFault::NotReady, NoteFault::NotReady as u8),
     (NoteFault::Already, NoteFault::Already as u8),
+];
+
+const LOAD_FAULTS: [(LoadFault, u8); 5] = [
+    (LoadFault::NoMemory, LoadFault::NoMemory as u8),
+    (LoadFault::HistoryFull, LoadFault::HistoryFull as u8),
+    (LoadFault::NoIntegration, LoadFault::NoIntegration as u8),
+    (LoadFault::Unordered, LoadFault::Unordered as u8),
+    (LoadFault::Ahead, LoadFault::Ahead as u8),
 ];
 
 const CONFIG_FAULTS: [(ConfigFault, u8); 8] = [
@@ -107,6 +116,16 @@ pub fn forgetting_changes_no_answer()
     ensures states { ForgettingChangesNoState }
 {}
 
+/// States what `carried` returns.
+///
+/// Clause `fit`: each row that it returns has an integration of the new configuration, and is else
+/// as the row that it stands for. Clause `restart`: under the same configuration it returns the row
+/// itself alone, if it has an integration there and one of its alerts goes to its group.
+pub fn rows_are_carried()
+    ensures fit { CarriedRowsFit }
+    ensures restart { RestartsCarryRows }
+{}
+
 /// States which alerts are in which group after a legal history, read off the history from its end.
 ///
 /// Clause `shown`: each group that a board returns has exactly these, in the order of their label
@@ -124,15 +143,26 @@ pub fn looking_back_finds_rows()
     ensures shown { EveryLegalHistory ShownRowsAreFound }
 {}
 
-/// States that the log gains a row only for a notice that was delivered or had nothing to send.
+/// States that the log gains a row only for a notice that was delivered or had nothing to send, but
+/// for rows that were loaded.
 ///
 /// Clause `each_record`: each finish and each note that logs a success reports so of this flush.
 /// Clause `new_rows`: a row after a record was there before it, or is of its time, and the record
-/// reports so. Clause `rows`: each row is of such a record, the last that logged under its key.
+/// reports so; or the record loaded it. Clause `rows`: each row is of such a record, the last that
+/// logged under its key, or was loaded since, and is as it was handed in.
 pub fn logged_only_after_delivery()
     ensures each_record { EveryLegalHistory OnlyDeliveredIsLogged }
     ensures new_rows { EveryLegalHistory RowsComeByDelivery }
     ensures rows { EveryLegalHistory RowsWereDelivered }
+{}
+
+/// States what becomes of a row that is loaded, by the entry that looking back finds for its group
+/// and integration.
+///
+/// It is put into the log, unless its expiry is before the load's time, or there is an entry of the
+/// same time or a later one. It has an integration of the configuration, and isn't of a later time.
+pub fn loads_put_later_rows()
+    ensures { EveryLegalHistory LoadsPutLaterRows }
 {}
 
 /// States that an alert that fires again while a flush of its group is open is there after the
@@ -209,6 +239,7 @@ pub fn limits_are()
 pub fn fault_numbers_are()
     ensures calls { CallFaultsAre }
     ensures notes { NoteFaultsAre }
+    ensures loads { LoadFaultsAre }
     ensures configs { ConfigFaultsAre }
     ensures boards { BoardFaultsAre }
     ensures takes { TakeFaultsAre }

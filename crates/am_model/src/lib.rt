@@ -1,13 +1,14 @@
 //! The definitions of the dispatcher, the plain data that contracts compare, and the laws of legal
 //! histories. `am_board` keeps to them, and contracts above cite them. It stores nothing.
 //!
+//! - `carry`: which rows a log under another configuration takes over, with specs `Carry`.
 //! - `config`, `fault`, `group`, `notice`, `outcome`, `preview`, `reason`, `record`, `views`: the
 //!   data, each type with its own calls.
 //! - `law`: the laws, as public calls without a body.
 //! - specs `Config`, `Configured`, `Faults`, `Notice`, `Records`, `Ticket`, `Views`: what is
 //!   defined of one type, with the data that contracts see.
 //! - specs `State`, `Insert`, `Begin`, `Note`, `Finish`, `Upkeep` (silence and maintenance),
-//!   `Forget`: the state, over plain lists in the order of arrival, with the reply of each call and
+//!   `Forget`, `Load`: the state, over plain lists in the order of arrival, with the reply of each call and
 //!   the state after it.
 //! - specs `Replay`: the reply that is due at a state, the replay of a history, and when one is
 //!   legal. `Causes`: the first cause of a failed call. `Laws`: what is true after every legal
@@ -25,6 +26,7 @@
 //! that is put again after a collection comes last.
 #![tactic(auto)]
 
+pub mod carry;
 pub mod config;
 pub mod fault;
 pub mod group;

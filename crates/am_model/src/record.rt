@@ -1,10 +1,15 @@
 //! `Record`: an accepted call with its pass and its reply. Histories are lists of records.
+ghost use Rattle.std.specs.Prelude.{◌≡◌, IfOk};
+
 use crate::group::GroupName;
 use crate::notice::Notice;
+use crate::views::RowView;
 use am_alerts::alert::Alert;
 use am_alerts::matcher::MatcherParts;
 use am_alerts::sequence::Sequence;
 use am_retry::Outcome;
+use std::alloc::{AllocError, Global};
+use std::marker::Model;
 
 /// The reply to an insert.
 #[derive(Clone, Copy, Debug, PartialEq, Eq)]
@@ -51,6 +56,51 @@ pub struct Forgotten {
     pub silences: usize,
 }
 
+/// The reply to a load: what became of the row.
+#[derive(Clone, Copy, Debug, PartialEq, Eq)]
+pub enum Loaded {
+    /// It is in the log, in place of the one that was there, if any.
+    Put,
+    /// The log keeps its own row there, whose time is the same or later.
+    Kept,
+    /// Its expiry is past. The log is as it was.
+    Expired,
+}
+
+/// A log row as the record of a load keeps it: boxed, so that other records stay small.
+///
+/// Contracts see it as the row.
+#[derive(Debug, Drop)]
+pub struct RowBox {
+    row: Box<RowView>,
+}
+
+impl Model for RowBox {
+    ghost use Rattle.am_model.specs.declared.views.RowView.{RowView};
+
+    ghost Value = { RowView };
+
+    ghost view = { λ b. b.row.value };
+}
+
+impl RowBox {
+    /// Boxes a row.
+    pub fn new(alloc: Global, row: RowView) -> Result<RowBox, AllocError>
+        ensures { IfOk result (λ boxed. boxed ≡ row) }
+    {
+        Ok(RowBox {
+            row: Box::new(alloc, row)?,
+        })
+    }
+
+    /// Returns the row.
+    pub fn row(&self) -> &RowView
+        ensures { result.now ≡ self.now }
+    {
+        &self.row
+    }
+}
+
 /// The reply to a note.
 #[derive(Clone, Copy, Debug, PartialEq, Eq)]
 pub struct Noted;
@@ -84,6 +134,11 @@ pub enum Call {
     Forget {
         now: u64,
     },
+    /// The row is the one that was handed in, whatever became of it.
+    Load {
+        now: u64,
+        row: RowBox,
+    },
     /// The outcome is the one of the ticket for the integration.
     Note {
         now: u64,
@@ -112,6 +167,7 @@ pub enum Reply {
     Finished(Finished),
     Maintained(Maintained),
     Forgotten(Forgotten),
+    Loaded(Loaded),
     Noted,
 }
 

@@ -9,7 +9,8 @@ use Rattle.std.proofs.lemmas.Map.{keys-set_value, lookup-set_value}
 use Rattle.std.proofs.lemmas.Map.Made.{is_some-lookup, lookup-map_values}
 use Rattle.std.specs.Cmp.{IsEquivalence, and_equiv, on_equiv, nat_eq_equiv}
 use Rattle.std.specs.List.{list_any, cons_option, IsDistinct}
-use Rattle.std.specs.Map.{keys_of, lookup}
+use Rattle.std.specs.Map.{keys_of, lookup, set_value}
+use Rattle.indexmap.specs.IndexMap.{insert_entry}
 use Rattle.std.specs.Option.{option_flatten, option_map}
 use Rattle.am_nflog.proofs.Numbering.{member_alike}
 use Rattle.am_nflog.specs.Log.{Slots, key_eq, is_known, row_of, rows_of, with_key, with_row, without_unused, kept, collected, HasDistinctKeys}
@@ -104,6 +105,29 @@ module _ {G N : Type 0} (eq : G → G → Bool) (log : Slots G N) where
           ∙ ap (list_any (key_eq eq q)) (map-append (λ slot. slot.0) log ((key, None) ∷ []))
           ∙ list_any-append (key_eq eq q) (keys_of log) (key ∷ [])
           ∙ (λ i. sym (is_known-keys q) i || or-false (key_eq eq q key) i)
+
+  -- ---- after `merge`
+
+  -- a map's insert puts the row at the key, which it makes known
+  pub insert_entry-merged : IsEquivalence eq → (key : LogKey G) (row : LogRow N) → insert_entry (key_eq eq) log key (Some row) ≡ with_row eq (with_key eq log key) key row
+  insert_entry-merged laws key row = put_in log
+    where
+      put_in : (ss : Slots G N) → insert_entry (key_eq eq) ss key (Some row) ≡ set_value (key_eq eq key) (if is_known eq ss key then ss else ss ++ (key, None) ∷ []) (Some row)
+      put_in [] = sym (ap (λ b. cond b ((key, Some row) ∷ []) ((key, None) ∷ [])) ((key_eq-laws laws).refl key))
+      put_in (s ∷ ss) =
+          elim (key_eq eq key s.0) as (λ b. key_eq eq key s.0 ≡ b → cond b ((s.0, Some row) ∷ ss) (s ∷ insert_entry (key_eq eq) ss key (Some row))
+          ≡ set_value (key_eq eq key) (if is_some (cond b (Some s.1) (lookup (key_eq eq key) ss)) then s ∷ ss else s ∷ ss ++ (key, None) ∷ []) (Some row)) [
+            | true ↦ λ e. sym (ap (λ b. cond b ((s.0, Some row) ∷ ss) (s ∷ set_value (key_eq eq key) ss (Some row))) e)
+            | false ↦ λ e. ap (λ rest. s ∷ rest) (put_in ss) ∙ behind (is_known eq ss key) e
+          ] refl
+        where
+          passed : (rest : Slots G N) → key_eq eq key s.0 ≡ false → s ∷ set_value (key_eq eq key) rest (Some row) ≡ set_value (key_eq eq key) (s ∷ rest) (Some row)
+          passed rest e = sym (ap (λ b. cond b ((s.0, Some row) ∷ rest) (s ∷ set_value (key_eq eq key) rest (Some row))) e)
+
+          behind : (known : Bool) → key_eq eq key s.0 ≡ false → s ∷ set_value (key_eq eq key) (if known then ss else ss ++ (key, None) ∷ []) (Some row)
+              ≡ set_value (key_eq eq key) (if known then s ∷ ss else s ∷ ss ++ (key, None) ∷ []) (Some row)
+          behind true e = passed ss e
+          behind false e = passed (ss ++ (key, None) ∷ []) e
 
   -- ---- after `forget`
 

@@ -1,5 +1,5 @@
 -- The log as the list of its known keys, each with a row or none.
-use Rattle.std.specs.Prelude.{ℕ, Bool, false, ◌&&◌, ◌||◌, nat_eq, nat_le, List, [], ◌∷◌, ◌++◌, Option, None, Some, map, filter, is_some}
+use Rattle.std.specs.Prelude.{ℕ, Bool, true, false, nat_lt, ◌&&◌, ◌||◌, nat_eq, nat_le, List, [], ◌∷◌, ◌++◌, Option, None, Some, map, filter, is_some}
 use Rattle.std.specs.Prelude.{count_by, if◌then◌else◌}
 use Rattle.std.specs.List.{IsDistinct, filter_map, list_any}
 use Rattle.std.specs.Map.{keys_of, lookup, set_value}
@@ -14,6 +14,11 @@ Slots G N = List (LogKey G × Option (LogRow N))
 -- the two keys are of one group and one integration
 abbrev pub key_eq : {G : Type 0} → (G → G → Bool) → LogKey G → LogKey G → Bool
 key_eq eq a b = eq a.group b.group && nat_eq a.integration b.integration
+
+-- a row is of a later moment than a key's own, if the key has one
+abbrev pub is_later : {N : Type 0} → LogRow N → Option (LogRow N) → Bool
+is_later row None = true
+is_later row (Some own) = nat_lt own.moment row.moment
 
 module _ {G N : Type 0} (eq : G → G → Bool) where
   -- the key is known
@@ -35,6 +40,11 @@ module _ {G N : Type 0} (eq : G → G → Bool) where
   -- the log with this row at the known key
   abbrev pub with_row : Slots G N → LogKey G → LogRow N → Slots G N
   with_row log key row = set_value (key_eq eq key) log (Some row)
+
+  -- the log with this row at the key, known or not, unless the key's own row is of the same moment or a later one (Alertmanager's merge,
+  -- past its check of the expiry)
+  abbrev pub merged : Slots G N → LogKey G → LogRow N → Slots G N
+  merged log key row = if is_later row (row_of log key) then with_row (with_key log key) key row else log
 
   -- the log in which of the keys without a row only those of these groups are known
   abbrev pub without_unused : List G → Slots G N → Slots G N

@@ -2,12 +2,12 @@
 //!
 //! A known key stays known, also when its row was collected, so a row that is put again keeps its
 //! place. `forget` alone drops keys. Invariant: the keys differ. `get`, `put` and `reserve` cost one
-//! look-up by hash.
+//! look-up by hash, and `merge` two.
 //! `NfLog::new` can't fail today; it returns a `Result` as all that is made on an allocator does.
-ghost use Rattle.std.specs.Prelude.{◌≡◌, ◌<◌, ◌↔◌, ◌||◌, [], length, filter, is_some, nat_lt, IsTrue, OnOk, OnErr, IsOk, IsOkAnd, slice_get, Some};
+ghost use Rattle.std.specs.Prelude.{◌≡◌, ◌<◌, ◌↔◌, ◌||◌, [], length, filter, is_some, nat_lt, IsTrue, IfOk, OnOk, OnErr, IsOk, IsOkAnd, slice_get, Some};
 ghost use Rattle.std.specs.List.{list_any};
 ghost use Rattle.std.specs.Option.{option_copied};
-ghost use Rattle.am_nflog.specs.Log.{is_known, row_of, rows_of, with_key, with_row, without_unused};
+ghost use Rattle.am_nflog.specs.Log.{is_known, row_of, rows_of, with_key, with_row, is_later, merged, without_unused};
 ghost use Rattle.am_nflog.specs.Log.{collected, expired_count, is_expired, HasDistinctKeys};
 
 use crate::key::LogKey;
@@ -108,6 +108,23 @@ impl<G: Eq + Hash + Drop, N: Ord + Drop> NfLog<G, N> {
         *slot = Some(row);
     }
 
+    /// Puts a row at a key, known or not, unless the key has a row of the same moment or a later one. Answers whether it did.
+    ///
+    /// It is how Alertmanager's log takes a row of another log (`nflog.Log.Merge`), past its check of the expiry. It takes memory only
+    /// for a new key. On an error the log is as it was.
+    pub fn merge(&mut self, key: LogKey<G>, row: LogRow<N>) -> Result<bool, AllocError>
+        ensures put { IfOk result (λ put. put ≡ is_later row (row_of G.eq self.old key)) }
+        ensures ok { OnOk result (self.new ≡ merged G.eq self.old key row) }
+        ensures err { OnErr result (self.new ≡ self.old) }
+        ensures distinct { HasDistinctKeys G.eq self.new }
+    {
+        if !is_later(&row, self.get(&key)) {
+            return Ok(false);
+        }
+        self.slots.insert(key, Some(row))?;
+        Ok(true)
+    }
+
     /// Removes the rows whose expiry is at or before `t`, in milliseconds, and answers how many went. Their keys stay known.
     pub fn collect(&mut self, t: u64) -> usize
         ensures collected { self.new ≡ collected t self.old }
@@ -136,6 +153,16 @@ impl<G: Eq + Hash + Drop, N: Ord + Drop> NfLog<G, N> {
                 ensures { (result ≡ (is_some row.old || list_any (λ g. G.eq g key.now.group) groups.entry.now)) × (row.new ≡ row.old) }
             { is_used(key, row, groups) },
         );
+    }
+}
+
+// Whether a row is of a later moment than a key's own, if the key has one.
+fn is_later<N: Ord>(row: &LogRow<N>, own: Option<&LogRow<N>>) -> bool
+    ensures { result ≡ is_later row.now (option_copied own.entry) }
+{
+    match own {
+        Some(own) => own.moment < row.moment,
+        None => true,
     }
 }
 

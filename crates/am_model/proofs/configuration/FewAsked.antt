@@ -21,6 +21,10 @@ named name (r ∷ rs) few =
       | false ↦ named name rs few.1
     ]
 
+-- a receiver has as few as it may
+pub few_named : (config : Config) (name : List ℕ) → HaveFewIntegrations config → length (integrations_named name config.receivers) ≤ MAX_INTEGRATIONS
+few_named config name few = named name config.receivers (all_to (λ (r : Receiver). length r.integrations ≤ MAX_INTEGRATIONS) config.receivers few)
+
 pub few_asked : (config : Config) (s : State) (t : ℕ) (g : GroupState) → HaveFewIntegrations config → length (asked_of config s t g) ≤ MAX_INTEGRATIONS
 few_asked config s t g few =
     let receiver = (route_of config g.name).receiver in

@@ -13,6 +13,7 @@ use Rattle.am_retry.specs.declared.outcome.Outcome.TheVariants.{Delivered}
 use Rattle.am_model.specs.declared.config.Config.{Config}
 use Rattle.am_model.specs.declared.config.Integration.{Integration}
 use Rattle.am_model.specs.declared.group.GroupName.{GroupName}
+use Rattle.am_model.specs.declared.record.Loaded.{Loaded}
 use Rattle.am_model.specs.declared.record.Record.{Record}
 use Rattle.am_model.specs.declared.record.Call.TheVariants as call
 use Rattle.am_model.specs.declared.record.Reply.TheVariants as reply
@@ -131,6 +132,9 @@ maintain now groups entries =
 abbrev pub forget : ℕ → ℕ → ℕ → Record
 forget now alerts silences =
     entry 0 (call.Forget now) (reply.Forgotten (record { alerts = alerts; silences = silences }))
+
+abbrev pub load : ℕ → RowView → Loaded → Record
+load now row loaded = entry 0 (call.Load now row) (reply.Loaded loaded)
 
 -- a log row
 abbrev pub row : GroupName → ℕ → ℕ → ℕ → List (List Label) → List (List Label) → RowView

@@ -15,6 +15,7 @@ use Rattle.am_model.specs.Forget.{forgotten}
 use Rattle.am_model.specs.Insert.{same_group, new_group, group_or_new, group_with, put_into_group, names_for, wait_of, inserted, next_stamp}
 use Rattle.am_model.specs.Laws.{last_begin_after, last_begin_from, last_begin, IsBegunAt, IsThere, LegalKeepsBegins}
 use Rattle.am_model.specs.Lists.{upsert, without, changed_where}
+use Rattle.am_model.specs.Load.{may_load, loaded, load_reply, after_load}
 use Rattle.am_model.specs.Note.{may_note, after_note_of, after_note, noted}
 use Rattle.am_model.specs.Replay.{reply, after, after_call, replay_from, replay, IsLegalFrom, IsLegal}
 use Rattle.am_model.specs.State.{MemberState, GroupState, FlushState, State, opening_state, at_moment, moment, same_name, is_named, has_group, members_in, flush_numbered}
@@ -24,10 +25,11 @@ use Rattle.am_model.specs.declared.config.Config.{Config}
 use Rattle.am_model.specs.declared.config.Integration.{Integration}
 use Rattle.am_model.specs.declared.group.GroupName.{GroupName}
 use Rattle.am_model.specs.declared.record.Call.{Call}
-use Rattle.am_model.specs.declared.record.Call.TheVariants.{Insert, Silence, Begin, Finish, Maintain, Forget, Note}
+use Rattle.am_model.specs.declared.record.Call.TheVariants.{Insert, Silence, Begin, Finish, Maintain, Forget, Load, Note}
 use Rattle.am_model.specs.declared.record.Record.{Record}
 use Rattle.am_model.specs.declared.record.Reply.{Reply}
 use Rattle.am_model.specs.declared.record.Reply.TheVariants as reply_is
+use Rattle.am_model.specs.declared.views.RowView.{RowView}
 use Rattle.am_model.proofs.lists.Distinct.{IsDistinct-nil, IsDistinct-told, IsDistinct-filter, all-weaker, all-kept, all-filter, all-found, all-lesser, all-both, all-map}
 use Rattle.am_model.proofs.lists.Sets.{any-find}
 use Rattle.am_model.proofs.states.Alike.{same_group_equiv, same_name_equiv}
@@ -263,6 +265,13 @@ module _ (config : Config) (id : ℕ) (s : State) (last : GroupName → Option �
         | false ↦ λ told. absurd (cc)
       ] e
 
+  keeps-load : (t : ℕ) (row : RowView) (p : Reply) → load_reply config s t row ≡ Some p → After (after_load config s t row) p
+  keeps-load t row p e =
+      elim (may_load config t row) as (λ b. (if b then Some (reply_is.Loaded (loaded s.rows t row)) else None) ≡ Some p → After (after_load config s t row) p) [
+        | true ↦ λ told. subst (After (after_load config s t row)) (inside (reply_is.Loaded (loaded s.rows t row)) p told) k
+        | false ↦ λ told. absurd (cc)
+      ] e
+
   pub keeps-call : (c : Call) (p : Reply) → reply config id s c ≡ Some p → After (after_call config s c) p
   keeps-call (Insert now alert) p e =
       subst (After (after_call config s (Insert now alert))) (inside (reply_is.Inserted (inserted config s alert)) p e)
@@ -276,6 +285,7 @@ module _ (config : Config) (id : ℕ) (s : State) (last : GroupName → Option �
       subst (After (after_call config s (Maintain now))) (inside (reply_is.Maintained (maintained s (moment s now))) p e) (keeps-maintain config last s.groups k)
   keeps-call (Forget now) p e =
       subst (After (after_call config s (Forget now))) (inside (reply_is.Forgotten (forgotten s (moment s now))) p e) k
+  keeps-call (Load now row) p e = keeps-load (moment s now) row p e
   keeps-call (Note now number integration outcome) p e = keeps-note (moment s now) integration outcome (flush_numbered s.flushes number) p e
 
 -- ---- each legal history

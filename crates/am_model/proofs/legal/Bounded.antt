@@ -8,7 +8,7 @@ use Rattle.am_retry.specs.declared.outcome.Outcome.{Outcome}
 use Rattle.am_model.specs.declared.config.Config.{Config}
 use Rattle.am_model.specs.declared.config.Integration.{Integration}
 use Rattle.am_model.specs.declared.record.Call.{Call}
-use Rattle.am_model.specs.declared.record.Call.TheVariants.{Insert, Silence, Begin, Finish, Maintain, Forget, Note}
+use Rattle.am_model.specs.declared.record.Call.TheVariants.{Insert, Silence, Begin, Finish, Maintain, Forget, Load, Note}
 use Rattle.am_model.specs.declared.record.Record.{Record}
 use Rattle.am_model.specs.Begin.{due_cmp, may_begin, taken, asked_of, begun_group, without_resolved, flush_asking, after_asking, after_taking}
 use Rattle.am_model.specs.Finish.{leaves_by, finished_group, after_finish, after_finish_of}
@@ -154,6 +154,7 @@ small_call config s (Begin now) h = small_taking config s (moment s now) (taken 
 small_call config s (Finish now number outcomes) h = small_finish config s (moment s now) outcomes (flush_numbered s.flushes number) h
 small_call config s (Maintain now) h = small_maintain config s (moment s now) h
 small_call config s (Forget now) h = record { groups = h.groups; flushes = h.flushes; alerts = h.alerts }
+small_call config s (Load now row) h = record { groups = h.groups; flushes = h.flushes; alerts = h.alerts }
 small_call config s (Note now number integration outcome) h = small_note config s (moment s now) integration outcome (flush_numbered s.flushes number) h
 
 -- ---- the numbers
@@ -185,6 +186,7 @@ step_call config s (Begin now) = step_taking config s (moment s now) (taken s (m
 step_call config s (Finish now number outcomes) = step_finish config s (moment s now) outcomes (flush_numbered s.flushes number)
 step_call config s (Maintain now) = record { inserts = omega arith; next_number = omega arith }
 step_call config s (Forget now) = record { inserts = omega arith; next_number = omega arith }
+step_call config s (Load now row) = record { inserts = omega arith; next_number = omega arith }
 step_call config s (Note now number integration outcome) = step_note config s (moment s now) integration outcome (flush_numbered s.flushes number)
 
 -- ---- along a history

@@ -4,7 +4,7 @@ use Rattle.am_alerts.specs.declared.limits.TheConstants.{MAX_MOMENT}
 use Rattle.am_mute.specs.Silence.{silence_of}
 use Rattle.am_model.specs.declared.config.Config.{Config}
 use Rattle.am_model.specs.declared.record.Call.{Call}
-use Rattle.am_model.specs.declared.record.Call.TheVariants.{Insert, Silence, Begin, Finish, Maintain, Forget, Note}
+use Rattle.am_model.specs.declared.record.Call.TheVariants.{Insert, Silence, Begin, Finish, Maintain, Forget, Load, Note}
 use Rattle.am_model.specs.declared.record.Record.{Record}
 use Rattle.am_model.specs.Insert.{same_alert, same_group}
 use Rattle.am_model.specs.Finish.{same_key}
@@ -13,7 +13,7 @@ use Rattle.am_model.specs.Replay.{after, after_call, replay, replay_from}
 use Rattle.am_model.specs.State.{State, opening_state, moment, flush_numbered}
 use Rattle.am_model.specs.Upkeep.{same_silence}
 use Rattle.am_model.proofs.legal.ConsistentBegin.{steady_begin}
-use Rattle.am_model.proofs.legal.ConsistentFinish.{steady_finish, steady_maintain, steady_forget, steady_note}
+use Rattle.am_model.proofs.legal.ConsistentFinish.{steady_finish, steady_maintain, steady_forget, steady_load, steady_note}
 use Rattle.am_model.proofs.legal.ConsistentInsert.{steady_insert, steady_silence}
 use Rattle.am_model.proofs.lists.Distinct.{IsDistinct-nil}
 use Rattle.am_model.proofs.legal.ConsistentState.{IsSteady, consistent_from, consistent_to}
@@ -30,6 +30,7 @@ steady_call config s (Begin now) h = steady_begin config s (moment s now) (momen
 steady_call config s (Finish now number outcomes) h = steady_finish config s (moment s now) number outcomes (moment-within s now h.clock) h
 steady_call config s (Maintain now) h = steady_maintain s (moment s now) (moment-within s now h.clock) h
 steady_call config s (Forget now) h = steady_forget s (moment s now) (moment-within s now h.clock) h
+steady_call config s (Load now row) h = steady_load config s (moment s now) row (moment-within s now h.clock) h
 steady_call config s (Note now number integration outcome) h =
     steady_note config s (moment s now) integration outcome (flush_numbered s.flushes number) (moment-within s now h.clock) h
 

@@ -1,5 +1,5 @@
--- A finish, a note, a maintenance or a forgetting keeps a state consistent.
-use Rattle.std.proofs.Common.{◌≡◌, ℕ, ◌≤◌, Bool, true, false, cond, not, Option, Some, None, List, [], ◌∷◌, refl, sym, ap, ◌∙◌, subst}
+-- A finish, a note, a maintenance, a forgetting or a load keeps a state consistent.
+use Rattle.std.proofs.Common.{◌≡◌, ℕ, ◌≤◌, Bool, true, false, cond, not, ◌&&◌, Option, Some, None, List, [], ◌∷◌, refl, sym, ap, ◌∙◌, subst}
 use Rattle.std.specs.Prelude.{find, fold, filter, ◌==◌}
 use Rattle.std.specs.List.{AllByRecursion, IsDistinct}
 use Rattle.std.proofs.lemmas.Cmp.{nat_eq_equiv}
@@ -15,6 +15,7 @@ use Rattle.am_model.specs.Forget.{is_idle, after_forget}
 use Rattle.am_model.specs.Insert.{same_alert, same_member, same_group}
 use Rattle.am_model.specs.Laws.{same_flushed, same_number, same_asked}
 use Rattle.am_model.specs.Lists.{without, changed_where}
+use Rattle.am_model.specs.Load.{may_load, loaded, is_put, rows_loading, after_load}
 use Rattle.am_model.specs.Note.{as_noted, with_note, may_note, after_note, after_note_of}
 use Rattle.am_model.specs.State.{MemberState, GroupState, AskedState, FlushState, State, at_moment, same_name, is_named, flush_numbered}
 use Rattle.am_model.specs.Upkeep.{same_silence, is_deserted, has_expired, after_maintain}
@@ -168,6 +169,29 @@ steady_forget s t within h =
       tidy = h.tidy;
       silences = IsDistinct-filter same_silence (λ x. not (is_over t x)) s.silences h.silences;
       rows = h.rows;
+      flushes = h.flushes;
+      numbers = h.numbers;
+      opened = h.opened;
+    }
+
+-- ---- a load
+
+rows_loaded : (config : Config) (rows : List RowView) (t : ℕ) (row : RowView) → IsDistinct same_key rows → IsDistinct same_key (rows_loading config rows t row)
+rows_loaded config rows t row h =
+    elim (may_load config t row && is_put (loaded rows t row)) as (λ b. IsDistinct same_key (cond b (log_with row rows) rows)) [
+      | true ↦ IsDistinct-upsert same_key same_key_equiv row rows h
+      | false ↦ h
+    ]
+
+pub steady_load : (config : Config) (s : State) (t : ℕ) (row : RowView) → t ≤ MAX_MOMENT → IsSteady s → IsSteady (after_load config s t row)
+steady_load config s t row within h =
+    record {
+      clock = within;
+      known = h.known;
+      groups = h.groups;
+      tidy = h.tidy;
+      silences = h.silences;
+      rows = rows_loaded config s.rows t row h.rows;
       flushes = h.flushes;
       numbers = h.numbers;
       opened = h.opened;

@@ -9,13 +9,15 @@ use Rattle.am_retry.specs.declared.outcome.Outcome.{Outcome}
 use Rattle.am_model.specs.declared.config.Config.{Config}
 use Rattle.am_model.specs.declared.config.Integration.{Integration}
 use Rattle.am_model.specs.declared.record.Call.{Call}
-use Rattle.am_model.specs.declared.record.Call.TheVariants.{Insert, Silence, Begin, Finish, Maintain, Forget, Note}
+use Rattle.am_model.specs.declared.record.Call.TheVariants.{Insert, Silence, Begin, Finish, Maintain, Forget, Load, Note}
 use Rattle.am_model.specs.declared.record.Reply.{Reply}
 use Rattle.am_model.specs.declared.record.Reply.TheVariants as reply_is
+use Rattle.am_model.specs.declared.views.RowView.{RowView}
 use Rattle.am_model.specs.Begin.{asked_of, taken, after_asking, after_taking, reply_asking, reply_taking, begun}
 use Rattle.am_model.specs.Finish.{finished, after_finish, after_finish_of}
 use Rattle.am_model.specs.Forget.{forgotten, after_forget}
 use Rattle.am_model.specs.Insert.{inserted, after_insert}
+use Rattle.am_model.specs.Load.{may_load, loaded, load_reply, after_load}
 use Rattle.am_model.specs.Note.{may_note, noted, after_note, after_note_of}
 use Rattle.am_model.specs.Replay.{reply, after_call}
 use Rattle.am_model.specs.State.{GroupState, FlushState, State, at_moment, moment, flush_numbered}
@@ -36,6 +38,8 @@ pub record HoldsOfEach (config : Config) (id : ℕ) (s : State) (P : Call → St
       → P (Finish now number outcomes) (after_finish config s (moment s now) outcomes f) (reply_is.Finished (finished s outcomes f))
   pub maintain : (now : ℕ) → P (Maintain now) (after_maintain s (moment s now)) (reply_is.Maintained (maintained s (moment s now)))
   pub forget : (now : ℕ) → P (Forget now) (after_forget s (moment s now)) (reply_is.Forgotten (forgotten s (moment s now)))
+  pub load : (now : ℕ) (row : RowView) → may_load config (moment s now) row ≡ true
+      → P (Load now row) (after_load config s (moment s now) row) (reply_is.Loaded (loaded s.rows (moment s now) row))
   pub note : (now number integration : ℕ) (outcome : Option Outcome) (f : FlushState) → flush_numbered s.flushes number ≡ Some f → may_note integration outcome f ≡ true
       → P (Note now number integration outcome) (after_note config s (moment s now) integration f) reply_is.Noted
 
@@ -60,6 +64,13 @@ module _ (config : Config) (id : ℕ) (s : State) (P : Call → State → Reply 
         | false ↦ λ may told. absurd (cc)
       ] refl e
 
+  loads : (now : ℕ) (row : RowView) (p : Reply) → load_reply config s (moment s now) row ≡ Some p → P (Load now row) (after_load config s (moment s now) row) p
+  loads now row p e =
+      elim (may_load config (moment s now) row) as (λ b. may_load config (moment s now) row ≡ b → (if b then Some (reply_is.Loaded (loaded s.rows (moment s now) row)) else None) ≡ Some p → P (Load now row) (after_load config s (moment s now) row) p) [
+        | true ↦ λ may told. subst (P (Load now row) (after_load config s (moment s now) row)) (inside (reply_is.Loaded (loaded s.rows (moment s now) row)) p told) (each.load now row may)
+        | false ↦ λ may told. absurd (cc)
+      ] refl e
+
   pub each_call : (c : Call) (p : Reply) → reply config id s c ≡ Some p → P c (after_call config s c) p
   each_call (Insert now a) p e = subst (P (Insert now a) (after_insert config s (moment s now) a)) (inside (reply_is.Inserted (inserted config s a)) p e) (each.insert now a)
   each_call (Silence now number matchers start end) p e =
@@ -69,4 +80,5 @@ module _ (config : Config) (id : ℕ) (s : State) (P : Call → State → Reply 
   each_call (Finish now number outcomes) p e = finishes now number outcomes (flush_numbered s.flushes number) p refl e
   each_call (Maintain now) p e = subst (P (Maintain now) (after_maintain s (moment s now))) (inside (reply_is.Maintained (maintained s (moment s now))) p e) (each.maintain now)
   each_call (Forget now) p e = subst (P (Forget now) (after_forget s (moment s now))) (inside (reply_is.Forgotten (forgotten s (moment s now))) p e) (each.forget now)
+  each_call (Load now row) p e = loads now row p e
   each_call (Note now number integration outcome) p e = notes now number integration outcome (flush_numbered s.flushes number) p refl e

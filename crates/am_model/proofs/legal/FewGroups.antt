@@ -12,7 +12,7 @@ use Rattle.am_model.specs.declared.config.Integration.{Integration}
 use Rattle.am_model.specs.declared.fault.Fault.TheVariants.{TooManyNames, TooManyGroups}
 use Rattle.am_model.specs.declared.group.GroupName.{GroupName}
 use Rattle.am_model.specs.declared.record.Call.{Call}
-use Rattle.am_model.specs.declared.record.Call.TheVariants.{Insert, Silence, Begin, Finish, Maintain, Forget, Note}
+use Rattle.am_model.specs.declared.record.Call.TheVariants.{Insert, Silence, Begin, Finish, Maintain, Forget, Load, Note}
 use Rattle.am_model.specs.Begin.{taken, asked_of, after_asking, after_taking, begun_group, without_resolved}
 use Rattle.am_model.specs.Causes.{makes_too_many}
 use Rattle.am_model.specs.Finish.{after_finish_of, finished_group}
@@ -97,6 +97,7 @@ IsInsert (Begin now) = false
 IsInsert (Finish now number outcomes) = false
 IsInsert (Maintain now) = false
 IsInsert (Forget now) = false
+IsInsert (Load now row) = false
 IsInsert (Note now number integration outcome) = false
 
 length-changed : (test : GroupState → Bool) (f : GroupState → GroupState) (gs : List GroupState) → length (changed_where test f gs) ≡ length gs
@@ -131,4 +132,5 @@ few_others config s (Begin now) e = omega (arith, few_taking config s (moment s 
 few_others config s (Finish now number outcomes) e = omega (arith, few_finished config s (moment s now) outcomes (flush_numbered s.flushes number))
 few_others config s (Maintain now) e = length-filter (λ g. not (is_deserted g)) s.groups
 few_others config s (Forget now) e = omega arith
+few_others config s (Load now row) e = omega arith
 few_others config s (Note now number integration outcome) e = omega (arith, few_noted config s (moment s now) integration outcome (flush_numbered s.flushes number))

@@ -7,7 +7,7 @@ use Rattle.am_retry.specs.declared.outcome.Outcome.{Outcome}
 use Rattle.am_model.specs.declared.config.Config.{Config}
 use Rattle.am_model.specs.declared.config.Integration.{Integration}
 use Rattle.am_model.specs.declared.record.Call.{Call}
-use Rattle.am_model.specs.declared.record.Call.TheVariants.{Insert, Silence, Begin, Finish, Maintain, Forget, Note}
+use Rattle.am_model.specs.declared.record.Call.TheVariants.{Insert, Silence, Begin, Finish, Maintain, Forget, Load, Note}
 use Rattle.am_model.specs.Begin.{taken, asked_of, after_asking, after_taking}
 use Rattle.am_model.specs.Finish.{after_finish_of}
 use Rattle.am_model.specs.Forget.{is_idle}
@@ -44,6 +44,7 @@ IsSilence (Begin now) = false
 IsSilence (Finish now number outcomes) = false
 IsSilence (Maintain now) = false
 IsSilence (Forget now) = false
+IsSilence (Load now row) = false
 IsSilence (Note now number integration outcome) = false
 
 abbrev pub IsForget : Call → Bool
@@ -53,6 +54,7 @@ IsForget (Begin now) = false
 IsForget (Finish now number outcomes) = false
 IsForget (Maintain now) = false
 IsForget (Forget now) = true
+IsForget (Load now row) = false
 IsForget (Note now number integration outcome) = false
 
 module _ (config : Config) (s : State) where
@@ -87,6 +89,7 @@ module _ (config : Config) (s : State) where
   known_others (Finish now number outcomes) e f g = known_finished (moment s now) outcomes (flush_numbered s.flushes number)
   known_others (Maintain now) e f g = (refl, refl)
   known_others (Forget now) e f g = absurd (cc)
+  known_others (Load now row) e f g = (refl, refl)
   known_others (Note now number integration outcome) e f g = known_noted (moment s now) integration outcome (flush_numbered s.flushes number)
 
   -- no more is known, and there are no more silences
@@ -108,5 +111,6 @@ module _ (config : Config) (s : State) where
     length-filter (λ a. not (is_idle s.groups (moment s now) a)) s.known,
     length-filter (λ x. not (is_over (moment s now) x)) s.silences,
   )
+  fewer_others (Load now row) e f = no_more (after_call config s (Load now row)) (refl, refl)
   fewer_others (Note now number integration outcome) e f =
       no_more (after_call config s (Note now number integration outcome)) (known_others (Note now number integration outcome) refl refl refl)

@@ -1,16 +1,18 @@
 -- No row of the log is of a moment after the greatest there is.
-use Rattle.std.proofs.Common.{ℕ, ◌≤◌, true, false, Option, Some, None, List, [], ◌∷◌, not, arith, fold, if◌then◌else◌}
+use Rattle.std.proofs.Common.{◌≡◌, ℕ, ◌≤◌, true, false, ◌&&◌, nat_le, Option, Some, None, List, [], ◌∷◌, not, arith, fold, refl, if◌then◌else◌}
 use Rattle.std.specs.List.{AllByRecursion}
+use Rattle.std.proofs.lemmas.Bool.{and_parts, leb-true}
 use Rattle.am_alerts.specs.declared.limits.TheConstants.{MAX_MOMENT}
 use Rattle.am_retry.specs.declared.outcome.Outcome.{Outcome}
 use Rattle.am_model.specs.declared.config.Config.{Config}
 use Rattle.am_model.specs.declared.config.Integration.{Integration}
 use Rattle.am_model.specs.declared.record.Call.{Call}
-use Rattle.am_model.specs.declared.record.Call.TheVariants.{Insert, Silence, Begin, Finish, Maintain, Forget, Note}
+use Rattle.am_model.specs.declared.record.Call.TheVariants.{Insert, Silence, Begin, Finish, Maintain, Forget, Load, Note}
 use Rattle.am_model.specs.declared.record.Record.{Record}
 use Rattle.am_model.specs.declared.views.RowView.{RowView}
 use Rattle.am_model.specs.Begin.{asked_of, taken, after_asking, after_taking}
 use Rattle.am_model.specs.Finish.{same_key, log_with, row_at, logged_by, after_finish_of}
+use Rattle.am_model.specs.Load.{has_integration, is_ordered, may_load, loaded, is_put, rows_loading}
 use Rattle.am_model.specs.Note.{may_note, after_note, after_note_of}
 use Rattle.am_model.specs.Replay.{after, after_call, replay, replay_from}
 use Rattle.am_model.specs.State.{AskedState, FlushState, GroupState, State, at_moment, moment, opening_state, flush_numbered}
@@ -49,6 +51,17 @@ noting config s t integration outcome (Some f) within timely =
       | false ↦ record { clock = within; rows = timely.rows }
     ]
 
+-- a row that is loaded isn't of a later moment
+loading : (config : Config) (rows : List RowView) (t : ℕ) (row : RowView) → t ≤ MAX_MOMENT → AreTimely rows → AreTimely (rows_loading config rows t row)
+loading config rows t row within timely =
+    elim (may_load config t row && is_put (loaded rows t row)) as (λ b. (may_load config t row && is_put (loaded rows t row)) ≡ b → AreTimely (if b then log_with row rows else rows)) [
+      | true ↦ λ e.
+          let may = (and_parts (may_load config t row) (is_put (loaded rows t row)) e).0 in
+          let earlier = (and_parts (has_integration config row && is_ordered row) (nat_le row.moment t) may).1 in
+          all-upsert same_key row (λ (row : RowView). row.moment ≤ MAX_MOMENT) rows (omega (arith, leb-true row.moment t earlier, within)) timely
+      | false ↦ λ e. timely
+    ] refl
+
 asking : (config : Config) (s : State) (t : ℕ) (g : GroupState) (asked : List (ℕ × Integration)) → t ≤ MAX_MOMENT → IsTimely s → IsTimely (after_asking config s t g asked)
 asking config s t g [] within timely = record { clock = within; rows = timely.rows }
 asking config s t g (i ∷ is) within timely = record { clock = within; rows = timely.rows }
@@ -69,6 +82,11 @@ call config s (Maintain now) timely =
       rows = all-filter (λ (row : RowView). row.moment ≤ MAX_MOMENT) (λ row. not (has_expired (moment s now) row)) s.rows timely.rows;
     }
 call config s (Forget now) timely = record { clock = moment-within s now timely.clock; rows = timely.rows }
+call config s (Load now row) timely =
+    record {
+      clock = moment-within s now timely.clock;
+      rows = loading config s.rows (moment s now) row (moment-within s now timely.clock) timely.rows;
+    }
 call config s (Note now number integration outcome) timely =
     noting config s (moment s now) integration outcome (flush_numbered s.flushes number) (moment-within s now timely.clock) timely
 

@@ -15,7 +15,7 @@ use Rattle.am_retry.specs.declared.outcome.Outcome.{Outcome}
 use Rattle.am_model.specs.declared.config.Config.{Config}
 use Rattle.am_model.specs.declared.config.Integration.{Integration}
 use Rattle.am_model.specs.declared.record.Call.{Call}
-use Rattle.am_model.specs.declared.record.Call.TheVariants.{Insert, Silence, Begin, Finish, Maintain, Forget, Note}
+use Rattle.am_model.specs.declared.record.Call.TheVariants.{Insert, Silence, Begin, Finish, Maintain, Forget, Load, Note}
 use Rattle.am_model.specs.declared.record.Reply.{Reply}
 use Rattle.am_model.specs.declared.record.Reply.TheVariants.{Flush}
 use Rattle.am_model.specs.Begin.{alert_cmp, label_sets, copied, copy_of, firing_of, resolved_of, asked_about, asked_of, sent, deadline_of, leaving_of, begun_group, reply_asking, reply_taking, flush_asking, after_asking, after_taking, taken}
@@ -274,6 +274,14 @@ module _ (config : Config) (s : State) (ks : List AlertData) (xs : List SilenceD
         silences = without (is_over (moment s now)) xs;
         state = refl;
         alike = alike-forgotten s ks xs (moment s now) (later now) h;
+      }
+  same (Load now row) =
+      record {
+        told = λ id. refl;
+        known = ks;
+        silences = xs;
+        state = refl;
+        alike = still (after_call config s (Load now row)) now refl refl refl;
       }
   same (Note now number integration outcome) =
       let kept = known_others config s (Note now number integration outcome) refl refl refl in

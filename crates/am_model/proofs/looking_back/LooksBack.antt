@@ -9,6 +9,7 @@ use Rattle.am_model.proofs.looking_back.alerts.FoundAlerts.{alerts_are_found}
 use Rattle.am_model.proofs.looking_back.rows.FoundRows.{rows_are_found}
 use Rattle.am_model.proofs.looking_back.reasons.ReasonsAreExact.{begins_have_reasons}
 use Rattle.am_model.proofs.looking_back.alerts.Refiring.{refiring_alerts_stay}
+use Rattle.am_model.proofs.looking_back.rows.LoadedRows.{loads_put_later_rows}
 use Rattle.am_model.proofs.looking_back.rows.RowsDelivered.{shown_rows_are_found, only_delivered_is_logged, rows_come_by_delivery, rows_were_delivered}
 
 pub histories_look_back : EveryLegalHistory LooksBack
@@ -22,6 +23,7 @@ histories_look_back config id history legal =
       only_delivered = only_delivered_is_logged config id history legal;
       new_rows = rows_come_by_delivery config id history legal;
       delivered = rows_were_delivered config id history legal;
+      loads = loads_put_later_rows config id history legal;
       refiring = refiring_alerts_stay config id history legal;
       once = flushes_end_once config id history legal;
       asked = begins_notify_exactly_whom_needed config id history legal;

@@ -1,3 +1,4 @@
 pub mod FoundRows
+pub mod LoadedRows
 pub mod RowSteps
 pub mod RowsDelivered

@@ -10,16 +10,17 @@ use Rattle.am_retry.specs.declared.outcome.Outcome.{Outcome}
 use Rattle.am_model.specs.declared.config.Config.{Config}
 use Rattle.am_model.specs.declared.group.GroupName.{GroupName}
 use Rattle.am_model.specs.declared.record.Call.{Call}
-use Rattle.am_model.specs.declared.record.Call.TheVariants.{Insert, Silence, Begin, Finish, Maintain, Forget, Note}
+use Rattle.am_model.specs.declared.record.Call.TheVariants.{Insert, Silence, Begin, Finish, Maintain, Forget, Load, Note}
 use Rattle.am_model.specs.declared.record.Record.{Record}
 use Rattle.am_model.specs.declared.record.Reply.{Reply}
 use Rattle.am_model.specs.declared.record.Reply.TheVariants.{Inserted, Silenced, NothingDue, Quiet, Flush}
-use Rattle.am_model.specs.declared.record.Reply.TheVariants.{Finished, Maintained, Forgotten, Noted}
+use Rattle.am_model.specs.declared.record.Reply.TheVariants.{Finished, Maintained, Forgotten, Loaded, Noted}
 use Rattle.am_model.specs.declared.views.RowView.{RowView}
-use Rattle.am_model.specs.Begin.{alert_cmp, label_sets}
+use Rattle.am_model.specs.Begin.{alert_cmp, label_sets, is_entry_of}
 use Rattle.am_model.specs.Configured.{rules_of, route_muted, expiry_at}
 use Rattle.am_model.specs.Insert.{same_alert}
 use Rattle.am_model.specs.Lists.{without, unless, in_order}
+use Rattle.am_model.specs.Load.{is_put}
 use Rattle.am_model.specs.look_back.Past.{Past, moment_at, is_flush_of, notices_in, begin_of, was_noted, succeeded}
 use Rattle.am_model.specs.look_back.Presence.{presence}
 use Rattle.am_model.specs.State.{MemberState}
@@ -38,6 +39,7 @@ alert_in (Begin now) = None
 alert_in (Finish now number outcomes) = None
 alert_in (Maintain now) = None
 alert_in (Forget now) = None
+alert_in (Load now row) = None
 alert_in (Note now number integration outcome) = None
 
 -- the silence that a call sets
@@ -48,6 +50,7 @@ silence_in (Begin now) = None
 silence_in (Finish now number outcomes) = None
 silence_in (Maintain now) = None
 silence_in (Forget now) = None
+silence_in (Load now row) = None
 silence_in (Note now number integration outcome) = None
 
 -- the known alerts, and those that were forgotten: the last insert of each label set
@@ -111,6 +114,7 @@ row_of_flush config t integration begun past (Flush number group deadline notice
 row_of_flush config t integration begun past (Finished finished) = None
 row_of_flush config t integration begun past (Maintained maintained) = None
 row_of_flush config t integration begun past (Forgotten forgotten) = None
+row_of_flush config t integration begun past (Loaded loaded) = None
 row_of_flush config t integration begun past Noted = None
 
 -- the row that a success logs at t for an integration that the flush at the head asked
@@ -140,6 +144,7 @@ logs name integration past (Finish now number outcomes) =
     && (asked_and_succeeded number outcomes past integration (begin_of number past) && not (was_noted number integration past))
 logs name integration past (Maintain now) = false
 logs name integration past (Forget now) = false
+logs name integration past (Load now row) = false
 logs name integration past (Note now number i outcome) = begins_group name (begin_of number past) && (i == integration)
 
 -- the past that begins with the begin of the flush that a finish or a note names
@@ -150,6 +155,7 @@ begin_named past (Begin now) = []
 begin_named past (Finish now number outcomes) = begin_of number past
 begin_named past (Maintain now) = []
 begin_named past (Forget now) = []
+begin_named past (Load now row) = []
 begin_named past (Note now number integration outcome) = begin_of number past
 
 -- the row that the latest record logs for a group and an integration, if it does
@@ -158,6 +164,39 @@ row_logged config name integration r past =
     if logs name integration past r.call
     then row_of_begin config (moment_at (r ∷ past)) integration (begin_named past r.call)
     else None
+
+-- the row that a call hands in
+abbrev pub row_in : Call → Option RowView
+row_in (Insert now alert) = None
+row_in (Silence now id matchers start end) = None
+row_in (Begin now) = None
+row_in (Finish now number outcomes) = None
+row_in (Maintain now) = None
+row_in (Forget now) = None
+row_in (Load now row) = Some row
+row_in (Note now number integration outcome) = None
+
+-- whether a reply is that the row that was handed in was put into the log
+abbrev pub tells_put : Reply → Bool
+tells_put (Inserted inserted) = false
+tells_put (Silenced silenced) = false
+tells_put NothingDue = false
+tells_put (Quiet group removed) = false
+tells_put (Flush number group deadline notices) = false
+tells_put (Finished finished) = false
+tells_put (Maintained maintained) = false
+tells_put (Forgotten forgotten) = false
+tells_put (Loaded loaded) = is_put loaded
+tells_put Noted = false
+
+-- a row that was handed in, if it is of this group and integration and was put into the log
+abbrev pub row_put : GroupName → ℕ → Reply → Option RowView → Option RowView
+row_put name integration reply None = None
+row_put name integration reply (Some row) = if tells_put reply && is_entry_of name integration row then Some row else None
+
+-- the row of a group and an integration that the latest record loaded, as it was handed in, if it did
+abbrev pub row_loaded : GroupName → ℕ → Record → Option RowView
+row_loaded name integration r = row_put name integration r.reply (row_in r.call)
 
 -- a row, unless its expiry is reached at t
 abbrev pub unless_expired : ℕ → Option RowView → Option RowView
@@ -172,12 +211,14 @@ unless_collected t (Begin now) row = row
 unless_collected t (Finish now number outcomes) row = row
 unless_collected t (Maintain now) row = unless_expired t row
 unless_collected t (Forget now) row = row
+unless_collected t (Load now loaded) row = row
 unless_collected t (Note now number integration outcome) row = row
 
--- entry: the row of the last record that logged a success of an integration for a group, unless a maintenance since then came at or
--- past its expiry
+-- entry: the row of the last record that logged a success of an integration for a group or loaded a row of it, unless a maintenance
+-- since then came at or past its expiry
 abbrev pub entry_in : Config → GroupName → ℕ → Past → Option RowView
 entry_in config name integration [] = None
 entry_in config name integration (r ∷ past) =
     option_or (row_logged config name integration r past)
-    (unless_collected (moment_at (r ∷ past)) r.call (entry_in config name integration past))
+    (option_or (row_loaded name integration r)
+    (unless_collected (moment_at (r ∷ past)) r.call (entry_in config name integration past)))

@@ -2,7 +2,7 @@
 use Rattle.std.specs.Prelude.{◌≡◌, ℕ, ◌+◌, Bool, true, false, IsTrue, not, ◌&&◌, ◌||◌, ◌==◌, ◌⊎◌, max, All, List, [], ◌∷◌, map, filter}
 use Rattle.std.specs.Prelude.{find, count_by, Option, Some, None, if◌then◌else◌}
 use Rattle.std.specs.List.{list_any}
-use Rattle.std.specs.Option.{option_map}
+use Rattle.std.specs.Option.{option_map, option_or}
 use Rattle.am_alerts.specs.AlertData.{AlertData, is_resolved}
 use Rattle.am_alerts.specs.Labels.{same_label_set}
 use Rattle.am_alerts.specs.declared.labels.Label.{Label}
@@ -14,21 +14,22 @@ use Rattle.am_model.specs.declared.config.Config.{Config}
 use Rattle.am_model.specs.declared.config.Integration.{Integration}
 use Rattle.am_model.specs.declared.group.GroupName.{GroupName}
 use Rattle.am_model.specs.declared.record.Call.{Call}
-use Rattle.am_model.specs.declared.record.Call.TheVariants.{Insert, Silence, Begin, Finish, Maintain, Forget, Note}
+use Rattle.am_model.specs.declared.record.Call.TheVariants.{Insert, Silence, Begin, Finish, Maintain, Forget, Load, Note}
 use Rattle.am_model.specs.declared.record.Record.{Record}
 use Rattle.am_model.specs.declared.record.Reply.{Reply}
 use Rattle.am_model.specs.declared.record.Reply.TheVariants.{Inserted, Silenced, NothingDue, Quiet, Flush}
-use Rattle.am_model.specs.declared.record.Reply.TheVariants.{Finished, Maintained, Forgotten, Noted}
+use Rattle.am_model.specs.declared.record.Reply.TheVariants.{Finished, Maintained, Forgotten, Loaded, Noted}
 use Rattle.am_model.specs.declared.views.RowView.{RowView}
 use Rattle.am_model.specs.Begin.{alert_cmp, is_entry_of, log_row}
 use Rattle.am_model.specs.Configured.{route_of, integrations_of}
 use Rattle.am_model.specs.Notice.{NoticeData, is_nothing}
 use Rattle.am_model.specs.look_back.Entry.{begins_group, logs, present_in, firing_alerts_in, resolved_alerts_in, firing_in, resolved_in}
-use Rattle.am_model.specs.look_back.Entry.{entry_in}
+use Rattle.am_model.specs.look_back.Entry.{row_in, row_loaded, entry_in}
 use Rattle.am_model.specs.Finish.{is_delivered}
 use Rattle.am_model.specs.look_back.Interval.{found_empty, BeginsKeepTheInterval}
 use Rattle.am_model.specs.Laws.{IsConsistent}
 use Rattle.am_model.specs.Lists.{in_order}
+use Rattle.am_model.specs.Load.{may_load, loaded_over}
 use Rattle.am_model.specs.look_back.Past.{Past, AtEach, past_of, replay_past, moment_at, is_flush, is_flush_of, is_finish, is_note, takes}
 use Rattle.am_model.specs.look_back.Past.{notices_in, begin_of, has_begun, has_finished, was_noted}
 use Rattle.am_model.specs.look_back.Presence.{goes_to, inserts, inserted_by, stamp_told, presence}
@@ -96,6 +97,7 @@ reports_delivery name integration past (Finish now number outcomes) =
     is_delivered_in name integration (outcome_of outcomes integration) (begin_of number past)
 reports_delivery name integration past (Maintain now) = false
 reports_delivery name integration past (Forget now) = false
+reports_delivery name integration past (Load now row) = false
 reports_delivery name integration past (Note now number i outcome) =
     (i == integration) && is_delivered_in name integration outcome (begin_of number past)
 
@@ -113,26 +115,54 @@ was_delivered row (r ∷ past) =
     then (moment_at (r ∷ past) == row.moment) && reports_delivery row.group row.integration past r.call
     else was_delivered row past
 
+-- the row of a group and an integration that was loaded last, as it was handed in, unless a success was logged there since
+abbrev pub handed_in : GroupName → ℕ → Past → Option RowView
+handed_in name integration [] = None
+handed_in name integration (r ∷ past) =
+    if logs name integration past r.call then None
+    else option_or (row_loaded name integration r) (handed_in name integration past)
+
+-- a claim about a row, unless it was handed in: then it is the row that was handed in
+abbrev pub UnlessHandedIn : Option RowView → RowView → Type 0 → Type 0
+UnlessHandedIn None row Claim = Claim
+UnlessHandedIn (Some handed) row Claim = row ≡ handed
+
 -- whatever a history logs was delivered, or had nothing to send
 abbrev pub OnlyDeliveredIsLogged : Config → List Record → Type 0
 OnlyDeliveredIsLogged config history = AtEach LogsDelivered (past_of history)
 
--- a row that comes into the log by a record was delivered: any that stands there after it stood there before, or is of its moment, and
--- it reports so of that flush's notice
+-- a row that comes into the log by a record was delivered, unless the record loaded it: any that stands there after it stood there
+-- before, or is of its moment, and it reports so of that flush's notice
 abbrev pub NewRowsAreDelivered : Config → Record → Past → Type 0
 NewRowsAreDelivered config r past =
     (name : GroupName) (integration : ℕ) (row : RowView)
     → find (is_entry_of name integration) (replay_past config (r ∷ past)).rows ≡ Some row
     → (find (is_entry_of name integration) (replay_past config past).rows ≡ Some row)
-    ⊎ ((row.moment ≡ moment_at (r ∷ past)) × (reports_delivery name integration past r.call ≡ true))
+    ⊎ UnlessHandedIn (row_loaded name integration r) row
+    ((row.moment ≡ moment_at (r ∷ past)) × (reports_delivery name integration past r.call ≡ true))
 
--- at each record, the rows that come into the log were delivered, or had nothing to send
+-- at each record, the rows that come into the log were delivered, or had nothing to send, or were loaded
 abbrev pub RowsComeByDelivery : Config → List Record → Type 0
 RowsComeByDelivery config history = AtEach (NewRowsAreDelivered config) (past_of history)
 
--- each row of the log stands for a notice that was reported delivered, or had nothing to send, at its moment
+-- each row of the log stands for a notice that was reported delivered, or had nothing to send, at its moment, unless it was handed in
 abbrev pub RowsWereDelivered : Config → List Record → Type 0
-RowsWereDelivered config history = All (λ row. IsTrue (was_delivered row (past_of history))) (replay config history).rows
+RowsWereDelivered config history =
+    All (λ row. UnlessHandedIn (handed_in row.group row.integration (past_of history)) row (IsTrue (was_delivered row (past_of history))))
+    (replay config history).rows
+
+-- ---- loaded only over what is earlier
+
+-- a load is allowed, and is told what becomes of its row by the entry that looking back finds
+pub record IsLoadedRightly (config : Config) (r : Record) (past : Past) (row : RowView) : Type 0 where
+  pub allowed : may_load config (moment_at (r ∷ past)) row ≡ true
+  pub told : r.reply ≡ Loaded (loaded_over (moment_at (r ∷ past)) row (entry_in config row.group row.integration past))
+
+-- each load is told so: its row is put into the log unless its expiry is before the record's moment, or the log has an entry there that
+-- is of the same moment or a later one
+abbrev pub LoadsPutLaterRows : Config → List Record → Type 0
+LoadsPutLaterRows config history =
+    AtEach (λ r past. (row : RowView) → row_in r.call ≡ Some row → IsLoadedRightly config r past row) (past_of history)
 
 -- ---- a refiring alert stays
 
@@ -170,6 +200,7 @@ number_in (Flush number group deadline notices) = number
 number_in (Finished finished) = 0
 number_in (Maintained maintained) = 0
 number_in (Forgotten forgotten) = 0
+number_in (Loaded loaded) = 0
 number_in Noted = 0
 
 -- whether a flush of this group is open: it has begun, and isn't finished
@@ -262,6 +293,7 @@ IsToldRightly config t past (Flush number group deadline notices) = IsFlushFound
 IsToldRightly config t past (Finished finished) = Unit {0}
 IsToldRightly config t past (Maintained maintained) = Unit {0}
 IsToldRightly config t past (Forgotten forgotten) = Unit {0}
+IsToldRightly config t past (Loaded loaded) = Unit {0}
 IsToldRightly config t past Noted = Unit {0}
 
 -- each begin tells what is there
@@ -270,8 +302,8 @@ NoticesListPresentAlerts config history = AtEach (λ r past. IsToldRightly confi
 
 -- ---- all of it, of one history
 
--- what looking back says of a history: its alerts and its rows are found, and no two are alike; only what was delivered is logged; and
--- at each record a refiring alert stays, flushes end once, and a begin is at least an interval after any other of its group, unless a
+-- what looking back says of a history: its alerts and its rows are found, and no two are alike; only what was delivered is logged, but for
+-- what was handed in, which is put in only where it is later; and at each record a refiring alert stays, flushes end once, and a begin is at least an interval after any other of its group, unless a
 -- maintenance between them found it without alerts, asks those that it has a reason to ask, and tells what is there
 pub record LooksBack (config : Config) (history : List Record) : Type 0 where
   pub consistent : IsConsistent (replay config history)
@@ -282,6 +314,7 @@ pub record LooksBack (config : Config) (history : List Record) : Type 0 where
   pub only_delivered : OnlyDeliveredIsLogged config history
   pub new_rows : RowsComeByDelivery config history
   pub delivered : RowsWereDelivered config history
+  pub loads : LoadsPutLaterRows config history
   pub refiring : RefiringAlertsStay config history
   pub once : FlushesEndOnce config history
   pub asked : BeginsNotifyExactlyWhomNeeded config history

@@ -6,11 +6,11 @@ use Rattle.am_retry.specs.declared.outcome.Outcome.{Outcome}
 use Rattle.am_model.specs.declared.config.Config.{Config}
 use Rattle.am_model.specs.declared.group.GroupName.{GroupName}
 use Rattle.am_model.specs.declared.record.Call.{Call}
-use Rattle.am_model.specs.declared.record.Call.TheVariants.{Insert, Silence, Begin, Finish, Maintain, Forget, Note}
+use Rattle.am_model.specs.declared.record.Call.TheVariants.{Insert, Silence, Begin, Finish, Maintain, Forget, Load, Note}
 use Rattle.am_model.specs.declared.record.Record.{Record}
 use Rattle.am_model.specs.declared.record.Reply.{Reply}
 use Rattle.am_model.specs.declared.record.Reply.TheVariants.{Inserted, Silenced, NothingDue, Quiet, Flush}
-use Rattle.am_model.specs.declared.record.Reply.TheVariants.{Finished, Maintained, Forgotten, Noted}
+use Rattle.am_model.specs.declared.record.Reply.TheVariants.{Finished, Maintained, Forgotten, Loaded, Noted}
 use Rattle.am_model.specs.Records.{now_of}
 use Rattle.am_model.specs.Notice.{NoticeData, is_nothing}
 use Rattle.am_model.specs.Finish.{is_delivered}
@@ -50,6 +50,7 @@ is_flush number (Flush n group deadline notices) = n == number
 is_flush number (Finished finished) = false
 is_flush number (Maintained maintained) = false
 is_flush number (Forgotten forgotten) = false
+is_flush number (Loaded loaded) = false
 is_flush number Noted = false
 
 -- whether a reply is that this group was begun and nobody is asked
@@ -62,6 +63,7 @@ is_quiet name (Flush n group deadline notices) = false
 is_quiet name (Finished finished) = false
 is_quiet name (Maintained maintained) = false
 is_quiet name (Forgotten forgotten) = false
+is_quiet name (Loaded loaded) = false
 is_quiet name Noted = false
 
 -- whether a reply is a flush of this group
@@ -74,6 +76,7 @@ is_flush_of name (Flush n group deadline notices) = same_name name group
 is_flush_of name (Finished finished) = false
 is_flush_of name (Maintained maintained) = false
 is_flush_of name (Forgotten forgotten) = false
+is_flush_of name (Loaded loaded) = false
 is_flush_of name Noted = false
 
 -- whether a reply takes this group: it names it, with a flush or without
@@ -90,6 +93,7 @@ notices_in (Flush n group deadline notices) = notices
 notices_in (Finished finished) = []
 notices_in (Maintained maintained) = []
 notices_in (Forgotten forgotten) = []
+notices_in (Loaded loaded) = []
 notices_in Noted = []
 
 -- whether a call is the finish of the flush of this number
@@ -100,6 +104,7 @@ is_finish number (Begin now) = false
 is_finish number (Finish now n outcomes) = n == number
 is_finish number (Maintain now) = false
 is_finish number (Forget now) = false
+is_finish number (Load now row) = false
 is_finish number (Note now n integration outcome) = false
 
 -- whether a call notes this integration for the flush of this number
@@ -110,6 +115,7 @@ is_note number integration (Begin now) = false
 is_note number integration (Finish now n outcomes) = false
 is_note number integration (Maintain now) = false
 is_note number integration (Forget now) = false
+is_note number integration (Load now row) = false
 is_note number integration (Note now n i outcome) = (n == number) && (i == integration)
 
 -- whether a call is a maintenance
@@ -120,6 +126,7 @@ is_maintenance (Begin now) = false
 is_maintenance (Finish now n outcomes) = false
 is_maintenance (Maintain now) = true
 is_maintenance (Forget now) = false
+is_maintenance (Load now row) = false
 is_maintenance (Note now n i outcome) = false
 
 -- the past that begins with the begin of the flush of this number; empty, if it isn't there

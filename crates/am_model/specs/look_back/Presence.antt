@@ -8,11 +8,11 @@ use Rattle.am_retry.specs.declared.outcome.Outcome.{Outcome}
 use Rattle.am_model.specs.declared.config.Config.{Config}
 use Rattle.am_model.specs.declared.group.GroupName.{GroupName}
 use Rattle.am_model.specs.declared.record.Call.{Call}
-use Rattle.am_model.specs.declared.record.Call.TheVariants.{Insert, Silence, Begin, Finish, Maintain, Forget, Note}
+use Rattle.am_model.specs.declared.record.Call.TheVariants.{Insert, Silence, Begin, Finish, Maintain, Forget, Load, Note}
 use Rattle.am_model.specs.declared.record.Record.{Record}
 use Rattle.am_model.specs.declared.record.Reply.{Reply}
 use Rattle.am_model.specs.declared.record.Reply.TheVariants.{Inserted, Silenced, NothingDue, Quiet, Flush}
-use Rattle.am_model.specs.declared.record.Reply.TheVariants.{Finished, Maintained, Forgotten, Noted}
+use Rattle.am_model.specs.declared.record.Reply.TheVariants.{Finished, Maintained, Forgotten, Loaded, Noted}
 use Rattle.am_model.specs.Insert.{names_for}
 use Rattle.am_model.specs.look_back.Past.{Past, moment_at, is_flush, is_flush_of, is_quiet, notices_in, begin_of, succeeded}
 use Rattle.am_model.specs.State.{MemberState, same_name}
@@ -29,6 +29,7 @@ inserts labels (Begin now) = false
 inserts labels (Finish now number outcomes) = false
 inserts labels (Maintain now) = false
 inserts labels (Forget now) = false
+inserts labels (Load now row) = false
 inserts labels (Note now number integration outcome) = false
 
 -- the stamp that an insert was told
@@ -41,6 +42,7 @@ stamp_told (Flush number group deadline notices) = 0
 stamp_told (Finished finished) = 0
 stamp_told (Maintained maintained) = 0
 stamp_told (Forgotten forgotten) = 0
+stamp_told (Loaded loaded) = 0
 stamp_told Noted = 0
 
 -- the alert that a call inserts, with this stamp
@@ -51,6 +53,7 @@ inserted_by stamp (Begin now) = None
 inserted_by stamp (Finish now number outcomes) = None
 inserted_by stamp (Maintain now) = None
 inserted_by stamp (Forget now) = None
+inserted_by stamp (Load now row) = None
 inserted_by stamp (Note now number integration outcome) = None
 
 -- the last insert of a label set: its alert, with its stamp
@@ -86,6 +89,7 @@ finish_removes name a past (Finish now number outcomes) =
     resolved_at_begin name a (begin_since a.labels number past) && all_succeeded_at number outcomes past (begin_of number past)
 finish_removes name a past (Maintain now) = false
 finish_removes name a past (Forget now) = false
+finish_removes name a past (Load now row) = false
 finish_removes name a past (Note now number integration outcome) = false
 
 -- whether the latest record takes an alert out of a group: a quiet begin of the group at whose moment it is resolved, or a finish

@@ -1,5 +1,5 @@
 -- States that are one but for the order of the rows of the log: each call is answered alike, and leads to such states again.
-use Rattle.std.proofs.Common.{◌≡◌, ℕ, true, false, ◌&&◌, nat_le, Option, Some, None, List, [], ◌∷◌, length, fold, map, filter, count_by, refl, sym, ap, ◌∙◌, subst, if◌then◌else◌}
+use Rattle.std.proofs.Common.{◌≡◌, ℕ, Bool, true, false, ◌&&◌, nat_le, Option, Some, None, List, [], ◌∷◌, length, fold, map, filter, count_by, refl, sym, ap, ◌∙◌, subst, if◌then◌else◌}
 use Rattle.std.specs.Prelude.{IsPermutation}
 use Rattle.std.specs.List.{IsDistinct}
 use Rattle.std.specs.Option.{option_map}
@@ -14,11 +14,12 @@ use Rattle.am_nflog.specs.Needed.{needed}
 use Rattle.am_retry.specs.declared.outcome.Outcome.{Outcome}
 use Rattle.am_model.proofs.lists.Words.{IsDistinct-upsert}
 use Rattle.am_model.specs.Begin.{entry_of, asked_about, asked_of, firing_of, resolved_of, label_sets, reply_asking, reply_taking, after_asking, after_taking, taken, next_due}
-use Rattle.am_model.specs.Causes.{insert_cause, silence_cause, begin_cause, maintain_cause, forget_cause, note_cause, asks_some, opens_by, is_full}
+use Rattle.am_model.specs.Causes.{insert_cause, silence_cause, begin_cause, maintain_cause, forget_cause, load_cause, note_cause, asks_some, opens_by, is_full}
 use Rattle.am_model.specs.Configured.{route_of, route_muted, integrations_of}
 use Rattle.am_model.specs.Ticket.{TicketData}
 use Rattle.am_model.specs.Finish.{same_key, log_with, row_at, rows_after, logged_by, after_finish_of}
 use Rattle.am_model.specs.Laws.{IsConsistent, IsHeld}
+use Rattle.am_model.specs.Load.{may_load, loaded, loaded_over, is_put, rows_loading}
 use Rattle.am_model.specs.look_back.Preview.{muted_of, preview_at}
 use Rattle.am_model.specs.look_back.Reasons.{reason_told, reason_where}
 use Rattle.am_model.specs.Note.{may_note, after_note, after_note_of}
@@ -31,7 +32,7 @@ use Rattle.am_model.specs.declared.config.Integration.{Integration}
 use Rattle.am_model.specs.declared.fault.Fault.TheVariants.{TooManyOpen, HistoryFull}
 use Rattle.am_model.specs.declared.group.GroupName.{GroupName}
 use Rattle.am_model.specs.declared.record.Call.{Call}
-use Rattle.am_model.specs.declared.record.Call.TheVariants.{Insert, Silence, Begin, Finish, Maintain, Forget, Note}
+use Rattle.am_model.specs.declared.record.Call.TheVariants.{Insert, Silence, Begin, Finish, Maintain, Forget, Load, Note}
 use Rattle.am_model.specs.declared.record.Reply.TheVariants as reply_is
 use Rattle.am_model.specs.declared.views.RowView.{RowView}
 use Rattle.am_board.specs.Refinement.{EqualUpToRowOrder}
@@ -71,6 +72,10 @@ module _ (config : Config) (s : State) (rows : List RowView) (moved : IsPermutat
   reply_taking-rows id t None = refl
   reply_taking-rows id t (Some g) = ap (reply_asking config id (with_rows rows s) t g) (asked_of-rows t g) ∙ reply_asking-rows id t g (asked_of config s t g)
 
+  -- what becomes of a row that is loaded is the same
+  loaded-rows : (t : ℕ) (row : RowView) → loaded rows t row ≡ loaded s.rows t row
+  loaded-rows t row = ap (loaded_over t row) (find_row-permutation rows s.rows moved apart row.group row.integration)
+
   reply-rows : (id : ℕ) (c : Call) → reply config id (with_rows rows s) c ≡ reply config id s c
   reply-rows id (Insert now alert) = refl
   reply-rows id (Silence now number matchers start end) = refl
@@ -78,6 +83,7 @@ module _ (config : Config) (s : State) (rows : List RowView) (moved : IsPermutat
   reply-rows id (Finish now number outcomes) = refl
   reply-rows id (Maintain now) = ap (λ n. Some (reply_is.Maintained (record { groups = count_by is_deserted s.groups; entries = n }))) (sym (count_by-permutation (has_expired (moment s now)) rows s.rows moved))
   reply-rows id (Forget now) = refl
+  reply-rows id (Load now row) = ap (λ l. if may_load config (moment s now) row then Some (reply_is.Loaded l) else None) (loaded-rows (moment s now) row)
   reply-rows id (Note now number integration outcome) = refl
 
   preview_at-rows : (t : ℕ) → preview_at config (with_rows rows s) t ≡ preview_at config s t
@@ -113,6 +119,15 @@ module _ (config : Config) (s : State) (rows : List RowView) (moved : IsPermutat
         | false ↦ record { rows = moved; rest = refl }
       ]
 
+  rows_loading-rows : (t : ℕ) (row : RowView) → IsPermutation (rows_loading config rows t row) (rows_loading config s.rows t row)
+  rows_loading-rows t row =
+      let after : Bool → List RowView → List RowView = λ b rs. if b then log_with row rs else rs in
+      subst (λ l. IsPermutation (after (may_load config t row && is_put l) rows) (rows_loading config s.rows t row)) (sym (loaded-rows t row))
+      (elim (may_load config t row && is_put (loaded s.rows t row)) as (λ b. IsPermutation (after b rows) (after b s.rows)) [
+        | true ↦ upsert-permutation same_key same_key_equiv row rows s.rows moved apart
+        | false ↦ moved
+      ])
+
   after_call-rows : (c : Call) → EqualUpToRowOrder (after_call config (with_rows rows s) c) (after_call config s c)
   after_call-rows (Insert now alert) = record { rows = moved; rest = refl }
   after_call-rows (Silence now number matchers start end) = record { rows = moved; rest = refl }
@@ -120,6 +135,7 @@ module _ (config : Config) (s : State) (rows : List RowView) (moved : IsPermutat
   after_call-rows (Finish now number outcomes) = after_finish_of-rows (moment s now) outcomes (flush_numbered s.flushes number)
   after_call-rows (Maintain now) = record { rows = without-permutation (has_expired (moment s now)) rows s.rows moved; rest = refl }
   after_call-rows (Forget now) = record { rows = moved; rest = refl }
+  after_call-rows (Load now row) = record { rows = rows_loading-rows (moment s now) row; rest = refl }
   after_call-rows (Note now number integration outcome) = after_note_of-rows (moment s now) integration outcome (flush_numbered s.flushes number)
 
   -- ---- why calls are refused
@@ -188,6 +204,9 @@ module _ (a b : State) (agrees : EqualUpToRowOrder a b) where
 
   pub forget_cause-agrees : (config : Config) (records : ℕ) → forget_cause config records a ≡ forget_cause config records b
   forget_cause-agrees config records = ap (λ s. forget_cause config records s) agrees.rest
+
+  pub load_cause-agrees : (config : Config) (records t : ℕ) (row : RowView) → load_cause config records a t row ≡ load_cause config records b t row
+  load_cause-agrees config records t row = ap (λ s. load_cause config records s t row) agrees.rest
 
   pub note_cause-agrees : (config : Config) (id records : ℕ) (ticket : TicketData) (place : ℕ) → note_cause config id records a ticket place ≡ note_cause config id records b ticket place
   note_cause-agrees config id records ticket place = ap (λ s. note_cause config id records s ticket place) agrees.rest

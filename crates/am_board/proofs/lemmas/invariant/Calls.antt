@@ -6,6 +6,7 @@ use Rattle.std.proofs.lemmas.Bool.Decides.{nat_tests}
 use Rattle.am_board.specs.declared.board.Board.TheInside.{Inside}
 use Rattle.am_model.specs.declared.config.Config.{Config}
 use Rattle.am_model.specs.declared.fault.Fault.{Fault}
+use Rattle.am_model.specs.declared.fault.LoadFault.{LoadFault}
 use Rattle.am_model.specs.declared.fault.NoteFault.{NoteFault}
 use Rattle.am_model.specs.declared.fault.NoteFault.TheVariants as note
 use Rattle.am_model.specs.declared.record.Call.{Call}
@@ -24,7 +25,7 @@ use Rattle.am_model.specs.Note.{is_ready, asked_by, may_note, with_note, after_n
 use Rattle.am_model.specs.Replay.{after, after_call, replay}
 use Rattle.am_model.specs.State.{AskedState, FlushState, State, moment, at_moment, flush_numbered}
 use Rattle.am_retry.specs.declared.outcome.Outcome.{Outcome}
-use Rattle.am_board.specs.Step.{AppliesCall, LeavesUnchanged, IsAnswer, IsCaused, IsNoteAnswer, IsNoteCaused}
+use Rattle.am_board.specs.Step.{AppliesCall, LeavesUnchanged, IsAnswer, IsCaused, IsLoadAnswer, IsLoadCaused, IsNoteAnswer, IsNoteCaused}
 use Rattle.am_model.proofs.legal.FewGroups.{IsInsert}
 use Rattle.am_model.proofs.legal.FewKnown.{IsSilence, IsForget}
 use Rattle.am_model.specs.Begin.{next_due}
@@ -104,6 +105,11 @@ caused cause other same P S (Err fault) h = subst (λ c. IsAnswer c fault) same 
 pub caused_too : {T : Type 0} (cause other : Option Fault) → cause ≡ other → (P F : T → Type 0) (S : Type 0) (r : Result T Fault) → MatchResult r (λ x. (cause ≡ None) × P x × F x) (λ fault. IsAnswer cause fault × S) → IsCaused other r
 caused_too cause other same P F S (Ok x) h = subst (λ c. c ≡ None) same h.0
 caused_too cause other same P F S (Err fault) h = subst (λ c. IsAnswer c fault) same h.0
+
+-- the same of a load
+pub load_caused_by : {T : Type 0} (cause other : Option LoadFault) → cause ≡ other → (P : T → Type 0) (S : Type 0) (r : Result T LoadFault) → MatchResult r (λ x. (cause ≡ None) × P x) (λ fault. IsLoadAnswer cause fault × S) → IsLoadCaused other r
+load_caused_by cause other same P S (Ok x) h = subst (λ c. c ≡ None) same h.0
+load_caused_by cause other same P S (Err fault) h = subst (λ c. IsLoadAnswer c fault) same h.0
 
 -- the same of a note
 pub note_caused : {T : Type 0} (cause other : Option NoteFault) → cause ≡ other → (P : T → Type 0) (S : Type 0) (r : Result T NoteFault) → MatchResult r (λ x. (cause ≡ None) × P x) (λ fault. IsNoteAnswer cause fault × S) → IsNoteCaused other r

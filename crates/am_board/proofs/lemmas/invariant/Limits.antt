@@ -1,5 +1,6 @@
 -- No accepted call passes a limit, and each cause of a refusal is one at the state after the history.
 use Rattle.std.proofs.Common.{◌≡◌, ℕ, ◌+◌, ◌≤◌, true, false, ◌&&◌, nat_le, Option, Some, None, List, [], ◌∷◌, ◌++◌, length, vec_len, refl, ap, ◌∙◌, subst, arith, if◌then◌else◌}
+use Rattle.std.specs.Option.{option_or}
 use Rattle.std.proofs.lemmas.Bool.Decides.{nat_tests}
 use Rattle.std.proofs.lemmas.List.{length-append}
 use Rattle.am_alerts.specs.AlertData.{AlertData}
@@ -7,20 +8,24 @@ use Rattle.am_mute.specs.Silence.{SilenceData}
 use Rattle.am_board.specs.declared.board.Board.TheInside.{Inside}
 use Rattle.am_model.specs.declared.fault.Fault.TheVariants.{HistoryFull, TooManyNames, TooManySilences, TooManyOpen}
 use Rattle.am_model.specs.declared.record.Call.{Call}
-use Rattle.am_model.specs.declared.record.Call.TheVariants.{Insert, Begin, Maintain, Forget}
+use Rattle.am_model.specs.declared.record.Call.TheVariants.{Insert, Begin, Maintain, Forget, Load}
+use Rattle.am_model.specs.declared.fault.LoadFault.{LoadFault}
+use Rattle.am_model.specs.declared.fault.LoadFault.TheVariants as load
 use Rattle.am_model.specs.declared.record.Forgotten.{Forgotten}
 use Rattle.am_model.specs.declared.record.Inserted.{Inserted}
+use Rattle.am_model.specs.declared.record.Loaded.{Loaded}
 use Rattle.am_model.specs.declared.record.Maintained.{Maintained}
 use Rattle.am_model.specs.declared.record.Reply.{Reply}
 use Rattle.am_model.specs.declared.record.Reply.TheVariants as replies
 use Rattle.am_model.specs.declared.record.Silenced.{Silenced}
+use Rattle.am_model.specs.declared.views.RowView.{RowView}
 use Rattle.am_board.specs.declared.state.State as kept
 use Rattle.am_board.specs.declared.begin.Begun.{Begun}
 use Rattle.am_model.specs.declared.config.Config.{Config}
 use Rattle.am_model.specs.declared.config.Integration.{Integration}
 use Rattle.am_board.specs.Board.{IsSound, whole}
 use Rattle.am_model.specs.Begin.{taken, asked_of, flush_asking, after_asking, after_taking}
-use Rattle.am_model.specs.Causes.{is_name_too_many, is_silence_too_many, insert_cause, silence_cause, begin_cause, maintain_cause, forget_cause, asks_some, opens_by}
+use Rattle.am_model.specs.Causes.{is_name_too_many, is_silence_too_many, insert_cause, silence_cause, begin_cause, maintain_cause, forget_cause, load_cause, row_cause, is_full, asks_some, opens_by}
 use Rattle.am_board.specs.History.{BoardData, records_at, state_at, reply_of}
 use Rattle.am_model.specs.Records.{call_of_silence, entry}
 use Rattle.am_board.specs.Refinement.{state_of}
@@ -29,7 +34,7 @@ use Rattle.am_model.specs.Replay.{replay, after_call}
 use Rattle.am_model.specs.Upkeep.{same_silence}
 use Rattle.am_model.specs.State.{GroupState, State, moment}
 use Rattle.am_board.specs.Step.{AppliesCall}
-use Rattle.am_board.proofs.lemmas.invariant.Agreeing.{insert_cause-agrees, silence_cause-agrees, maintain_cause-agrees, forget_cause-agrees, begin_cause-agrees}
+use Rattle.am_board.proofs.lemmas.invariant.Agreeing.{insert_cause-agrees, silence_cause-agrees, maintain_cause-agrees, forget_cause-agrees, load_cause-agrees, begin_cause-agrees}
 use Rattle.am_model.proofs.legal.FewGroups.{few_inserted}
 use Rattle.am_model.proofs.legal.FewKnown.{fits-upsert, neither_cause}
 use Rattle.am_board.proofs.lemmas.invariant.Calls.{IsWithin, opened_then, room_of, seen}
@@ -45,6 +50,11 @@ keeps_within b sound pass call reply new accepts few room still =
     let opened = opened_then b.config b.id (entry pass call reply) b.state new accepts in
     let before = opened_now b.state in
     (still, omega (arith, opened, before, few, sound.opened), omega (arith, opened, few, room, accepts.records))
+
+-- where neither is a cause, the second isn't
+pub second_cause : {X : Type 0} (cause other : Option X) → option_or cause other ≡ None → other ≡ None
+second_cause None other e = e
+second_cause (Some x) other e = absurd (cc)
 
 module _ (b : Inside) (sound : IsSound b) (pass now : ℕ) (new : kept.State) where
   pub insert_within : (alert : AlertData) (x : Inserted) → insert_cause b.config (vec_len b.state.history) (state_of b.state) alert ≡ None
@@ -78,6 +88,15 @@ module _ (b : Inside) (sound : IsSound b) (pass now : ℕ) (new : kept.State) wh
       keeps_within b sound pass (Forget now) (replies.Forgotten x) new accepts (omega arith)
       (room_of b.config (vec_len b.state.history) (state_of b.state) 1 (Some HistoryFull) None none (λ h. absurd (cc))).0
       (few_after b sound (Forget now) refl refl)
+
+  pub load_within : (row : RowView) (x : Loaded) → load_cause b.config (vec_len b.state.history) (state_of b.state) (moment (state_of b.state) now) row ≡ None
+      → AppliesCall b.config b.id (entry pass (Load now row) (replies.Loaded x)) b.state new → IsWithin b.config (after_call b.config (state_of b.state) (Load now row)) new
+  load_within row x none accepts =
+      let s : State = state_of b.state in
+      let full : Option LoadFault = if is_full b.config (vec_len b.state.history) s 1 then Some load.HistoryFull else None in
+      keeps_within b sound pass (Load now row) (replies.Loaded x) new accepts (omega arith)
+      (room_of b.config (vec_len b.state.history) s 1 (Some load.HistoryFull) None (second_cause (row_cause b.config (moment s now) row) full none) (λ h. absurd (cc))).0
+      (few_after b sound (Load now row) refl refl)
 
 -- ---- a begin opens a flush only where one more may be open
 
@@ -125,6 +144,13 @@ module _ (b : Inside) (sound : IsSound b) (now : BoardData) (view_is : seen b b.
   forget_caused =
       subst (λ (d : BoardData). forget_cause b.config (vec_len b.state.history) (state_of b.state) ≡ forget_cause d.config (records_at d) (state_at d)) view_is
       (forget_cause-agrees (state_of b.state) replayed sound.agrees b.config (vec_len b.state.history) ∙ ap (λ n. forget_cause b.config n replayed) (kept_counted b sound))
+
+  pub load_caused : (at : ℕ) (row : RowView) → load_cause b.config (vec_len b.state.history) (state_of b.state) (moment (state_of b.state) at) row ≡ load_cause now.config (records_at now) (state_at now) (moment (state_at now) at) row
+  load_caused at row =
+      subst (λ (d : BoardData). load_cause b.config (vec_len b.state.history) (state_of b.state) (moment (state_of b.state) at) row ≡ load_cause d.config (records_at d) (state_at d) (moment (state_at d) at) row) view_is
+      (load_cause-agrees (state_of b.state) replayed sound.agrees b.config (vec_len b.state.history) (moment (state_of b.state) at) row
+      ∙ (ap (λ (s : State). load_cause b.config (vec_len b.state.history) replayed (moment s at) row) sound.agrees.rest
+      ∙ ap (λ n. load_cause b.config n replayed (moment replayed at) row) (kept_counted b sound)))
 
   pub begin_caused : (at : ℕ) → begin_cause b.config (vec_len b.state.history) (state_of b.state) (moment (state_of b.state) at) ≡ begin_cause now.config (records_at now) (state_at now) (moment (state_at now) at)
   begin_caused at =

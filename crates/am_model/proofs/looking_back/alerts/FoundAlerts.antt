@@ -6,12 +6,13 @@ use Rattle.am_model.specs.declared.config.Config.{Config}
 use Rattle.am_model.specs.declared.config.Integration.{Integration}
 use Rattle.am_model.specs.declared.group.GroupName.{GroupName}
 use Rattle.am_model.specs.declared.record.Call.{Call}
-use Rattle.am_model.specs.declared.record.Call.TheVariants.{Silence, Begin, Forget}
+use Rattle.am_model.specs.declared.record.Call.TheVariants.{Silence, Begin, Forget, Load}
 use Rattle.am_model.specs.declared.record.Record.{Record}
 use Rattle.am_model.specs.declared.record.Reply.{Reply}
 use Rattle.am_model.specs.declared.record.Reply.TheVariants as reply_is
 use Rattle.am_model.specs.Begin.{after_asking, reply_asking}
 use Rattle.am_model.specs.Forget.{forgotten, after_forget}
+use Rattle.am_model.specs.Load.{loaded, after_load}
 use Rattle.am_model.specs.Records.{entry}
 use Rattle.am_model.specs.look_back.Laws.{member_with, EveryLegalHistory, AlertsAreFound}
 use Rattle.am_model.specs.look_back.Past.{past_of}
@@ -51,6 +52,9 @@ module _ (config : Config) (id : ℕ) (s : State) (past : List Record) (pass : �
         maintain = λ now. finds-maintain config s past k pass now steady;
         forget = λ now.
             finds-still config s past k (after_forget s (moment s now)) (entry pass (Forget now) (reply_is.Forgotten (forgotten s (moment s now)))) now refl refl refl refl refl refl
+            (λ labels. refl) (λ name m. refl) (λ n. refl) (λ n i. refl);
+        load = λ now row may.
+            finds-still config s past k (after_load config s (moment s now) row) (entry pass (Load now row) (reply_is.Loaded (loaded s.rows (moment s now) row))) now refl refl refl refl refl refl
             (λ labels. refl) (λ name m. refl) (λ n. refl) (λ n i. refl);
         note = λ now number integration outcome f is may. finds-note config s past k pass now number integration outcome f steady is;
       }

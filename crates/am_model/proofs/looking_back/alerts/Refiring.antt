@@ -8,10 +8,10 @@ use Rattle.am_alerts.specs.declared.labels.Label.{Label}
 use Rattle.am_model.specs.declared.config.Config.{Config}
 use Rattle.am_model.specs.declared.group.GroupName.{GroupName}
 use Rattle.am_model.specs.declared.record.Call.{Call}
-use Rattle.am_model.specs.declared.record.Call.TheVariants.{Insert, Silence, Begin, Finish, Maintain, Forget, Note}
+use Rattle.am_model.specs.declared.record.Call.TheVariants.{Insert, Silence, Begin, Finish, Maintain, Forget, Load, Note}
 use Rattle.am_model.specs.declared.record.Record.{Record}
 use Rattle.am_model.specs.declared.record.Reply.{Reply}
-use Rattle.am_model.specs.declared.record.Reply.TheVariants.{Inserted, Silenced, NothingDue, Quiet, Flush, Finished, Maintained, Forgotten, Noted}
+use Rattle.am_model.specs.declared.record.Reply.TheVariants.{Inserted, Silenced, NothingDue, Quiet, Flush, Finished, Maintained, Forgotten, Loaded, Noted}
 use Rattle.am_model.specs.look_back.Entry.{begins_group}
 use Rattle.am_model.specs.look_back.Laws.{member_with, EveryLegalHistory, number_in, insert_during, KeepsRefiring, IsOneFlushAtATime, RefiringAlertsStay}
 use Rattle.am_model.specs.look_back.Past.{AtEach, past_of, moment_at, is_flush, is_flush_of, is_quiet, is_finish, takes, begin_of, has_finished}
@@ -31,6 +31,7 @@ number-is number (Flush n group deadline notices) e = eqb-true n number e
 number-is number (Finished finished) e = absurd (false≢true e)
 number-is number (Maintained maintained) e = absurd (false≢true e)
 number-is number (Forgotten forgotten) e = absurd (false≢true e)
+number-is number (Loaded loaded) e = absurd (false≢true e)
 number-is number Noted e = absurd (false≢true e)
 
 -- ---- a flush of the group is open
@@ -92,6 +93,7 @@ module _ (config : Config) (name : GroupName) (number : ℕ) where
     none-removed past (Finish now n outcomes) h = ap (λ b. b && all_succeeded_at n outcomes past (begin_of n past)) (h n)
     none-removed past (Maintain now) h = refl
     none-removed past (Forget now) h = refl
+    none-removed past (Load now row) h = refl
     none-removed past (Note now n integration outcome) h = refl
 
     -- a record while the flush is open
@@ -141,6 +143,7 @@ finish-keeps labels number (Begin now) e = refl
 finish-keeps labels number (Finish now n outcomes) e = refl
 finish-keeps labels number (Maintain now) e = refl
 finish-keeps labels number (Forget now) e = refl
+finish-keeps labels number (Load now row) e = refl
 finish-keeps labels number (Note now n integration outcome) e = refl
 
 present-after : (config : Config) (r : Record) (past : List Record) → IsOneFlushAtATime r past → AtEach IsOneFlushAtATime past → (number : ℕ) → is_finish number r.call ≡ true

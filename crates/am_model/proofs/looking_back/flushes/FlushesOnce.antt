@@ -18,12 +18,12 @@ use Rattle.am_model.specs.declared.config.Config.{Config}
 use Rattle.am_model.specs.declared.config.Integration.{Integration}
 use Rattle.am_model.specs.declared.group.GroupName.{GroupName}
 use Rattle.am_model.specs.declared.record.Call.{Call}
-use Rattle.am_model.specs.declared.record.Call.TheVariants.{Insert, Silence, Begin, Finish, Maintain, Forget, Note}
+use Rattle.am_model.specs.declared.record.Call.TheVariants.{Insert, Silence, Begin, Finish, Maintain, Forget, Load, Note}
 use Rattle.am_model.specs.declared.record.Call.TheVariants as call_is
 use Rattle.am_model.specs.declared.record.Record.{Record}
 use Rattle.am_model.specs.declared.record.Reply.TheVariants as reply_is
 use Rattle.am_model.specs.declared.record.Reply.{Reply}
-use Rattle.am_model.specs.declared.record.Reply.TheVariants.{Inserted, Silenced, NothingDue, Quiet, Flush, Finished, Maintained, Forgotten, Noted}
+use Rattle.am_model.specs.declared.record.Reply.TheVariants.{Inserted, Silenced, NothingDue, Quiet, Flush, Finished, Maintained, Forgotten, Loaded, Noted}
 use Rattle.am_model.specs.Begin.{due_cmp, may_begin, taken, asked_of, after_asking, after_taking, reply_asking, reply_taking, flush_asking}
 use Rattle.am_model.specs.Begin as begin_is
 use Rattle.am_model.specs.Configured.{route_of}
@@ -31,6 +31,8 @@ use Rattle.am_model.specs.Notice.{NoticeData}
 use Rattle.am_model.specs.look_back.Entry.{present_in}
 use Rattle.am_model.specs.Finish.{finished, after_finish_of}
 use Rattle.am_model.specs.Forget.{forgotten}
+use Rattle.am_model.specs.Load.{may_load, loaded}
+use Rattle.am_model.specs.declared.views.RowView.{RowView}
 use Rattle.am_model.specs.Records.{entry}
 use Rattle.am_model.specs.Insert.{inserted}
 use Rattle.am_model.specs.Laws.{last_begin_after, IsBegunAt}
@@ -65,6 +67,7 @@ flush_passes test (Flush number group deadline notices) = test group number
 flush_passes test (Finished finished) = false
 flush_passes test (Maintained maintained) = false
 flush_passes test (Forgotten forgotten) = false
+flush_passes test (Loaded loaded) = false
 flush_passes test Noted = false
 
 -- whether a record is a flush whose group and number pass a test, and that isn't finished in a past
@@ -130,6 +133,7 @@ of_number number past (Flush n group deadline notices) =
 of_number number past (Finished finished) = refl
 of_number number past (Maintained maintained) = refl
 of_number number past (Forgotten forgotten) = refl
+of_number number past (Loaded loaded) = refl
 of_number number past Noted = refl
 
 of_group : (name : GroupName) (p : Reply) → is_flush_of name p ≡ flush_passes (λ g n. same_name name g) p
@@ -141,6 +145,7 @@ of_group name (Flush n group deadline notices) = refl
 of_group name (Finished finished) = refl
 of_group name (Maintained maintained) = refl
 of_group name (Forgotten forgotten) = refl
+of_group name (Loaded loaded) = refl
 of_group name Noted = refl
 
 -- a flush that a finish of another number leaves open
@@ -160,6 +165,7 @@ of_other test m past (Flush n group deadline notices) = by (test group n) (m == 
 of_other test m past (Finished finished) = refl
 of_other test m past (Maintained maintained) = refl
 of_other test m past (Forgotten forgotten) = refl
+of_other test m past (Loaded loaded) = refl
 of_other test m past Noted = refl
 
 -- ---- what the open flushes say
@@ -268,6 +274,13 @@ module _ (config : Config) (id : ℕ) (s : State) (past : List Record) (pass : �
       let p = reply_is.Forgotten (forgotten s (moment s now)) in (
         none-begun (Forget now) p (λ m. refl) (λ m. refl) (λ m i. refl) (λ name. refl),
         record { opens = n.opens; begun = n.begun; ended = n.ended; keeps = keeps-after (Forget now) p refl (λ name. refl) },
+      )
+
+  load : (now : ℕ) (row : RowView) → may_load config (moment s now) row ≡ true → Holds (Load now row) (after_call config s (Load now row)) (Loaded (loaded s.rows (moment s now) row))
+  load now row may =
+      let p = reply_is.Loaded (loaded s.rows (moment s now) row) in (
+        none-begun (Load now row) p (λ m. refl) (λ m. refl) (λ m i. refl) (λ name. refl),
+        record { opens = n.opens; begun = n.begun; ended = n.ended; keeps = keeps-after (Load now row) p (ap (λ b. cond b (Some p) None) may) (λ name. refl) },
       )
 
   -- a begin that takes a group
@@ -425,6 +438,7 @@ module _ (config : Config) (id : ℕ) (s : State) (past : List Record) (pass : �
         finish = λ now number outcomes f is name e. absurd (false≢true e);
         maintain = λ now name e. absurd (false≢true e);
         forget = λ now name e. absurd (false≢true e);
+        load = λ now row may name e. absurd (false≢true e);
         note = λ now number i outcome f is may name e. absurd (false≢true e);
       }
 
@@ -441,6 +455,7 @@ module _ (config : Config) (id : ℕ) (s : State) (past : List Record) (pass : �
         finish = finish;
         maintain = maintain;
         forget = forget;
+        load = load;
         note = note;
       }
 

@@ -161,6 +161,7 @@ module _ (config : Config) (id : ℕ) (s : State) (past : List Record) (pass : �
         finish = λ now number outcomes f is name e. absurd (false≢true e);
         maintain = λ now name e. absurd (false≢true e);
         forget = λ now name e. absurd (false≢true e);
+        load = λ now row may name e. absurd (false≢true e);
         note = λ now number i outcome f is may name e. absurd (false≢true e);
       }
 
@@ -174,6 +175,7 @@ module _ (config : Config) (id : ℕ) (s : State) (past : List Record) (pass : �
         finish = λ now number outcomes f is. tt;
         maintain = λ now. tt;
         forget = λ now. tt;
+        load = λ now row may. tt;
         note = λ now number i outcome f is may. tt;
       }
 

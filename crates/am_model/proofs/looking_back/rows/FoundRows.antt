@@ -19,7 +19,7 @@ use Rattle.am_model.proofs.legal.EachCall.{HoldsOfEach, each_call}
 use Rattle.am_model.proofs.looking_back.alerts.FoundAlerts.{steady_past, finds_past}
 use Rattle.am_model.proofs.looking_back.flushes.Opened.{Finds}
 use Rattle.am_model.proofs.looking_back.Pasts.{state_after, IsLegalPast, legal_past, replay_is_past}
-use Rattle.am_model.proofs.looking_back.rows.RowSteps.{Tells, tells-insert, tells-silence, tells-begin, tells-flush, tells-finish, tells-maintain, tells-forget, tells-note}
+use Rattle.am_model.proofs.looking_back.rows.RowSteps.{Tells, tells-insert, tells-silence, tells-begin, tells-flush, tells-finish, tells-maintain, tells-forget, tells-load, tells-note}
 
 module _ (config : Config) (id : ℕ) (s : State) (past : List Record) (pass : ℕ) (steady : IsSteady s) (k : Finds config s past) (l : Tells config s past) where
   -- what is told after a call that leads to a state and was told a reply
@@ -40,6 +40,7 @@ module _ (config : Config) (id : ℕ) (s : State) (past : List Record) (pass : �
         finish = λ now number outcomes f is. tells-finish config s past k l pass now number outcomes f is;
         maintain = λ now. tells-maintain config s past k l pass now steady;
         forget = λ now. tells-forget config s past k l pass now;
+        load = λ now row may. tells-load config s past k l pass now row may;
         note = λ now number integration outcome f is may. tells-note config s past k l pass now number integration outcome f is;
       }
 

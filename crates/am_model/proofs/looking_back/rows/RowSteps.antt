@@ -25,6 +25,7 @@ use Rattle.am_model.specs.Notice.{NoticeData}
 use Rattle.am_model.specs.look_back.Entry.{latest_first, known_in, silences_in, firing_in, resolved_in, row_of_begin, begins_group, asked_and_succeeded, logs, unless_expired, entry_in}
 use Rattle.am_model.specs.Finish.{same_key, row_at, log_with, has_succeeded, logged_by, finished, after_finish}
 use Rattle.am_model.specs.Forget.{is_grouped, is_idle, forgotten, after_forget}
+use Rattle.am_model.specs.Load.{may_load, loaded, is_put, after_load}
 use Rattle.am_model.specs.Records.{entry}
 use Rattle.am_model.specs.Insert.{same_alert, same_member, inserted, after_insert}
 use Rattle.am_model.specs.look_back.Laws.{member_with}
@@ -300,6 +301,31 @@ module _ (config : Config) (s : State) (past : List Record) (k : Finds config s 
             ∙ l.known u (earlier now u come) test blind;
         silences = λ u come test blind.
             any-blind (is_over t) test (λ x e. blind x (still-over x t u come e)) s.silences ∙ l.silences u (earlier now u come) test blind;
+        told = all-weaker (IsToldBy config past) (IsToldBy config (r ∷ past)) (λ f o. told-step config r past f refl o) s.flushes l.told;
+      }
+
+  -- a row that is put into the log, or not
+  put-found : (row : RowView) (put : Bool) (name : GroupName) (i : ℕ)
+      → find (is_entry_of name i) (cond put (log_with row s.rows) s.rows) ≡ option_or (cond (put && is_entry_of name i row) (Some row) None) (find (is_entry_of name i) s.rows)
+  put-found row true name i = find-log name i row s.rows ∙ by (is_entry_of name i row)
+    where
+      by : (b : Bool) → cond b (Some row) (find (is_entry_of name i) s.rows) ≡ option_or (cond b (Some row) None) (find (is_entry_of name i) s.rows)
+      by true = refl
+      by false = refl
+  put-found row false name i = refl
+
+  pub tells-load : (pass now : ℕ) (row : RowView) → may_load config (moment s now) row ≡ true
+      → Tells config (after_load config s (moment s now) row) (entry pass (call.Load now row) (reply_is.Loaded (loaded s.rows (moment s now) row)) ∷ past)
+  tells-load pass now row may =
+      let put = is_put (loaded s.rows (moment s now) row) in
+      let r = entry pass (call.Load now row) (reply_is.Loaded (loaded s.rows (moment s now) row)) in
+      record {
+        rows = λ name i.
+            ap (λ b. find (is_entry_of name i) (cond (b && put) (log_with row s.rows) s.rows)) may
+            ∙ put-found row put name i
+            ∙ ap (option_or (cond (put && is_entry_of name i row) (Some row) None)) (l.rows name i);
+        known = λ u come. l.known u (earlier now u come);
+        silences = λ u come. l.silences u (earlier now u come);
         told = all-weaker (IsToldBy config past) (IsToldBy config (r ∷ past)) (λ f o. told-step config r past f refl o) s.flushes l.told;
       }
 

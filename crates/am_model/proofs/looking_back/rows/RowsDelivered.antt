@@ -1,4 +1,4 @@
--- What is logged was told delivered, or had nothing to send, and each row of the log stands for such a notice.
+-- What is logged was told delivered, or had nothing to send, and each row of the log stands for such a notice, unless it was handed in.
 use Rattle.std.proofs.Common.{◌≡◌, ℕ, Bool, true, false, cond, not, ◌&&◌, ◌||◌, Option, Some, None, ◌⊎◌, inl, inr, List, [], ◌∷◌, refl, sym, ap, ◌∙◌, subst}
 use Rattle.std.specs.Prelude.{All, IsTrue, find, ◌==◌}
 use Rattle.std.specs.List.{AllByRecursion, list_any}
@@ -10,17 +10,17 @@ use Rattle.am_retry.specs.declared.outcome.Outcome.{Outcome}
 use Rattle.am_model.specs.declared.config.Config.{Config}
 use Rattle.am_model.specs.declared.group.GroupName.{GroupName}
 use Rattle.am_model.specs.declared.record.Call.{Call}
-use Rattle.am_model.specs.declared.record.Call.TheVariants.{Insert, Silence, Begin, Finish, Maintain, Forget, Note}
+use Rattle.am_model.specs.declared.record.Call.TheVariants.{Insert, Silence, Begin, Finish, Maintain, Forget, Load, Note}
 use Rattle.am_model.specs.declared.record.Record.{Record}
 use Rattle.am_model.specs.declared.record.Reply.{Reply}
 use Rattle.am_model.specs.declared.record.Reply.TheVariants as reply_is
 use Rattle.am_model.specs.declared.views.RowView.{RowView}
 use Rattle.am_model.specs.Notice.{NoticeData, is_nothing}
 use Rattle.am_model.specs.Begin.{is_entry_of}
-use Rattle.am_model.specs.look_back.Entry.{begins_group, asked_and_succeeded, logs, begin_named, row_of_flush, row_of_begin, unless_collected, entry_in}
+use Rattle.am_model.specs.look_back.Entry.{begins_group, asked_and_succeeded, logs, begin_named, row_of_flush, row_of_begin, row_in, row_put, row_loaded, unless_collected, entry_in}
 use Rattle.am_model.specs.Finish.{same_key, is_delivered}
 use Rattle.am_model.specs.Records.{entry}
-use Rattle.am_model.specs.look_back.Laws.{EveryLegalHistory, ShownRowsAreFound, is_delivered_to, is_delivered_in, reports_delivery, LogsDelivered, OnlyDeliveredIsLogged, NewRowsAreDelivered, RowsComeByDelivery, was_delivered, RowsWereDelivered}
+use Rattle.am_model.specs.look_back.Laws.{EveryLegalHistory, ShownRowsAreFound, is_delivered_to, is_delivered_in, reports_delivery, LogsDelivered, OnlyDeliveredIsLogged, NewRowsAreDelivered, RowsComeByDelivery, was_delivered, handed_in, UnlessHandedIn, RowsWereDelivered}
 use Rattle.am_model.specs.Lists.{in_order}
 use Rattle.am_model.specs.Note.{is_ready, asked_by, may_be_noted, may_note}
 use Rattle.am_model.specs.look_back.Past.{AtEach, past_of, replay_past, moment_at, is_flush_of, notices_in, begin_of, was_noted, succeeded}
@@ -29,7 +29,7 @@ use Rattle.am_model.specs.Ticket.{outcome_of}
 use Rattle.am_model.specs.Upkeep.{has_expired}
 use Rattle.am_model.specs.Views.{row_cmp, row_views}
 use Rattle.am_model.proofs.lists.Distinct.{all_from, all-find, all-weaker, find-passes}
-use Rattle.am_model.proofs.legal.EachCall.{each_call}
+use Rattle.am_model.proofs.legal.EachCall.{inside, each_call}
 use Rattle.am_model.proofs.looking_back.alerts.FoundAlerts.{steady_past, finds_past}
 use Rattle.am_model.proofs.looking_back.rows.FoundRows.{tells_past}
 use Rattle.am_model.proofs.lists.Words.{in_order-moves}
@@ -110,6 +110,7 @@ logged_delivered config id =
       finish = λ now number outcomes f is name i e. finish_reports name i now number outcomes past e;
       maintain = λ now name i e. absurd (false≢true e);
       forget = λ now name i e. absurd (false≢true e);
+      load = λ now row may name i e. absurd (false≢true e);
       note = λ now number i outcome f is may name j e. note_reports config s past (finds_past config id past before) (tells_past config id past before) now number i outcome f is may name j e;
     }) r.call r.reply told)
 
@@ -136,6 +137,7 @@ row_moment config t i row (q ∷ before) e = by (moment_at (q ∷ before)) q.rep
     by begun (reply_is.Finished finished) e = absurd (cc)
     by begun (reply_is.Maintained maintained) e = absurd (cc)
     by begun (reply_is.Forgotten forgotten) e = absurd (cc)
+    by begun (reply_is.Loaded loaded) e = absurd (cc)
     by begun reply_is.Noted e = absurd (cc)
 
 -- a flush of a group gives one
@@ -152,6 +154,7 @@ row_there config t i name (q ∷ before) e none = by (moment_at (q ∷ before)) 
     by begun (reply_is.Finished finished) e none = false≢true e
     by begun (reply_is.Maintained maintained) e none = false≢true e
     by begun (reply_is.Forgotten forgotten) e none = false≢true e
+    by begun (reply_is.Loaded loaded) e none = false≢true e
     by begun reply_is.Noted e none = false≢true e
 
 logs_begin : (name : GroupName) (i : ℕ) (past : List Record) (c : Call) → logs name i past c ≡ true → begins_group name (begin_named past c) ≡ true
@@ -162,6 +165,7 @@ logs_begin name i past (Finish now number outcomes) e =
     (and_parts (begins_group name (begin_of number past)) (asked_and_succeeded number outcomes past i (begin_of number past) && not (was_noted number i past)) e).0
 logs_begin name i past (Maintain now) e = absurd (false≢true e)
 logs_begin name i past (Forget now) e = absurd (false≢true e)
+logs_begin name i past (Load now row) e = absurd (false≢true e)
 logs_begin name i past (Note now number j outcome) e = (and_parts (begins_group name (begin_of number past)) (j == i) e).0
 
 -- what a maintenance leaves was there
@@ -173,6 +177,7 @@ left_there t (Finish now number outcomes) row o e = e
 left_there t (Maintain now) row None e = e
 left_there t (Maintain now) row (Some x) e = elim (has_expired t x) as (λ b. cond b None (Some x) ≡ Some row → Some x ≡ Some row) [ true ↦ λ e. absurd (cc) | false ↦ λ e. e ] e
 left_there t (Forget now) row o e = e
+left_there t (Load now loaded) row o e = e
 left_there t (Note now number integration outcome) row o e = e
 
 -- the row that a record logs is of its moment
@@ -184,29 +189,88 @@ logged_moment config name i r past row rest logged e = by (row_of_begin config (
     by None none e = absurd (row_there config (moment_at (r ∷ past)) i name (begin_named past r.call) (logs_begin name i past r.call logged) none)
     by (Some x) is e = row_moment config (moment_at (r ∷ past)) i row (begin_named past r.call) (is ∙ e)
 
--- what is found after a record was found before, or the record logged it
-new_entry : (config : Config) (name : GroupName) (i : ℕ) (row : RowView) (r : Record) (past : List Record) → entry_in config name i (r ∷ past) ≡ Some row
-    → (entry_in config name i past ≡ Some row) ⊎ ((row.moment ≡ moment_at (r ∷ past)) × (logs name i past r.call ≡ true))
-new_entry config name i row r past e = by (logs name i past r.call) refl e
-  where
-    by : (b : Bool) → logs name i past r.call ≡ b
-        → option_or (cond b (row_of_begin config (moment_at (r ∷ past)) i (begin_named past r.call)) None) (unless_collected (moment_at (r ∷ past)) r.call (entry_in config name i past)) ≡ Some row
-        → (entry_in config name i past ≡ Some row) ⊎ ((row.moment ≡ moment_at (r ∷ past)) × (logs name i past r.call ≡ true))
-    by true logged e = inr (logged_moment config name i r past row (unless_collected (moment_at (r ∷ past)) r.call (entry_in config name i past)) logged e, logged)
-    by false logged e = inl (left_there (moment_at (r ∷ past)) r.call row (entry_in config name i past) e)
+-- a record that logs a success loads nothing
+logs_unloaded : (name : GroupName) (i : ℕ) (past : List Record) (p : Reply) (c : Call) → logs name i past c ≡ true → row_put name i p (row_in c) ≡ None
+logs_unloaded name i past p (Insert now alert) e = absurd (false≢true e)
+logs_unloaded name i past p (Silence now id matchers start end) e = absurd (false≢true e)
+logs_unloaded name i past p (Begin now) e = absurd (false≢true e)
+logs_unloaded name i past p (Finish now number outcomes) e = refl
+logs_unloaded name i past p (Maintain now) e = absurd (false≢true e)
+logs_unloaded name i past p (Forget now) e = absurd (false≢true e)
+logs_unloaded name i past p (Load now row) e = absurd (false≢true e)
+logs_unloaded name i past p (Note now number j outcome) e = refl
 
--- the record that logged it told its success, at its moment
-found_delivered : (config : Config) (row : RowView) (past : List Record) → AtEach LogsDelivered past → entry_in config row.group row.integration past ≡ Some row → was_delivered row past ≡ true
+-- a claim that follows from another, of a row that wasn't handed in
+unless-follows : (o : Option RowView) (row : RowView) (A B : Type 0) → (A → B) → UnlessHandedIn o row A → UnlessHandedIn o row B
+unless-follows None row A B follows h = follows h
+unless-follows (Some handed) row A B follows h = h
+
+-- ---- one record more
+
+module _ (config : Config) (name : GroupName) (i : ℕ) (row : RowView) (r : Record) (past : List Record) where
+  -- the row is of the record's moment, and the record logged it
+  abbrev IsLoggedNow : Type 0
+  IsLoggedNow = (row.moment ≡ moment_at (r ∷ past)) × (logs name i past r.call ≡ true)
+
+  -- and reports that it was delivered
+  abbrev IsReportedNow : Type 0
+  IsReportedNow = (row.moment ≡ moment_at (r ∷ past)) × (reports_delivery name i past r.call ≡ true)
+
+  -- what was found before and the record left
+  abbrev left : Option RowView
+  left = unless_collected (moment_at (r ∷ past)) r.call (entry_in config name i past)
+
+  new-unlogged : (o : Option RowView) → option_or o left ≡ Some row → (entry_in config name i past ≡ Some row) ⊎ UnlessHandedIn o row IsLoggedNow
+  new-unlogged None e = inl (left_there (moment_at (r ∷ past)) r.call row (entry_in config name i past) e)
+  new-unlogged (Some handed) e = inr (sym (inside handed row e))
+
+  new-by : (b : Bool) → logs name i past r.call ≡ b → option_or (cond b (row_of_begin config (moment_at (r ∷ past)) i (begin_named past r.call)) None) (option_or (row_loaded name i r) left) ≡ Some row
+      → (entry_in config name i past ≡ Some row) ⊎ UnlessHandedIn (row_loaded name i r) row IsLoggedNow
+  new-by true logged e =
+      inr (subst (λ o. UnlessHandedIn o row IsLoggedNow) (sym (logs_unloaded name i past r.reply r.call logged))
+      (logged_moment config name i r past row (option_or (row_loaded name i r) left) logged e, logged))
+  new-by false logged e = new-unlogged (row_loaded name i r) e
+
+  -- what is found after a record was found before, or the record logged it or loaded it
+  new_entry : entry_in config name i (r ∷ past) ≡ Some row → (entry_in config name i past ≡ Some row) ⊎ UnlessHandedIn (row_loaded name i r) row IsLoggedNow
+  new_entry e = new-by (logs name i past r.call) refl e
+
+  new-reported : LogsDelivered r past → (entry_in config name i past ≡ Some row) ⊎ UnlessHandedIn (row_loaded name i r) row IsLoggedNow
+      → (entry_in config name i past ≡ Some row) ⊎ UnlessHandedIn (row_loaded name i r) row IsReportedNow
+  new-reported delivered (inl before) = inl before
+  new-reported delivered (inr now) = inr (unless-follows (row_loaded name i r) row IsLoggedNow IsReportedNow (λ own. (own.0, delivered name i own.1)) now)
+
+module _ (config : Config) (row : RowView) (r : Record) (past : List Record) (delivered : LogsDelivered r past)
+    (before : entry_in config row.group row.integration past ≡ Some row → UnlessHandedIn (handed_in row.group row.integration past) row (was_delivered row past ≡ true)) where
+  abbrev loaded : Option RowView
+  loaded = row_loaded row.group row.integration r
+
+  abbrev handed : Option RowView
+  handed = handed_in row.group row.integration past
+
+  abbrev rest : Option RowView
+  rest = left config row.group row.integration row r past
+
+  found-unlogged : (o : Option RowView) → option_or o rest ≡ Some row → UnlessHandedIn (option_or o handed) row (was_delivered row past ≡ true)
+  found-unlogged None e = before (left_there (moment_at (r ∷ past)) r.call row (entry_in config row.group row.integration past) e)
+  found-unlogged (Some x) e = sym (inside x row e)
+
+  found-by : (b : Bool) → logs row.group row.integration past r.call ≡ b → option_or (cond b (row_of_begin config (moment_at (r ∷ past)) row.integration (begin_named past r.call)) None) (option_or loaded rest) ≡ Some row
+      → UnlessHandedIn (cond b None (option_or loaded handed)) row (cond b ((moment_at (r ∷ past) == row.moment) && reports_delivery row.group row.integration past r.call) (was_delivered row past) ≡ true)
+  found-by true logged e =
+      ap (λ m. (moment_at (r ∷ past) == m) && reports_delivery row.group row.integration past r.call) (logged_moment config row.group row.integration r past row (option_or loaded rest) logged e)
+      ∙ ap (λ b. b && reports_delivery row.group row.integration past r.call) (nat_eq_equiv.refl (moment_at (r ∷ past)))
+      ∙ delivered row.group row.integration logged
+  found-by false logged e = found-unlogged loaded e
+
+  found-step : entry_in config row.group row.integration (r ∷ past) ≡ Some row → UnlessHandedIn (handed_in row.group row.integration (r ∷ past)) row (was_delivered row (r ∷ past) ≡ true)
+  found-step e = found-by (logs row.group row.integration past r.call) refl e
+
+-- the record that logged it told its success, at its moment, unless it was loaded since
+found_delivered : (config : Config) (row : RowView) (past : List Record) → AtEach LogsDelivered past → entry_in config row.group row.integration past ≡ Some row
+    → UnlessHandedIn (handed_in row.group row.integration past) row (was_delivered row past ≡ true)
 found_delivered config row [] each e = absurd (cc)
-found_delivered config row (r ∷ past) each e = by (logs row.group row.integration past r.call) refl (λ there. found_delivered config row past each.1 there) e
-  where
-    by : (b : Bool) → logs row.group row.integration past r.call ≡ b → (entry_in config row.group row.integration past ≡ Some row → was_delivered row past ≡ true) → option_or (cond b (row_of_begin config (moment_at (r ∷ past)) row.integration (begin_named past r.call)) None) (unless_collected (moment_at (r ∷ past)) r.call (entry_in config row.group row.integration past)) ≡ Some row
-        → cond b ((moment_at (r ∷ past) == row.moment) && reports_delivery row.group row.integration past r.call) (was_delivered row past) ≡ true
-    by true logged before e =
-        ap (λ m. (moment_at (r ∷ past) == m) && reports_delivery row.group row.integration past r.call) (logged_moment config row.group row.integration r past row (unless_collected (moment_at (r ∷ past)) r.call (entry_in config row.group row.integration past)) logged e)
-        ∙ ap (λ b. b && reports_delivery row.group row.integration past r.call) (nat_eq_equiv.refl (moment_at (r ∷ past)))
-        ∙ each.0 row.group row.integration logged
-    by false logged before e = before (left_there (moment_at (r ∷ past)) r.call row (entry_in config row.group row.integration past) e)
+found_delivered config row (r ∷ past) each e = found-step config row r past each.0 (λ there. found_delivered config row past each.1 there) e
 
 -- the rows of a state are what is found
 entry_past : (config : Config) (id : ℕ) (past : List Record) → IsLegalPast config id past → (name : GroupName) (i : ℕ) → find (is_entry_of name i) (replay_past config past).rows ≡ entry_in config name i past
@@ -214,12 +278,12 @@ entry_past config id past legal name i = ap (λ s. find (is_entry_of name i) s.r
 
 new_row : (config : Config) (id : ℕ) (r : Record) (past : List Record) → IsLegalPast config id (r ∷ past) → LogsDelivered r past → NewRowsAreDelivered config r past
 new_row config id r past legal delivered name i row there =
-    by (new_entry config name i row r past (sym (entry_past config id (r ∷ past) legal name i) ∙ there))
+    by (new-reported config name i row r past delivered (new_entry config name i row r past (sym (entry_past config id (r ∷ past) legal name i) ∙ there)))
   where
-    by : (entry_in config name i past ≡ Some row) ⊎ ((row.moment ≡ moment_at (r ∷ past)) × (logs name i past r.call ≡ true))
-        → (find (is_entry_of name i) (replay_past config past).rows ≡ Some row) ⊎ ((row.moment ≡ moment_at (r ∷ past)) × (reports_delivery name i past r.call ≡ true))
+    by : (entry_in config name i past ≡ Some row) ⊎ UnlessHandedIn (row_loaded name i r) row ((row.moment ≡ moment_at (r ∷ past)) × (reports_delivery name i past r.call ≡ true))
+        → (find (is_entry_of name i) (replay_past config past).rows ≡ Some row) ⊎ UnlessHandedIn (row_loaded name i r) row ((row.moment ≡ moment_at (r ∷ past)) × (reports_delivery name i past r.call ≡ true))
     by (inl before) = inl (entry_past config id past legal.1 name i ∙ before)
-    by (inr now) = inr (now.0, delivered name i now.1)
+    by (inr now) = inr now
 
 new_rows : (config : Config) (id : ℕ) (past : List Record) → IsLegalPast config id past → AtEach LogsDelivered past → AtEach (NewRowsAreDelivered config) past
 new_rows config id [] legal each = tt
@@ -250,7 +314,7 @@ rows_were_delivered config id history legal =
     let past = past_of history in
     let rows = (state_after config past).rows in
     let legal_back = legal_past config id history legal in
-    let P : RowView → Type 0 = λ row. IsTrue (was_delivered row past) in
+    let P : RowView → Type 0 = λ row. UnlessHandedIn (handed_in row.group row.integration past) row (IsTrue (was_delivered row past)) in
     subst (λ (s : State). All P s.rows) (sym (replay_is_past config history))
     (all_from P rows
     (all-weaker (λ row. entry_in config row.group row.integration past ≡ Some row) P (λ row e. found_delivered config row past (logged_delivered config id past legal_back) e) rows (rows_found config id past legal_back)))

@@ -2,3 +2,5 @@
 pub mod OnePlan
 -- refusals that are handed on
 pub mod Refusals
+-- the zones of members
+pub mod Listed

@@ -1,5 +1,5 @@
 -- Configured: under which configuration a story is played.
-use Rattle.std.specs.Prelude.{◌≡◌, ◌||◌, Option, Some, None, codes, is_some, option_map, if◌then◌else◌, IsSomeAnd, IsTrue, MatchOption}
+use Rattle.std.specs.Prelude.{◌≡◌, ◌||◌, ℕ, Bool, List, [], ◌∷◌, Option, Some, None, codes, is_some, option_map, if◌then◌else◌, IsSomeAnd, IsTrue, MatchOption}
 use Rattle.std.specs.List.{list_any}
 use Rattle.serde_json.specs.Data.{Data, Members}
 use Rattle.serde_json.specs.Find.{as_object, get, get_member, pointer}
@@ -10,17 +10,28 @@ use Rattle.am_cli.specs.declared.reader.Dialect.{Dialect}
 use Rattle.am_cli.specs.declared.reader.Dialect.TheVariants.{Strict}
 use Rattle.am_input.specs.declared.form.Form.{Form}
 use Rattle.am_input.specs.declared.form.Form.TheVariants.{Story, Own, Alertmanager}
-use Rattle.am_input.specs.declared.form.TheConstants.{OF_OUR_OWN, OF_STORIES}
 use Rattle.am_input.specs.declared.input.Changes.{Changes}
 use Rattle.am_model.specs.Config.{config_fault}
 use Rattle.am_model.specs.declared.config.Config.{Config}
 
+-- the fields that only a story has
+abbrev pub story_names : List (List ℕ)
+story_names =
+    codes "config" ∷ codes "alertmanager" ∷ codes "until" ∷ codes "alerts" ∷ codes "expect" ∷ codes "outages" ∷ []
+
+-- the fields that only a configuration of our own has
+abbrev pub own_names : List (List ℕ)
+own_names = codes "children" ∷ codes "inhibit" ∷ codes "limits" ∷ codes "retention" ∷ []
+
+-- whether a value has a field of one of these names
+abbrev pub has_one_of : List (List ℕ) → Data → Bool
+has_one_of names value = list_any (λ name. is_some (get name value)) names
+
 -- what a file is, by the fields that it has
 abbrev pub form_in : Data → Form
 form_in value =
-    if list_any (λ name. is_some (get name.now value)) OF_STORIES then Story
-    else (if is_some (pointer (codes "/receivers/0/integrations") value) || list_any (λ name. is_some (get name.now value)) OF_OUR_OWN
-    then Own else Alertmanager)
+    if has_one_of story_names value then Story
+    else (if is_some (pointer (codes "/receivers/0/integrations") value) || has_one_of own_names value then Own else Alertmanager)
 
 -- a configuration that was read of Alertmanager's has no fault. Whether it is the one that its JSON tells isn't said
 abbrev pub IsReadOfTheirs : Data → Config → Type 0
@@ -50,3 +61,7 @@ file_in changes = option_map (λ value. view value.now) changes.config
 -- the configuration of `config`, whose matchers look for no pattern
 abbrev pub TellsPlainly : Dialect → Members → Config → Type 0
 TellsPlainly dialect members config = Has (DecodesToConfig dialect) (codes "config") members config × IsTrue (config_compares_texts config)
+
+-- the configuration of a value, whose matchers look for no pattern
+abbrev pub DecodesWithoutPatterns : Dialect → Data → Config → Type 0
+DecodesWithoutPatterns dialect value config = DecodesToConfig dialect value config × IsTrue (config_compares_texts config)

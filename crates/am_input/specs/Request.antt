@@ -1,5 +1,5 @@
 -- Request: what a rehearsal asks for.
-use Rattle.std.specs.Prelude.{◌≡◌, ◌≤◌, ℕ, List, [], codes, map, Option, Some, None, IsSomeAnd, IsTrue, if◌then◌else◌}
+use Rattle.std.specs.Prelude.{◌≡◌, ℕ, List, [], ◌∷◌, codes, Option, Some, None, IsSomeAnd, IsTrue, if◌then◌else◌}
 use Rattle.std.specs.Option.{option_and_then}
 use Rattle.std.specs.Str.{bytes_eq}
 use Rattle.serde_json.specs.Data.{Data, Members}
@@ -19,8 +19,8 @@ use Rattle.am_plans.specs.Decoding.{DecodesToOutage, have_places}
 use Rattle.am_plans.specs.Expected.{AreExpectedIn, ArePlainIn, last_end, until_in}
 use Rattle.am_plans.specs.Planned.{ArePlainlyPlannedIn, ArePlannedIn}
 use Rattle.am_terms.specs.declared.rehearsal.Rehearsal.{Rehearsal}
-use Rattle.am_terms.specs.declared.rehearsal.TheConstants.{MAX_UNTIL}
-use Rattle.am_input.specs.declared.input.TheConstants.{MAINTAIN, MEMBERS}
+use Rattle.am_input.specs.Zones.{AreZonesIn}
+use Rattle.am_input.specs.declared.input.TheConstants.{MAINTAIN}
 use Rattle.am_input.specs.declared.input.Output.{Output}
 use Rattle.am_input.specs.declared.input.Changes.{Changes}
 use Rattle.am_input.specs.declared.input.Output.TheVariants.{Timeline, Notices, Json, Html}
@@ -62,11 +62,20 @@ abbrev pub maintain_in : Option Data → Option ℕ
 maintain_in None = Some MAINTAIN
 maintain_in (Some member) = interval_in member
 
--- these members, with what the command line says in place of some, ask for this output, give this start and have these expectations, of
--- a rehearsal that has the configuration, the actions and the outages that they tell, and ends and is maintained as they say
+-- the names of the members of a story
+abbrev pub member_names : List (List ℕ)
+member_names =
+    codes "config" ∷ codes "alertmanager" ∷ codes "start" ∷ codes "zones" ∷ codes "until" ∷ codes "alerts" ∷ codes "silences"
+    ∷ codes "maintain" ∷ codes "outages" ∷ codes "expect" ∷ codes "output" ∷ []
+
+-- these members, each of a known name, with what the command line says in place of some, ask for this output, give this start and have
+-- these expectations, of a rehearsal that has the configuration, the actions and the outages that they tell, and ends and is maintained
+-- as they say
 pub record Requests (dialect : Dialect) (changes : Changes) (members : Members) (output : Output) (start : Option StartData)
     (expectations : List Expectation) (rehearsal : Rehearsal) : Type 0 where
+  pub known : IsTrue (has_only dialect member_names members)
   pub configures : IsConfigFor (file_in changes) dialect members rehearsal.config
+  pub zones : AreZonesIn (get_member (codes "zones") members)
   pub tells : output_for changes.overrides.output (get_member (codes "output") members) ≡ Some output
   pub starts : DecodesToStart (get_member (codes "start") members) start
   pub ends : end_for changes.overrides.until members ≡ Some rehearsal.until
@@ -82,19 +91,12 @@ abbrev pub IsRequestIn : Changes → Data → Output → Option StartData → Li
 IsRequestIn changes value output start expectations rehearsal =
     IsSomeAnd (as_object value) (λ members. Requests Strict changes members output start expectations rehearsal)
 
--- the names of the members of a story
-abbrev pub member_names : List (List ℕ)
-member_names = map (λ name. name.now) MEMBERS
-
--- what is asked for isn't refused: each member has a known name, the configuration is the story's own and stands in `config`, neither a
--- start nor zones are told, the end is one that a rehearsal may have, and no matcher looks for a pattern
+-- what is asked for isn't refused: the configuration is the story's own and stands in `config`, no start is told, and no matcher looks
+-- for a pattern
 pub record IsSimple (dialect : Dialect) (changes : Changes) (members : Members) (rehearsal : Rehearsal) : Type 0 where
-  pub known : IsTrue (has_only dialect member_names members)
   pub own : file_in changes ≡ None
   pub ours : HasNone (codes "alertmanager") members
   pub start : HasNone (codes "start") members
-  pub zones : HasNone (codes "zones") members
-  pub ends : rehearsal.until ≤ MAX_UNTIL
   pub config : IsTrue (config_compares_texts rehearsal.config)
   pub plans : ArePlainlyPlannedIn dialect members rehearsal.plans.items
   pub expects : ArePlainIn dialect (get_member (codes "expect") members)

@@ -1,10 +1,12 @@
 //! The configuration of a rehearsal: `config`, or Alertmanager's own. `input` calls it.
-ghost use Rattle.std.specs.Prelude.{◌≡◌, IfErr, IfOk, IsTrue, None, codes, false, is_ok, option_map};
+ghost use Rattle.std.specs.Prelude.{◌≡◌, IfErr, IfOk, IsTrue, None, Some, codes, false, is_ok, option_map};
+ghost use Rattle.serde_json.specs.Data.{Data};
 ghost use Rattle.serde_json.specs.View.{members_view, view};
-ghost use Rattle.am_cli.specs.Configured.{DecodesToConfig, config_compares_texts};
+ghost use Rattle.am_cli.specs.Configured.{DecodesToConfig};
 ghost use Rattle.am_cli.specs.Decoding.{HasNone};
 ghost use Rattle.am_cli.specs.Read.{Excludes};
-ghost use Rattle.am_input.specs.Configured.{IsConfigFor, IsConfigIn, IsConfigOf, IsReadOfTheirs, TellsPlainly, form_in};
+ghost use Rattle.am_cli.specs.declared.reader.Dialect.TheVariants.{Strict};
+ghost use Rattle.am_input.specs.Configured.{DecodesWithoutPatterns, IsConfigFor, IsConfigIn, IsConfigOf, IsReadOfTheirs, TellsPlainly, form_in};
 ghost use Rattle.am_input.specs.Request.{RefusesAll};
 
 use crate::form::{Form, alertmanager_in, form_of};
@@ -44,6 +46,8 @@ pub fn read_configured<Z: ZoneFiles>(
         → IfOk result (λ read. read.lacks_hours ≡ false) }
     ensures refused { option_map (λ g. view g.now) given.entry ≡ None → HasNone (codes "alertmanager") (members_view top.now.members)
         → IfErr result (RefusesAll (TellsPlainly top.now.dialect (members_view top.now.members))) }
+    ensures own { (file : Data) → option_map (λ g. view g.now) given.entry ≡ Some file → form_in file ≡ Form.Own
+        → IfErr result (RefusesAll (DecodesWithoutPatterns Strict file)) }
 {
     let hours = read_hours_for(top, given, until, files)?;
     match given {
@@ -60,7 +64,9 @@ fn read_hours_for<Z: ZoneFiles>(
     until: Option<u64>,
     files: &mut Z,
 ) -> Result<Option<Hours>, InputFault>
-    ensures { option_map (λ g. view g.now) given.entry ≡ None → HasNone (codes "alertmanager") (members_view top.now.members)
+    ensures in_story { option_map (λ g. view g.now) given.entry ≡ None → HasNone (codes "alertmanager") (members_view top.now.members)
+        → IsTrue (is_ok result) }
+    ensures own { (file : Data) → option_map (λ g. view g.now) given.entry ≡ Some file → form_in file ≡ Form.Own
         → IsTrue (is_ok result) }
 {
     let Some(given) = given else {
@@ -96,7 +102,10 @@ pub fn configured_for<Z: ZoneFiles>(
     given: &Value,
     until: Option<u64>,
     files: &mut Z,
-) -> Result<Configured, Refusal> {
+) -> Result<Configured, Refusal>
+    ensures told { IfOk result (λ read. IsConfigOf (form_in (view given.now)) (view given.now) read.config) }
+    ensures own { form_in (view given.now) ≡ Form.Own → IfErr result (RefusesAll (DecodesWithoutPatterns Strict (view given.now))) }
+{
     let reader = Reader::strict(alloc, story);
     let Ok(top) = reader.object() else {
         return read_file(alloc, given, None);
@@ -106,7 +115,8 @@ pub fn configured_for<Z: ZoneFiles>(
 
 /// Reads the configuration of a file: one of Alertmanager, one of our own, or that of a story.
 pub fn read_file(alloc: Global, value: &Value, hours: Option<&Hours>) -> Result<Configured, Refusal>
-    ensures { IfOk result (λ read. IsConfigOf (form_in (view value.now)) (view value.now) read.config) }
+    ensures told { IfOk result (λ read. IsConfigOf (form_in (view value.now)) (view value.now) read.config) }
+    ensures own { form_in (view value.now) ≡ Form.Own → IfErr result (RefusesAll (DecodesWithoutPatterns Strict (view value.now))) }
 {
     let reader = Reader::strict(alloc, value);
     match form_of(value) {
@@ -137,8 +147,7 @@ fn read_in_story(top: &Object<'_, '_>, hours: Option<&Hours>) -> Result<Configur
 fn read_own(reader: &Reader<'_, '_>) -> Result<Configured, InputFault>
     ensures told { IfOk result (λ read. DecodesToConfig reader.now.dialect (view reader.now.value) read.config) }
     ensures timed { IfOk result (λ read. read.lacks_hours ≡ false) }
-    ensures refused { IfErr result (Excludes (λ config.
-        DecodesToConfig reader.now.dialect (view reader.now.value) config × IsTrue (config_compares_texts config))) }
+    ensures refused { IfErr result (Excludes (DecodesWithoutPatterns reader.now.dialect (view reader.now.value))) }
 {
     Ok(Configured {
         config: read_config(reader)?,

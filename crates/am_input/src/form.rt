@@ -1,5 +1,5 @@
 //! The forms of files that have a configuration. `configured` and the commands call it.
-ghost use Rattle.std.specs.Prelude.{◌≡◌, codes, is_some};
+ghost use Rattle.std.specs.Prelude.{◌≡◌, None, codes, is_some};
 ghost use Rattle.std.specs.List.{list_any};
 ghost use Rattle.serde_json.specs.Find.{get, pointer};
 ghost use Rattle.serde_json.specs.View.{view};
@@ -71,7 +71,9 @@ pub fn has_configuration(story: &Value) -> bool {
 }
 
 /// Returns the configuration of Alertmanager in a file, if there is one.
-pub fn alertmanager_in(value: &Value) -> Option<&Value> {
+pub fn alertmanager_in(value: &Value) -> Option<&Value>
+    ensures { form_in (view value.now) ≡ Form.Own → result ≡ None }
+{
     match form_of(value) {
         Form::Story => value.get("alertmanager"),
         Form::Own => None,

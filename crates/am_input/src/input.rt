@@ -14,7 +14,7 @@ ghost use Rattle.serde_json.specs.Find.{get_member};
 ghost use Rattle.serde_json.specs.View.{members_view, view};
 ghost use Rattle.am_terms.specs.declared.rehearsal.TheConstants.{MAX_UNTIL};
 ghost use Rattle.am_cli.specs.Decoding.{HasNone, HasOr, IsList};
-ghost use Rattle.am_cli.specs.Read.{Excludes};
+ghost use Rattle.am_cli.specs.Read.{Excludes, has_only};
 ghost use Rattle.am_input.specs.Configured.{IsConfigFor, file_in};
 ghost use Rattle.am_plans.specs.Decoding.{DecodesToOutage, have_places};
 ghost use Rattle.am_plans.specs.Expected.{AreExpectedIn, ArePlainIn, last_end};
@@ -22,7 +22,7 @@ ghost use Rattle.am_plans.specs.Planned.{ArePlainlyPlannedIn, ArePlannedIn};
 ghost use Rattle.am_terms.specs.declared.rehearsal.Rehearsal.{Rehearsal};
 ghost use Rattle.am_input.specs.declared.input.Asked.{Asked};
 ghost use Rattle.am_input.specs.declared.input.Input.{Input};
-ghost use Rattle.am_input.specs.Request.{DecodesToStart, IsRequestIn, IsSimple, IsSimpleIn, RefusesAll, Requests, end_for, maintain_in, output_for};
+ghost use Rattle.am_input.specs.Request.{DecodesToStart, IsRequestIn, IsSimple, IsSimpleIn, RefusesAll, Requests, end_for, maintain_in, member_names, output_for};
 
 use crate::configured::{Configured, read_configured};
 use crate::hours::check_start;
@@ -144,7 +144,8 @@ fn read_planned(
     configured: Configured,
     changes: Changes<'_>,
 ) -> Result<Input, InputFault>
-    requires { IsConfigFor (file_in changes) top.now.dialect (members_view top.now.members) configured.config }
+    requires known { IsTrue (has_only top.now.dialect member_names (members_view top.now.members)) }
+    requires configures { IsConfigFor (file_in changes) top.now.dialect (members_view top.now.members) configured.config }
     ensures told { IfOk result (λ input. Requests top.now.dialect changes.entry (members_view top.now.members) input.output input.start
         input.expectations.items input.rehearsal) }
     ensures refused { configured.lacks_hours ≡ false → IfErr result (Excludes (λ (input : Input).

@@ -1,11 +1,13 @@
 //! The time zones of a story, and how they are read. `input` and `hours` call it.
-ghost use Rattle.std.specs.Prelude.{IsTrue, codes, is_ok};
-ghost use Rattle.serde_json.specs.View.{members_view};
-ghost use Rattle.am_cli.specs.Decoding.{HasNone};
+ghost use Rattle.std.specs.Prelude.{⊤, IfErr, IfOk, codes};
+ghost use Rattle.serde_json.specs.Find.{get_member};
+ghost use Rattle.serde_json.specs.View.{members_view, view};
+ghost use Rattle.am_cli.specs.Read.{Excludes};
+ghost use Rattle.am_input.specs.Zones.{AreZones, AreZonesIn, IsZone};
 
 use am_alerts::text::Text;
 use am_cli::fault::{FaultKind, InputFault};
-use am_cli::reader::Object;
+use am_cli::reader::{Object, Reader};
 use am_config::hours::NamedZone;
 use am_hours::zone::Zone;
 
@@ -14,23 +16,41 @@ pub const MAX_ZONES: usize = 64;
 
 /// Reads the time zones that a story tells: names, each with a POSIX rule such as `CET-1CEST,M3.5.0,M10.5.0/3`.
 pub fn read_zones(top: &Object<'_, '_>) -> Result<Vec<NamedZone>, InputFault>
-    ensures { HasNone (codes "zones") (members_view top.now.members) → IsTrue (is_ok result) }
+    ensures told { IfOk result (λ _. AreZonesIn (get_member (codes "zones") (members_view top.now.members))) }
+    ensures refused { IfErr result (Excludes (λ (_ : ⊤). AreZonesIn (get_member (codes "zones") (members_view top.now.members)))) }
 {
-    let mut zones = Vec::new(top.alloc());
     let Some(member) = top.optional("zones") else {
-        return Ok(zones);
+        return Ok(Vec::new(top.alloc()));
     };
     let listed = member.object()?;
     if listed.members().len() > MAX_ZONES {
         return Err(member.refuse(FaultKind::BadValue));
     }
+    Ok(read_listed(&listed)?)
+}
+
+/// Reads the zones that these members tell.
+fn read_listed(listed: &Object<'_, '_>) -> Result<Vec<NamedZone>, InputFault>
+    ensures told { IfOk result (λ _. AreZones (members_view listed.now.members)) }
+    ensures refused { IfErr result (Excludes (λ (_ : ⊤). AreZones (members_view listed.now.members))) }
+{
+    let mut zones = Vec::new(listed.alloc());
     for (name, value) in listed.members().iter() {
         let rule = listed.member(name.as_str(), value);
-        let Ok(zone) = Zone::from_rule(rule.text()?) else {
-            return Err(rule.refuse(FaultKind::BadValue));
-        };
-        let name = Text::new(top.alloc(), name.as_str())?;
+        let zone = read_zone(&rule)?;
+        let name = Text::new(listed.alloc(), name.as_str())?;
         zones.push(NamedZone { name, zone })?;
     }
     Ok(zones)
+}
+
+/// Reads the zone of a rule.
+fn read_zone(rule: &Reader<'_, '_>) -> Result<Zone, InputFault>
+    ensures told { IfOk result (λ _. IsZone (view rule.now.value)) }
+    ensures refused { IfErr result (Excludes (λ (_ : ⊤). IsZone (view rule.now.value))) }
+{
+    match Zone::from_rule(rule.text()?) {
+        Ok(zone) => Ok(zone),
+        Err(_) => Err(rule.refuse(FaultKind::BadValue)),
+    }
 }

@@ -1,7 +1,7 @@
 //! Times as dates with times of day, in UTC. `am_rehearse` reads `start` by it.
-ghost use Rattle.std.specs.Prelude.{◌≡◌, ◌+◌, ◌*◌, ◌^◌, ◌<◌, ◌≤◌, ◌++◌, ◌/◌, IfSome, OnOk, string_bytes};
+ghost use Rattle.std.specs.Prelude.{◌≡◌, ◌+◌, ◌*◌, ◌^◌, ◌<◌, ◌≤◌, ◌++◌, ◌/◌, ◌<ℤ◌, pos, None, IfSome, IsSomeAnd, OnOk, string_bytes};
 ghost use Rattle.am_terms.specs.UtcDates.{day_after, day_at, day_text, days_in_month, four_digits, is_leap_year, next_day};
-ghost use Rattle.am_terms.specs.UtcDates.{IsReadFrom, IsStartAt, behind_midnight, dated, instant_text, time_at};
+ghost use Rattle.am_terms.specs.UtcDates.{IsReadFrom, IsStartAt, StartData, behind_midnight, dated, instant_text, time_at};
 
 use crate::clock::{TimeFormat, push_counted, push_three_digits, push_two_digits};
 use jiff::Timestamp;
@@ -57,14 +57,16 @@ impl UtcDates {
     /// That is a time as `2026-11-23T00:00:00Z` or `2026-11-23T01:00:00+01:00` (RFC 3339), in the
     /// years 0 to 9999 of UTC. Parts of a millisecond are dropped.
     pub fn read(text: &str) -> Option<UtcDates>
-        ensures { IfSome result (IsReadFrom text.now) }
+        ensures told { IfSome result (IsReadFrom text.now) }
+        ensures refused { result ≡ None → (start : StartData) → IsReadFrom text.now start → ⊥ }
     {
         let start = text.parse::<Timestamp>().ok()?;
         UtcDates::from_utc(Offset::UTC.to_datetime(start))
     }
 
     fn from_utc(start: DateTime) -> Option<UtcDates>
-        ensures { IfSome result (IsStartAt start) }
+        ensures told { IfSome result (IsStartAt start) }
+        ensures refused { result ≡ None → start.date.year <ℤ pos 0 }
     {
         let year = u64::try_from(start.year()).ok()?;
         let month = u64::try_from(start.month()).ok()?;
@@ -102,7 +104,7 @@ impl UtcDates {
 
 /// How many milliseconds of its day are over.
 fn milliseconds_of(start: DateTime) -> Option<u64>
-    ensures { IfSome result (λ milliseconds. milliseconds ≡ start.time.hour * 3600000 + start.time.minute * 60000
+    ensures { IsSomeAnd result (λ milliseconds. milliseconds ≡ start.time.hour * 3600000 + start.time.minute * 60000
         + start.time.second * 1000 + start.time.subsec_nanosecond / 1000000) }
 {
     let hours = u64::try_from(start.hour()).ok()?;

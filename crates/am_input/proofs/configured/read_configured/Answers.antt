@@ -4,7 +4,7 @@ use Rattle.am_input.specs.Configured.{TellsPlainly}
 use Rattle.am_input.proofs.configured.read_configured.Goals as goal
 
 pub returns-in_err-hours-clause-refused : goal.returns-in_err-hours-clause-refused
-returns-in_err-hours-clause-refused g c own ours = absurd (cc (c.in_err-hours.ensures own ours))
+returns-in_err-hours-clause-refused g c own ours = absurd (cc (c.in_err-hours.ensures.in_story own ours))
 
 pub returns-in_err-read_in_story-in-None-clause-refused : goal.returns-in_err-read_in_story-in-None-clause-refused
 returns-in_err-read_in_story-in-None-clause-refused g c own ours =

@@ -77,7 +77,7 @@ returns-in_err-only-clause-refused g c =
     let is : Some members ≡ as_object value = c.in_ok-top.ensures.members ∙ ap (λ (v : Value). as_object (view v)) c.strict-reader.ensures.value in
     let strict : top.dialect ≡ Strict = c.in_ok-top.ensures.dialect ∙ c.strict-reader.ensures.dialect in
     one_on (Tells c.args.changes value) c.from_residual-in_err-only.result c.in_err-only.field-0.0 c.from_residual-in_err-only.ensures.1
-    (λ refusal x told. unknown _ c.in_err-only.ensures.known (inside top.dialect c.args.changes members value x is strict told).1.known)
+    (λ refusal x told. unknown _ c.in_err-only.ensures.known (inside top.dialect c.args.changes members value x is strict told).0.known)
 
 pub returns-in_err-configured-clause-refused : goal.returns-in_err-configured-clause-refused
 returns-in_err-configured-clause-refused g c =

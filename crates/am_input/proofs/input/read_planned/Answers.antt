@@ -28,8 +28,10 @@ pub returns-clause-told : goal.returns-clause-told
 returns-clause-told c =
     let members = members_view c.args.top.now.members in
     record {
+      known = c.requires.known;
       configures = subst (λ (config : Config). IsConfigFor (file_in c.args.changes) c.args.top.now.dialect members config)
-          (sym c.in_ok-rehearsal.ensures.config) c.requires;
+          (sym c.in_ok-rehearsal.ensures.config) c.requires.configures;
+      zones = c.in_ok-read_zones.ensures.told;
       tells = c.in_ok-asked.ensures.output;
       starts = c.in_ok-asked.ensures.start;
       ends = c.in_ok-until.ensures.until ∙ ap Some (sym c.in_ok-rehearsal.ensures.until);
@@ -44,12 +46,12 @@ returns-clause-told c =
 pub returns-in_err-until-clause-refused : goal.returns-in_err-until-clause-refused
 returns-in_err-until-clause-refused c timed =
     handed_on (Tells c.args.top.now.dialect c.args.changes (members_view c.args.top.now.members) c.args.configured.config) c.from_residual.result c.in_err-until.field-0.0 c.from_residual.ensures.1
-    (λ refusal x told. absurd (omega (arith, c.in_err-until.ensures.refused x.rehearsal.until told.0.ends, told.2.ends)))
+    (λ refusal x told. absurd (omega (arith, c.in_err-until.ensures.refused x.rehearsal.until told.0.ends, x.rehearsal.ends)))
 
 pub returns-in_err-read_zones-clause-refused : goal.returns-in_err-read_zones-clause-refused
 returns-in_err-read_zones-clause-refused c timed =
     handed_on (Tells c.args.top.now.dialect c.args.changes (members_view c.args.top.now.members) c.args.configured.config) c.from_residual-in_err-read_zones.result c.in_err-read_zones.field-0.0 c.from_residual-in_err-read_zones.ensures.1
-    (λ refusal x told. absurd (cc (c.in_err-read_zones.ensures told.2.zones)))
+    (λ refusal x told. c.in_err-read_zones.ensures.refused refusal tt told.0.zones)
 
 pub returns-in_err-check_start-clause-refused : goal.returns-in_err-check_start-clause-refused
 returns-in_err-check_start-clause-refused c timed =

@@ -59,8 +59,8 @@ abbrev pub file_in : Changes → Option Data
 file_in changes = option_map (λ value. view value.now) changes.config
 
 -- the configuration of `config`, whose matchers look for no pattern
-abbrev pub TellsPlainly : Dialect → Members → Config → Type 0
-TellsPlainly dialect members config = Has (DecodesToConfig dialect) (codes "config") members config × IsTrue (config_compares_texts config)
+abbrev pub TellsWithoutPatterns : Dialect → Members → Config → Type 0
+TellsWithoutPatterns dialect members config = Has (DecodesToConfig dialect) (codes "config") members config × IsTrue (config_compares_texts config)
 
 -- the configuration of a value, whose matchers look for no pattern
 abbrev pub DecodesWithoutPatterns : Dialect → Data → Config → Type 0

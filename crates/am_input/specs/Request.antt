@@ -16,8 +16,8 @@ use Rattle.am_terms.specs.UtcDates.{IsReadFrom, StartData, dated}
 use Rattle.am_terms.specs.TimeFormatData.{TimeFormatData, counted}
 use Rattle.am_input.specs.Configured.{IsConfigFor, file_in}
 use Rattle.am_plans.specs.Decoding.{DecodesToOutage, have_places}
-use Rattle.am_plans.specs.Expected.{AreExpectedIn, ArePlainIn, last_end, until_in}
-use Rattle.am_plans.specs.Planned.{ArePlainlyPlannedIn, ArePlannedIn}
+use Rattle.am_plans.specs.Expected.{AreExpectedIn, HaveNoPatternIn, last_end, until_in}
+use Rattle.am_plans.specs.Planned.{ArePlannedWithoutPatterns, ArePlannedIn}
 use Rattle.am_terms.specs.declared.rehearsal.Rehearsal.{Rehearsal}
 use Rattle.am_input.specs.Zones.{AreZonesIn}
 use Rattle.am_input.specs.declared.input.TheConstants.{MAINTAIN}
@@ -93,13 +93,13 @@ IsRequestIn changes value output start expectations rehearsal =
 
 -- what is asked for isn't refused: the configuration is the story's own and stands in `config`, no start is told, and no matcher looks
 -- for a pattern
-pub record IsSimple (dialect : Dialect) (changes : Changes) (members : Members) (rehearsal : Rehearsal) : Type 0 where
+pub record IsWithoutPatterns (dialect : Dialect) (changes : Changes) (members : Members) (rehearsal : Rehearsal) : Type 0 where
   pub own : file_in changes ≡ None
   pub ours : HasNone (codes "alertmanager") members
   pub start : HasNone (codes "start") members
   pub config : IsTrue (config_compares_texts rehearsal.config)
-  pub plans : ArePlainlyPlannedIn dialect members rehearsal.plans.items
-  pub expects : ArePlainIn dialect (get_member (codes "expect") members)
+  pub plans : ArePlannedWithoutPatterns dialect members rehearsal.plans.items
+  pub expects : HaveNoPatternIn dialect (get_member (codes "expect") members)
 
 -- a refusal, for one fault or for many, excludes these
 abbrev pub RefusesAll : {X : Type 0} → (X → Type 0) → Refusal → Type 0
@@ -107,6 +107,6 @@ RefusesAll Tells (One fault) = Excludes Tells fault
 RefusesAll {X = X} Tells (All faults) = (x : X) → Tells x → ⊥
 
 -- a JSON value is an object whose members ask for this, which isn't refused
-abbrev pub IsSimpleIn : Changes → Data → Output → Option StartData → List Expectation → Rehearsal → Type 0
-IsSimpleIn changes value output start expectations rehearsal = IsSomeAnd (as_object value) (λ members.
-    Requests Strict changes members output start expectations rehearsal × IsSimple Strict changes members rehearsal)
+abbrev pub IsRequestWithoutPatterns : Changes → Data → Output → Option StartData → List Expectation → Rehearsal → Type 0
+IsRequestWithoutPatterns changes value output start expectations rehearsal = IsSomeAnd (as_object value) (λ members.
+    Requests Strict changes members output start expectations rehearsal × IsWithoutPatterns Strict changes members rehearsal)

@@ -6,7 +6,7 @@ ghost use Rattle.am_cli.specs.Configured.{DecodesToConfig};
 ghost use Rattle.am_cli.specs.Decoding.{HasNone};
 ghost use Rattle.am_cli.specs.Read.{Excludes};
 ghost use Rattle.am_cli.specs.declared.reader.Dialect.TheVariants.{Strict};
-ghost use Rattle.am_input.specs.Configured.{DecodesWithoutPatterns, IsConfigFor, IsConfigIn, IsConfigOf, IsReadOfTheirs, TellsPlainly, form_in};
+ghost use Rattle.am_input.specs.Configured.{DecodesWithoutPatterns, IsConfigFor, IsConfigIn, IsConfigOf, IsReadOfTheirs, TellsWithoutPatterns, form_in};
 ghost use Rattle.am_input.specs.Request.{RefusesAll};
 
 use crate::form::{Form, alertmanager_in, form_of};
@@ -45,7 +45,7 @@ pub fn read_configured<Z: ZoneFiles>(
     ensures timed { option_map (λ g. view g.now) given.entry ≡ None → HasNone (codes "alertmanager") (members_view top.now.members)
         → IfOk result (λ read. read.lacks_hours ≡ false) }
     ensures refused { option_map (λ g. view g.now) given.entry ≡ None → HasNone (codes "alertmanager") (members_view top.now.members)
-        → IfErr result (RefusesAll (TellsPlainly top.now.dialect (members_view top.now.members))) }
+        → IfErr result (RefusesAll (TellsWithoutPatterns top.now.dialect (members_view top.now.members))) }
     ensures own { (file : Data) → option_map (λ g. view g.now) given.entry ≡ Some file → form_in file ≡ Form.Own
         → IfErr result (RefusesAll (DecodesWithoutPatterns Strict file)) }
 {
@@ -132,7 +132,7 @@ fn read_in_story(top: &Object<'_, '_>, hours: Option<&Hours>) -> Result<Configur
     ensures told { IfOk result (λ read. IsConfigIn top.now.dialect (members_view top.now.members) read.config) }
     ensures timed { HasNone (codes "alertmanager") (members_view top.now.members) → IfOk result (λ read. read.lacks_hours ≡ false) }
     ensures refused { HasNone (codes "alertmanager") (members_view top.now.members)
-        → IfErr result (RefusesAll (TellsPlainly top.now.dialect (members_view top.now.members))) }
+        → IfErr result (RefusesAll (TellsWithoutPatterns top.now.dialect (members_view top.now.members))) }
 {
     let Some(member) = top.optional("alertmanager") else {
         return Ok(read_own(&top.required("config")?)?);

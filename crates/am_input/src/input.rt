@@ -17,12 +17,12 @@ ghost use Rattle.am_cli.specs.Decoding.{HasNone, HasOr, IsList};
 ghost use Rattle.am_cli.specs.Read.{Excludes, has_only};
 ghost use Rattle.am_input.specs.Configured.{IsConfigFor, file_in};
 ghost use Rattle.am_plans.specs.Decoding.{DecodesToOutage, have_places};
-ghost use Rattle.am_plans.specs.Expected.{AreExpectedIn, ArePlainIn, last_end};
-ghost use Rattle.am_plans.specs.Planned.{ArePlainlyPlannedIn, ArePlannedIn};
+ghost use Rattle.am_plans.specs.Expected.{AreExpectedIn, HaveNoPatternIn, last_end};
+ghost use Rattle.am_plans.specs.Planned.{ArePlannedWithoutPatterns, ArePlannedIn};
 ghost use Rattle.am_terms.specs.declared.rehearsal.Rehearsal.{Rehearsal};
 ghost use Rattle.am_input.specs.declared.input.Asked.{Asked};
 ghost use Rattle.am_input.specs.declared.input.Input.{Input};
-ghost use Rattle.am_input.specs.Request.{DecodesToStart, IsRequestIn, IsSimple, IsSimpleIn, RefusesAll, Requests, end_for, maintain_in, member_names, output_for};
+ghost use Rattle.am_input.specs.Request.{DecodesToStart, IsRequestIn, IsWithoutPatterns, IsRequestWithoutPatterns, RefusesAll, Requests, end_for, maintain_in, member_names, output_for};
 
 use crate::configured::{Configured, read_configured};
 use crate::hours::check_start;
@@ -128,7 +128,7 @@ pub fn read_input<Z: ZoneFiles>(
 ) -> Result<Input, Refusal>
     ensures told { IfOk result (λ input. IsRequestIn changes.entry (view value.now) input.output input.start
         input.expectations.items input.rehearsal) }
-    ensures refused { IfErr result (RefusesAll (λ (input : Input). IsSimpleIn changes.entry (view value.now) input.output input.start
+    ensures refused { IfErr result (RefusesAll (λ (input : Input). IsRequestWithoutPatterns changes.entry (view value.now) input.output input.start
         input.expectations.items input.rehearsal)) }
 {
     let reader = Reader::strict(alloc, value);
@@ -152,7 +152,7 @@ fn read_planned(
         Requests top.now.dialect changes.entry (members_view top.now.members) input.output input.start
         input.expectations.items input.rehearsal
         × (input.rehearsal.config ≡ configured.config)
-        × IsSimple top.now.dialect changes.entry (members_view top.now.members) input.rehearsal)) }
+        × IsWithoutPatterns top.now.dialect changes.entry (members_view top.now.members) input.rehearsal)) }
 {
     let Configured {
         config,
@@ -198,7 +198,7 @@ fn read_asked(
         × AreExpectedIn top.now.dialect rehearsal.now.config rehearsal.now.until
         (last_end rehearsal.now.until (members_view top.now.members)) rehearsal.now.plans.items
         (get_member (codes "expect") (members_view top.now.members)) asked.expectations.items
-        × ArePlainIn top.now.dialect (get_member (codes "expect") (members_view top.now.members)))) }
+        × HaveNoPatternIn top.now.dialect (get_member (codes "expect") (members_view top.now.members)))) }
 {
     let start = moment::start(top)?;
     let output = read_output(top, output)?;
@@ -230,7 +230,7 @@ fn read_rehearsal(
         (maintain_in (get_member (codes "maintain") (members_view top.now.members)) ≡ Some r.maintain)
         × HasOr (IsList (DecodesToOutage top.now.dialect)) [] (codes "outages") (members_view top.now.members) r.outages.items
         × IsTrue (have_places config r.outages.items)
-        × ArePlainlyPlannedIn top.now.dialect (members_view top.now.members) r.plans.items)) }
+        × ArePlannedWithoutPatterns top.now.dialect (members_view top.now.members) r.plans.items)) }
 {
     let maintain = read_maintain(top)?;
     let outages = read_outages(top, &config)?;

@@ -15,6 +15,6 @@ pub mod Makes
 -- spans of expectations
 pub mod ExpectedSpans
 -- expectations that look for no pattern
-pub mod Plain
+pub mod NoPattern
 -- a JSON value tells one outage at most
 pub mod Outages

@@ -84,7 +84,7 @@ pub record HasOutage (dialect : Dialect) (members : Members) (outage : Outage) :
   pub only : IsTrue (has_only dialect outage_names members)
   pub receiver : Has IsText (codes "receiver") members outage.receiver
   pub integration : HasIf IsNumber (codes "integration") members outage.integration
-  pub position : IfSome outage.integration (λ position. position ≤ MAX_INTEGRATIONS)
+  pub position : IfSome outage.integration (λ position. position < MAX_INTEGRATIONS)
   pub span : DecodesToSpan members (record { from = outage.from; to = outage.to })
   pub answer : HasOr IsAnswer Again (codes "answer") members outage.answer
   pub takes : HasOr IsDuration 0 (codes "takes") members outage.takes

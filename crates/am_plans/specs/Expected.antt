@@ -1,6 +1,6 @@
 -- Expected: what the members of an expectation say.
 use Rattle.std.specs.Prelude.{◌≡◌, ◌≢◌, ◌≤◌, ◌<◌, ◌+◌, ◌^◌, ◌++◌, ◌==◌, ◌&&◌, ◌||◌, ⊤, ℕ, Bool, true, false, not, nat_le, nat_lt, max, codes}
-use Rattle.std.specs.Prelude.{List, [], ◌∷◌, length, find, get_or, map, IsTrue, is_none, is_some, slice_get, Option, Some, None, IsSomeAnd}
+use Rattle.std.specs.Prelude.{List, [], ◌∷◌, length, find, get_or, IsTrue, is_none, is_some, slice_get, Option, Some, None, IsSomeAnd}
 use Rattle.std.specs.Prelude.{MatchOption, option_map, if◌then◌else◌}
 use Rattle.std.specs.List.{list_all, list_any}
 use Rattle.std.specs.Option.{option_and_then, option_map_or, option_or}
@@ -17,7 +17,7 @@ use Rattle.am_cli.specs.Configured.{DecodesToLabels, DecodesToMatcher}
 use Rattle.am_cli.specs.Decoding.{Has, HasNone, HasOr, IsFlag, IsList}
 use Rattle.am_cli.specs.Read.{duration_in, has_only, number_in}
 use Rattle.am_cli.specs.declared.reader.Dialect.{Dialect}
-use Rattle.am_plans.specs.declared.expectation.TheConstants.{MAX_EXPECTATIONS, MEMBERS}
+use Rattle.am_plans.specs.declared.expectation.TheConstants.{MAX_EXPECTATIONS}
 use Rattle.am_model.specs.declared.config.Config.{Config}
 use Rattle.am_model.specs.declared.config.Integration.{Integration}
 use Rattle.am_model.specs.declared.config.Receiver.{Receiver}
@@ -152,7 +152,7 @@ IsSplit text kind (Some position) = HasPosition text kind position
 -- an integration: a position, a kind, or a kind, `/` and its position
 abbrev pub IsTargetOf : Data → Option (List ℕ) → Option ℕ → Type 0
 IsTargetOf member None None = ⊥
-IsTargetOf member None (Some position) = (number_in member ≡ Some position) × (position ≤ MAX_INTEGRATIONS)
+IsTargetOf member None (Some position) = (number_in member ≡ Some position) × (position < MAX_INTEGRATIONS)
 IsTargetOf member (Some kind) position = IsSomeAnd (as_str member) (λ text. IsSplit text kind position)
 
 -- the same, if it is said
@@ -249,7 +249,10 @@ pub record IsExpectedOf (dialect : Dialect) (until last : ℕ) (plans : List Tim
 
 -- the names of the fields of an expectation
 abbrev pub field_names : List (List ℕ)
-field_names = map (λ name. name.now) MEMBERS
+field_names =
+    codes "name" ∷ codes "at" ∷ codes "from" ∷ codes "to" ∷ codes "within" ∷ codes "of" ∷ codes "when" ∷ codes "receiver"
+    ∷ codes "integration" ∷ codes "has" ∷ codes "has_resolved" ∷ codes "exactly" ∷ codes "firing" ∷ codes "resolved" ∷ codes "reason"
+    ∷ codes "none" ∷ codes "never" ∷ codes "count" ∷ codes "at_most" ∷ []
 
 -- what a JSON value says is expected
 abbrev pub IsExpectedIn : Dialect → ℕ → ℕ → List TimedAction → Data → Expectation → Type 0
@@ -326,25 +329,25 @@ AreExpectedIn dialect config until last plans member expectations =
     (λ value. IsList (IsKnownIn dialect config until last plans) value expectations × (length expectations ≤ MAX_EXPECTATIONS))
 
 -- the matchers that the member of this name lists look for no pattern
-abbrev pub LooksForNone : Dialect → List ℕ → Members → Type 0
-LooksForNone dialect name members =
+abbrev pub HasNoPatternAt : Dialect → List ℕ → Members → Type 0
+HasNoPatternAt dialect name members =
     (matchers : List MatcherParts) → Has (IsList (DecodesToMatcher dialect)) name members matchers → IsTrue (compare_texts matchers)
 
 -- no matcher of an expectation looks for a pattern
-pub record IsPlain (dialect : Dialect) (members : Members) : Type 0 where
-  pub of : LooksForNone dialect (codes "of") members
-  pub has : LooksForNone dialect (codes "has") members
-  pub has_resolved : LooksForNone dialect (codes "has_resolved") members
+pub record HasNoPattern (dialect : Dialect) (members : Members) : Type 0 where
+  pub of : HasNoPatternAt dialect (codes "of") members
+  pub has : HasNoPatternAt dialect (codes "has") members
+  pub has_resolved : HasNoPatternAt dialect (codes "has_resolved") members
 
 -- the same of a value
-abbrev pub IsPlainIn : Dialect → Data → Type 0
-IsPlainIn dialect value = MatchOption (as_object value) ⊤ (IsPlain dialect)
+abbrev pub HasNoPatternIn : Dialect → Data → Type 0
+HasNoPatternIn dialect value = MatchOption (as_object value) ⊤ (HasNoPattern dialect)
 
 -- the same of each value in an array
-abbrev pub ArePlain : Dialect → Items → Type 0
-ArePlain dialect no_items = ⊤
-ArePlain dialect (item value values) = IsPlainIn dialect value × ArePlain dialect values
+abbrev pub HaveNoPattern : Dialect → Items → Type 0
+HaveNoPattern dialect no_items = ⊤
+HaveNoPattern dialect (item value values) = HasNoPatternIn dialect value × HaveNoPattern dialect values
 
 -- the same of what a member lists
-abbrev pub ArePlainIn : Dialect → Option Data → Type 0
-ArePlainIn dialect member = MatchOption member ⊤ (λ value. MatchOption (as_array value) ⊤ (ArePlain dialect))
+abbrev pub HaveNoPatternIn : Dialect → Option Data → Type 0
+HaveNoPatternIn dialect member = MatchOption member ⊤ (λ value. MatchOption (as_array value) ⊤ (HaveNoPattern dialect))

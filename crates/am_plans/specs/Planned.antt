@@ -75,12 +75,12 @@ abbrev pub may_set : SilenceItem → Bool
 may_set s = is_none (silence_fault (silence_of 1 s.matchers.items s.from s.to))
 
 -- whether no matcher of these silences looks for a pattern
-abbrev pub are_plain : List SilenceItem → Bool
-are_plain silences = list_all (λ s. compare_texts s.matchers.items) silences
+abbrev pub have_no_pattern : List SilenceItem → Bool
+have_no_pattern silences = list_all (λ s. compare_texts s.matchers.items) silences
 
 -- the actions are those that the members plan, whose silences look for no pattern
-abbrev pub ArePlainlyPlannedIn : Dialect → Members → List TimedAction → Type 0
-ArePlainlyPlannedIn dialect members plans = (planned : ArePlannedIn dialect members plans) × IsTrue (are_plain planned.silences)
+abbrev pub ArePlannedWithoutPatterns : Dialect → Members → List TimedAction → Type 0
+ArePlannedWithoutPatterns dialect members plans = (planned : ArePlannedIn dialect members plans) × IsTrue (have_no_pattern planned.silences)
 
 -- each planned action has its place as its number
 abbrev pub IsNumbered : List Planned → Type 0

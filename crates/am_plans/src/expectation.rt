@@ -7,7 +7,7 @@ ghost use Rattle.serde_json.specs.Find.{as_object, as_str, get_member};
 ghost use Rattle.serde_json.specs.View.{members_view, view};
 ghost use Rattle.am_cli.specs.Read.{Excludes};
 ghost use Rattle.am_plans.specs.Decoding.{Denies};
-ghost use Rattle.am_plans.specs.Expected.{AreExpectedIn, ArePlainIn, IsExpectedIn, IsExpectedOf, IsKnownIn, IsPlain, IsPlainIn};
+ghost use Rattle.am_plans.specs.Expected.{AreExpectedIn, HaveNoPatternIn, IsExpectedIn, IsExpectedOf, IsKnownIn, HasNoPattern, HasNoPatternIn};
 ghost use Rattle.am_plans.specs.Expected.{has_alerts, last_end, member_if, until_in};
 
 pub(crate) mod alerts;
@@ -78,7 +78,7 @@ pub fn read_expectations(
     ensures refused { IfErr result (Excludes (λ expectations. AreExpectedIn top.now.dialect config.now until
         (last_end until (members_view top.now.members)) plans.now
         (get_member (codes "expect") (members_view top.now.members)) expectations
-        × ArePlainIn top.now.dialect (get_member (codes "expect") (members_view top.now.members)))) }
+        × HaveNoPatternIn top.now.dialect (get_member (codes "expect") (members_view top.now.members)))) }
 {
     let last = last_end(top, until);
     match top.optional("expect") {
@@ -118,7 +118,7 @@ fn read_list(
         AreExpectedIn member.now.dialect config.now until last plans.now (Some (view member.now.value)) expectations.items) }
     ensures refused { IfErr result (Excludes (λ expectations.
         AreExpectedIn member.now.dialect config.now until last plans.now (Some (view member.now.value)) expectations
-        × ArePlainIn member.now.dialect (Some (view member.now.value)))) }
+        × HaveNoPatternIn member.now.dialect (Some (view member.now.value)))) }
 {
     let mut expectations = Vec::new(member.alloc());
     let values = member.array()?;
@@ -201,7 +201,7 @@ fn read_known(
     ensures told { IfOk result (IsKnownIn reader.now.dialect config.now until last plans.now (view reader.now.value)) }
     ensures refused { IfErr result (Excludes (λ x.
         IsKnownIn reader.now.dialect config.now until last plans.now (view reader.now.value) x
-        × IsPlainIn reader.now.dialect (view reader.now.value))) }
+        × HasNoPatternIn reader.now.dialect (view reader.now.value))) }
 {
     let expectation = read_expectation(reader, until, last, plans)?;
     check_target(reader.alloc(), config, &expectation, reader.place())?;
@@ -233,7 +233,7 @@ fn read_expectation(
 ) -> Result<Expectation, InputFault>
     ensures told { IfOk result (IsExpectedIn reader.now.dialect until last plans.now (view reader.now.value)) }
     ensures refused { IfErr result (Excludes (λ x. IsExpectedIn reader.now.dialect until last plans.now (view reader.now.value) x
-        × IsPlainIn reader.now.dialect (view reader.now.value))) }
+        × HasNoPatternIn reader.now.dialect (view reader.now.value))) }
 {
     let item = reader.object()?;
     item.only(&MEMBERS)?;
@@ -249,7 +249,7 @@ fn read_members(
     ensures told { IfOk result (IsExpectedOf item.now.dialect until last plans.now (members_view item.now.members)) }
     ensures refused { IfErr result (Excludes (λ x.
         IsExpectedOf item.now.dialect until last plans.now (members_view item.now.members) x
-        × IsPlain item.now.dialect (members_view item.now.members))) }
+        × HasNoPattern item.now.dialect (members_view item.now.members))) }
 {
     let name = read_name(item, "name")?;
     let (from, to) = read_span(item, until, last, plans)?;

@@ -5,10 +5,10 @@ ghost use Rattle.serde_json.specs.View.{members_view, view};
 ghost use Rattle.am_cli.specs.Read.{Excludes};
 ghost use Rattle.am_plans.specs.Expected.{IsSplit, IsTargetIn, IsTargetOf, position_named};
 
+use crate::target::LAST_POSITION;
 use am_alerts::text::Text;
 use am_cli::fault::InputFault;
 use am_cli::reader::{Object, Reader};
-use am_model::config::MAX_INTEGRATIONS;
 
 /// The kind and the position of the integration, where they are said.
 pub(crate) fn read_target(item: &Object<'_, '_>) -> Result<(Option<Text>, Option<u32>), InputFault>
@@ -29,7 +29,7 @@ fn read_integration(member: &Reader<'_, '_>) -> Result<(Option<Text>, Option<u32
         IsTargetOf (view member.now.value) target.0 target.1)) }
 {
     if !member.is_text() {
-        let position = member.number_up_to(MAX_INTEGRATIONS as u64)?;
+        let position = member.number_up_to(LAST_POSITION)?;
         return Ok((None, Some(position as u32)));
     }
     let text = member.text()?;

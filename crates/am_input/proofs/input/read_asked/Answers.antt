@@ -9,7 +9,7 @@ use Rattle.am_input.specs.declared.input.Asked.{Asked}
 use Rattle.am_input.specs.declared.input.Output.{Output}
 use Rattle.am_model.specs.declared.config.Config.{Config}
 use Rattle.am_plans.proofs.Decodings.{none_read}
-use Rattle.am_plans.specs.Expected.{AreExpectedIn, ArePlainIn, last_end}
+use Rattle.am_plans.specs.Expected.{AreExpectedIn, HaveNoPatternIn, last_end}
 use Rattle.am_terms.specs.declared.rehearsal.TimedAction.{TimedAction}
 use Rattle.am_input.proofs.input.read_asked.Goals as goal
 
@@ -18,7 +18,7 @@ abbrev Tells : Dialect → Members → Option Output → Config → ℕ → List
 Tells d members output config until plans asked =
     (output_for output (get_member (codes "output") members) ≡ Some asked.output)
     × AreExpectedIn d config until (last_end until members) plans (get_member (codes "expect") members) asked.expectations.items
-    × ArePlainIn d (get_member (codes "expect") members)
+    × HaveNoPatternIn d (get_member (codes "expect") members)
 
 pub returns-in_err-start-clause-refused : goal.returns-in_err-start-clause-refused
 returns-in_err-start-clause-refused c absent = absurd (cc (c.in_err-start.ensures.none absent))

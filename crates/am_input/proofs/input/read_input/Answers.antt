@@ -11,8 +11,8 @@ use Rattle.am_cli.specs.Decoding.{Has, HasNone}
 use Rattle.am_cli.specs.declared.reader.Dialect.{Dialect}
 use Rattle.am_cli.specs.declared.reader.Dialect.TheVariants.{Strict}
 use Rattle.am_input.proofs.Refusals.{one_on, passed_on}
-use Rattle.am_input.specs.Configured.{IsConfigFor, IsReadOfTheirs, TellsPlainly, file_in}
-use Rattle.am_input.specs.Request.{IsSimple, Requests}
+use Rattle.am_input.specs.Configured.{IsConfigFor, IsReadOfTheirs, TellsWithoutPatterns, file_in}
+use Rattle.am_input.specs.Request.{IsWithoutPatterns, Requests}
 use Rattle.am_input.specs.declared.input.Changes.{Changes}
 use Rattle.am_input.specs.declared.input.Input.{Input}
 use Rattle.am_model.specs.declared.config.Config.{Config}
@@ -22,7 +22,7 @@ use Rattle.am_input.proofs.input.read_input.Goals as goal
 -- what the members ask for that isn't refused
 abbrev Asks : Dialect → Changes → Input → Members → Type 0
 Asks d changes input members =
-    Requests d changes members input.output input.start input.expectations.items input.rehearsal × IsSimple d changes members input.rehearsal
+    Requests d changes members input.output input.start input.expectations.items input.rehearsal × IsWithoutPatterns d changes members input.rehearsal
 
 abbrev Tells : Changes → Data → Input → Type 0
 Tells changes value input = IsSomeAnd (as_object value) (Asks Strict changes input)
@@ -37,8 +37,8 @@ returns-clause-told g c =
     (subst (λ (d : Dialect). Says d (members_view c.in_ok-top.top.members)) dialect c.in_ok-read_planned.ensures.told))
 
 -- the configuration that is told stands in `config`
-plainly : (d : Dialect) (changes : Changes) (members : Members) (input : Input) → Asks d changes input members → TellsPlainly d members input.rehearsal.config
-plainly d changes members input told =
+without_patterns : (d : Dialect) (changes : Changes) (members : Members) (input : Input) → Asks d changes input members → TellsWithoutPatterns d members input.rehearsal.config
+without_patterns d changes members input told =
     let told_of : IsConfigFor None d members input.rehearsal.config =
     subst (λ (file : Option Data). IsConfigFor file d members input.rehearsal.config) told.1.own told.0.configures in (
       found_none (Has (DecodesToConfig d) (codes "config") members input.rehearsal.config) (λ value. HasNone (codes "config") members × IsReadOfTheirs value input.rehearsal.config)
@@ -54,7 +54,7 @@ same_config d changes members input config told read =
     let has = found_none (Has (DecodesToConfig d) (codes "config") members config) (λ value. HasNone (codes "config") members × IsReadOfTheirs value config)
     (get_member (codes "alertmanager") members) (sym told.1.ours) read_of in
     one_there (DecodesToConfig d) (λ value c k is also. one_parts d value c k is.parts also.parts) (get_member (codes "config") members) input.rehearsal.config config
-    (plainly d changes members input told).0 has
+    (without_patterns d changes members input told).0 has
 
 -- what is told of an object that was read
 inside : (d : Dialect) (changes : Changes) (members : Members) (value : Data) (input : Input) → Some members ≡ as_object value → d ≡ Strict
@@ -86,11 +86,11 @@ returns-in_err-configured-clause-refused g c =
     let members = members_view top.members in
     let is : Some members ≡ as_object value = c.in_ok-top.ensures.members ∙ ap (λ (v : Value). as_object (view v)) c.strict-reader.ensures.value in
     let strict : top.dialect ≡ Strict = c.in_ok-top.ensures.dialect ∙ c.strict-reader.ensures.dialect in
-    passed_on (TellsPlainly top.dialect members) (Tells c.args.changes value) (λ x. x.rehearsal.config) c.from_residual-in_err-configured.result c.in_err-configured.field-0.0
+    passed_on (TellsWithoutPatterns top.dialect members) (Tells c.args.changes value) (λ x. x.rehearsal.config) c.from_residual-in_err-configured.result c.in_err-configured.field-0.0
     c.from_residual-in_err-configured.ensures.1
     (λ x told.
     let asks = inside top.dialect c.args.changes members value x is strict told in
-    (c.in_err-configured.ensures.refused asks.1.own asks.1.ours, plainly top.dialect c.args.changes members x asks))
+    (c.in_err-configured.ensures.refused asks.1.own asks.1.ours, without_patterns top.dialect c.args.changes members x asks))
 
 pub returns-in_err-read_planned-clause-refused : goal.returns-in_err-read_planned-clause-refused
 returns-in_err-read_planned-clause-refused g c =

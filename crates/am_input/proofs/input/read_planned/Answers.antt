@@ -7,7 +7,7 @@ use Rattle.am_cli.proofs.Decoding.{handed_on}
 use Rattle.am_cli.specs.declared.reader.Dialect.{Dialect}
 use Rattle.am_input.proofs.OnePlan.{one_plan}
 use Rattle.am_input.specs.Configured.{IsConfigFor, file_in}
-use Rattle.am_input.specs.Request.{IsSimple, Requests}
+use Rattle.am_input.specs.Request.{IsWithoutPatterns, Requests}
 use Rattle.am_input.specs.declared.input.Asked.{Asked}
 use Rattle.am_input.specs.declared.input.Changes.{Changes}
 use Rattle.am_input.specs.declared.input.Input.{Input}
@@ -22,7 +22,7 @@ use Rattle.am_input.proofs.input.read_planned.Goals as goal
 abbrev Tells : Dialect → Changes → Members → Config → Input → Type 0
 Tells d changes members config input =
     Requests d changes members input.output input.start input.expectations.items input.rehearsal × (input.rehearsal.config ≡ config)
-    × IsSimple d changes members input.rehearsal
+    × IsWithoutPatterns d changes members input.rehearsal
 
 pub returns-clause-told : goal.returns-clause-told
 returns-clause-told c =

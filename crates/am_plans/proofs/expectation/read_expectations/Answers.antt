@@ -5,13 +5,13 @@ use Rattle.serde_json.specs.View.{members_view, view}
 use Rattle.am_cli.proofs.Decoding.{narrowed}
 use Rattle.am_cli.specs.declared.reader.Dialect.{Dialect}
 use Rattle.am_model.specs.declared.config.Config.{Config}
-use Rattle.am_plans.specs.Expected.{AreExpectedIn, ArePlainIn, last_end}
+use Rattle.am_plans.specs.Expected.{AreExpectedIn, HaveNoPatternIn, last_end}
 use Rattle.am_terms.specs.declared.expectation.Expectation.{Expectation}
 use Rattle.am_terms.specs.declared.rehearsal.TimedAction.{TimedAction}
 use Rattle.am_plans.proofs.expectation.read_expectations.Goals as goal
 
 abbrev Tells : Dialect → Config → ℕ → ℕ → List TimedAction → Option Data → List Expectation → Type 0
-Tells d config until last plans member xs = AreExpectedIn d config until last plans member xs × ArePlainIn d member
+Tells d config until last plans member xs = AreExpectedIn d config until last plans member xs × HaveNoPatternIn d member
 
 pub returns-in-Some-clause-refused : goal.returns-in-Some-clause-refused
 returns-in-Some-clause-refused c =

@@ -9,14 +9,14 @@ use Rattle.am_cli.specs.declared.reader.Dialect.{Dialect}
 use Rattle.am_model.specs.declared.config.Config.{Config}
 use Rattle.am_plans.proofs.Contents.{are_alike, same_target}
 use Rattle.am_plans.proofs.Decodings.{is_there, true_false}
-use Rattle.am_plans.specs.Expected.{IsExpectedOf, IsKnownIn, IsPlainIn, field_names, has_alerts}
+use Rattle.am_plans.specs.Expected.{IsExpectedOf, IsKnownIn, HasNoPatternIn, field_names, has_alerts}
 use Rattle.am_terms.specs.declared.expectation.Expectation.{Expectation}
 use Rattle.am_terms.specs.declared.rehearsal.TimedAction.{TimedAction}
 use Rattle.am_plans.proofs.expectation.read_known.Goals as goal
 
 -- what is never refused
 abbrev Tells : Dialect → Config → ℕ → ℕ → List TimedAction → Data → Expectation → Type 0
-Tells d config until last plans value x = IsKnownIn d config until last plans value x × IsPlainIn d value
+Tells d config until last plans value x = IsKnownIn d config until last plans value x × HasNoPatternIn d value
 
 pub returns-in_err-expectation-clause-refused : goal.returns-in_err-expectation-clause-refused
 returns-in_err-expectation-clause-refused c =

@@ -1,4 +1,4 @@
-use Rattle.std.proofs.Common.{◌≡◌, ◌<◌, ◌≤◌, ◌∙◌, ℕ, false, List, Option, Some, None, MatchOption, ap, arith, is_some, sym}
+use Rattle.std.proofs.Common.{◌≡◌, ◌<◌, ◌∙◌, ℕ, false, List, Option, Some, None, MatchOption, ap, arith, is_some, sym}
 use Rattle.serde_json.specs.Data.{Data}
 use Rattle.serde_json.specs.Find.{as_str}
 use Rattle.serde_json.specs.View.{view}
@@ -6,19 +6,20 @@ use Rattle.am_cli.proofs.Decoding.{handed_on, starved}
 use Rattle.am_cli.specs.Read.{number_in}
 use Rattle.am_model.specs.declared.config.TheConstants.{MAX_INTEGRATIONS}
 use Rattle.am_plans.proofs.Decodings.{is_there}
+use Rattle.am_plans.specs.declared.target.TheConstants.{LAST_POSITION}
 use Rattle.am_plans.specs.Expected.{IsSplit, IsTargetOf}
 use Rattle.am_plans.proofs.expectation.target.read_integration.Goals as goal
 
 abbrev Tells : Data → Option (List ℕ) × Option ℕ → Type 0
 Tells value t = IsTargetOf value t.0 t.1
 
-no_number : (P : Type 0) (Q : ℕ → Type 0) (o : Option ℕ) (p : ℕ) → MatchOption o P (λ n. (MAX_INTEGRATIONS < n) × Q n) → o ≡ Some p → p ≤ MAX_INTEGRATIONS → ⊥
+no_number : (P : Type 0) (Q : ℕ → Type 0) (o : Option ℕ) (p : ℕ) → MatchOption o P (λ n. (LAST_POSITION < n) × Q n) → o ≡ Some p → p < MAX_INTEGRATIONS → ⊥
 no_number P Q None p refused is few = absurd (cc)
 no_number P Q (Some n) p refused is few = let same : n ≡ p = cc in absurd (omega (arith, refused.0, few, same))
 
 -- what is no text tells a position alone
 position_of : (value : Data) (kind : Option (List ℕ)) (position : Option ℕ) → is_some (as_str value) ≡ false → IsTargetOf value kind position
-    → (p : ℕ) × (number_in value ≡ Some p) × (p ≤ MAX_INTEGRATIONS)
+    → (p : ℕ) × (number_in value ≡ Some p) × (p < MAX_INTEGRATIONS)
 position_of value None None other told = absurd told
 position_of value None (Some p) other told = (p, told.0, told.1)
 position_of value (Some k) position other told =

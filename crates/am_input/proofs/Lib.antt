@@ -4,3 +4,5 @@ pub mod OnePlan
 pub mod Refusals
 -- the zones of members
 pub mod Listed
+-- starts that a member can't tell
+pub mod Starts

@@ -91,12 +91,10 @@ abbrev pub IsRequestIn : Changes → Data → Output → Option StartData → Li
 IsRequestIn changes value output start expectations rehearsal =
     IsSomeAnd (as_object value) (λ members. Requests Strict changes members output start expectations rehearsal)
 
--- what is asked for isn't refused: the configuration is the story's own and stands in `config`, no start is told, and no matcher looks
--- for a pattern
+-- what is asked for isn't refused: the configuration is the story's own and stands in `config`, and no matcher looks for a pattern
 pub record IsWithoutPatterns (dialect : Dialect) (changes : Changes) (members : Members) (rehearsal : Rehearsal) : Type 0 where
   pub own : file_in changes ≡ None
   pub ours : HasNone (codes "alertmanager") members
-  pub start : HasNone (codes "start") members
   pub config : IsTrue (config_compares_texts rehearsal.config)
   pub plans : ArePlannedWithoutPatterns dialect members rehearsal.plans.items
   pub expects : HaveNoPatternIn dialect (get_member (codes "expect") members)

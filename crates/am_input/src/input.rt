@@ -13,7 +13,7 @@ ghost use Rattle.std.specs.Result.{result_ok};
 ghost use Rattle.serde_json.specs.Find.{get_member};
 ghost use Rattle.serde_json.specs.View.{members_view, view};
 ghost use Rattle.am_terms.specs.declared.rehearsal.TheConstants.{MAX_UNTIL};
-ghost use Rattle.am_cli.specs.Decoding.{HasNone, HasOr, IsList};
+ghost use Rattle.am_cli.specs.Decoding.{HasOr, IsList};
 ghost use Rattle.am_cli.specs.Read.{Excludes, has_only};
 ghost use Rattle.am_input.specs.Configured.{IsConfigFor, file_in};
 ghost use Rattle.am_plans.specs.Decoding.{DecodesToOutage, have_places};
@@ -193,8 +193,9 @@ fn read_asked(
         AreExpectedIn top.now.dialect rehearsal.now.config rehearsal.now.until
         (last_end rehearsal.now.until (members_view top.now.members)) rehearsal.now.plans.items
         (get_member (codes "expect") (members_view top.now.members)) asked.expectations.items) }
-    ensures refused { HasNone (codes "start") (members_view top.now.members) → IfErr result (Excludes (λ (asked : Asked).
-        (output_for output (get_member (codes "output") (members_view top.now.members)) ≡ Some asked.output)
+    ensures refused { IfErr result (Excludes (λ (asked : Asked).
+        DecodesToStart (get_member (codes "start") (members_view top.now.members)) asked.start
+        × (output_for output (get_member (codes "output") (members_view top.now.members)) ≡ Some asked.output)
         × AreExpectedIn top.now.dialect rehearsal.now.config rehearsal.now.until
         (last_end rehearsal.now.until (members_view top.now.members)) rehearsal.now.plans.items
         (get_member (codes "expect") (members_view top.now.members)) asked.expectations.items

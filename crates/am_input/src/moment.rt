@@ -1,8 +1,8 @@
 //! The time of the start, and how it is read. `input` calls it.
-ghost use Rattle.std.specs.Prelude.{IfOk, IsTrue, codes, is_ok};
+ghost use Rattle.std.specs.Prelude.{IfErr, IfOk, codes};
 ghost use Rattle.serde_json.specs.Find.{get_member};
 ghost use Rattle.serde_json.specs.View.{members_view};
-ghost use Rattle.am_cli.specs.Decoding.{HasNone};
+ghost use Rattle.am_cli.specs.Read.{Excludes};
 ghost use Rattle.am_input.specs.Request.{DecodesToStart};
 
 use am_cli::fault::{FaultKind, InputFault};
@@ -13,7 +13,7 @@ use am_terms::dated::UtcDates;
 pub fn start(top: &Object<'_, '_>) -> Result<Option<UtcDates>, InputFault>
     ensures told { IfOk result (λ start.
         DecodesToStart (get_member (codes "start") (members_view top.now.members)) start) }
-    ensures none { HasNone (codes "start") (members_view top.now.members) → IsTrue (is_ok result) }
+    ensures refused { IfErr result (Excludes (DecodesToStart (get_member (codes "start") (members_view top.now.members)))) }
 {
     let Some(member) = top.optional("start") else {
         return Ok(None);

@@ -4,7 +4,7 @@ use Rattle.serde_json.specs.Find.{get_member}
 use Rattle.serde_json.specs.View.{members_view}
 use Rattle.am_cli.proofs.Decoding.{handed_on}
 use Rattle.am_cli.specs.declared.reader.Dialect.{Dialect}
-use Rattle.am_input.specs.Request.{output_for}
+use Rattle.am_input.specs.Request.{DecodesToStart, output_for}
 use Rattle.am_input.specs.declared.input.Asked.{Asked}
 use Rattle.am_input.specs.declared.input.Output.{Output}
 use Rattle.am_model.specs.declared.config.Config.{Config}
@@ -16,27 +16,30 @@ use Rattle.am_input.proofs.input.read_asked.Goals as goal
 -- what is never refused
 abbrev Tells : Dialect → Members → Option Output → Config → ℕ → List TimedAction → Asked → Type 0
 Tells d members output config until plans asked =
-    (output_for output (get_member (codes "output") members) ≡ Some asked.output)
+    DecodesToStart (get_member (codes "start") members) asked.start × (output_for output (get_member (codes "output") members) ≡ Some asked.output)
     × AreExpectedIn d config until (last_end until members) plans (get_member (codes "expect") members) asked.expectations.items
     × HaveNoPatternIn d (get_member (codes "expect") members)
 
 pub returns-in_err-start-clause-refused : goal.returns-in_err-start-clause-refused
-returns-in_err-start-clause-refused c absent = absurd (cc (c.in_err-start.ensures.none absent))
+returns-in_err-start-clause-refused c =
+    let r = c.args.rehearsal.now in
+    handed_on (Tells c.args.top.now.dialect (members_view c.args.top.now.members) c.args.output r.config r.until r.plans.items) c.from_residual.result c.in_err-start.field-0.0 c.from_residual.ensures.1
+    (λ refusal asked told. c.in_err-start.ensures.refused refusal asked.start told.0)
 
 pub returns-in_err-output-clause-refused : goal.returns-in_err-output-clause-refused
-returns-in_err-output-clause-refused c absent =
+returns-in_err-output-clause-refused c =
     let r = c.args.rehearsal.now in
     handed_on (Tells c.args.top.now.dialect (members_view c.args.top.now.members) c.args.output r.config r.until r.plans.items) c.from_residual-in_err-output.result c.in_err-output.field-0.0 c.from_residual-in_err-output.ensures.1
-    (λ refusal asked told. none_read _ _ (sym c.in_err-output.ensures) told.0)
+    (λ refusal asked told. none_read _ _ (sym c.in_err-output.ensures) told.1)
 
 pub returns-in_err-expectations-clause-refused : goal.returns-in_err-expectations-clause-refused
-returns-in_err-expectations-clause-refused c absent =
+returns-in_err-expectations-clause-refused c =
     let r = c.args.rehearsal.now in
     let d = c.args.top.now.dialect in
     let members = members_view c.args.top.now.members in
     handed_on (Tells d members c.args.output r.config r.until r.plans.items) c.from_residual-in_err-expectations.result c.in_err-expectations.field-0.0 c.from_residual-in_err-expectations.ensures.1
     (λ refusal asked told. c.in_err-expectations.ensures.refused refusal asked.expectations.items (
       subst (λ (ps : List TimedAction). AreExpectedIn d r.config r.until (last_end r.until members) ps (get_member (codes "expect") members) asked.expectations.items)
-          (sym c.as_slice-plans.ensures.value) told.1,
-      told.2,
+          (sym c.as_slice-plans.ensures.value) told.2,
+      told.3,
     ))

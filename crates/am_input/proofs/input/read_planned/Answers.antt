@@ -82,7 +82,8 @@ returns-in_err-asked-clause-refused c timed =
     let asked : Asked = record { start = x.start; expectations = x.expectations; output = x.output } in
     let found = get_member (codes "expect") members in
     let xs = x.expectations.items in
-    c.in_err-asked.ensures.refused told.2.start refusal asked (
+    c.in_err-asked.ensures.refused refusal asked (
+      told.0.starts,
       told.0.tells,
       subst (λ (ps : List TimedAction). AreExpectedIn d r.config r.until (last_end r.until members) ps found xs) plans
           (subst (λ (u : ℕ). AreExpectedIn d r.config u (last_end u members) x.rehearsal.plans.items found xs) until

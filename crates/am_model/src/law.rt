@@ -109,8 +109,8 @@ pub fn legal_histories_are_consistent()
 ///
 /// The state is any consistent one, as each history leaves it. Later calls are compared with the
 /// same calls where the clock alone moved. Exception: whether a silence replaced one, and what later
-/// forgettings count. It doesn't speak of calls that a limit of names or silences refuses, of which
-/// there are fewer after a forgetting, nor of which known alert inhibits, where several do.
+/// forgettings count. It doesn't speak of calls that a limit refuses, nor of which alert or silence
+/// mutes, where several do.
 pub fn forgetting_changes_no_answer()
     ensures replies { ForgettingChangesNoReply }
     ensures states { ForgettingChangesNoState }

@@ -71,6 +71,7 @@ fn time_of(call: &Call) -> u64 {
         | Call::Finish { now, .. }
         | Call::Maintain { now }
         | Call::Forget { now }
+        | Call::Load { now, .. }
         | Call::Note { now, .. } => *now,
     }
 }

@@ -10,7 +10,7 @@ use Rattle.am_alerts.specs.declared.limits.TheConstants.{MAX_MOMENT}
 use Rattle.am_retry.specs.declared.outcome.Outcome.{Outcome}
 use Rattle.am_model.specs.declared.group.GroupName.{GroupName}
 use Rattle.am_model.specs.declared.record.Call.{Call}
-use Rattle.am_model.specs.declared.record.Call.TheVariants.{Insert, Silence, Begin, Finish, Maintain, Forget, Note}
+use Rattle.am_model.specs.declared.record.Call.TheVariants.{Insert, Silence, Begin, Finish, Maintain, Forget, Load, Note}
 use Rattle.am_model.specs.declared.record.Record.{Record}
 use Rattle.am_model.specs.look_back.Entry.{asked_and_succeeded, begins_group, logs}
 use Rattle.am_model.specs.look_back.Past.{Past, begin_of, is_flush, is_flush_of, is_note, moment_at, was_noted}
@@ -122,6 +122,7 @@ logs_by-is name integration past (Begin now) = refl
 logs_by-is name integration past (Finish now number outcomes) = finish_logs-is past number outcomes name integration past
 logs_by-is name integration past (Maintain now) = refl
 logs_by-is name integration past (Forget now) = refl
+logs_by-is name integration past (Load now row) = refl
 logs_by-is name integration past (Note now number i outcome) = ap (λ (b : Bool). b && (i == integration)) (note_logs-is number name past)
 
 -- what is kept of a past, and of one more record

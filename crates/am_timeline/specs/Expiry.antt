@@ -6,12 +6,12 @@ use Rattle.am_model.specs.declared.group.GroupName.{GroupName}
 use Rattle.am_model.specs.declared.record.Record.{Record}
 use Rattle.am_model.specs.declared.record.Reply.{Reply}
 use Rattle.am_model.specs.declared.record.Reply.TheVariants.{Inserted, Silenced, NothingDue, Quiet, Flush}
-use Rattle.am_model.specs.declared.record.Reply.TheVariants.{Finished, Maintained, Forgotten, Noted}
+use Rattle.am_model.specs.declared.record.Reply.TheVariants.{Finished, Maintained, Forgotten, Loaded, Noted}
 use Rattle.am_model.specs.Configured.{expiry_at, route_of, integrations_named}
 use Rattle.am_model.specs.look_back.Entry.{logs}
 use Rattle.am_model.specs.look_back.Past.{Past, moment_at, past_of}
 
--- when a success of an integration was logged last for a group
+-- when a success of an integration was logged last for a group; rows that were loaded don't count, since a rehearsal loads none
 abbrev pub last_logged : GroupName → ℕ → Past → Option ℕ
 last_logged name integration [] = None
 last_logged name integration (r ∷ past) =
@@ -35,13 +35,14 @@ flush_group (Flush number group deadline notices) = Some group
 flush_group (Finished finished) = None
 flush_group (Maintained maintained) = None
 flush_group (Forgotten forgotten) = None
+flush_group (Loaded loaded) = None
 flush_group Noted = None
 
 -- how many integrations the receiver of a group has
 abbrev pub count_integrations : Config → GroupName → ℕ
 count_integrations config name = length (integrations_named (route_of config name).receiver config.receivers)
 
--- when the last entry of a group and an integration of its receiver expired, if it had expired by t
+-- when the entry of the success logged last for a group and an integration of its receiver expired, if it had expired by t
 abbrev pub expired_at : Config → ℕ → ℕ → Past → GroupName → Option ℕ
 expired_at config integration t past name =
     if nat_lt integration (count_integrations config name) then expiry_of config name t (last_logged name integration past) else None

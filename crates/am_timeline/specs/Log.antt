@@ -7,7 +7,7 @@ use Rattle.std.specs.Option.{option_map_or}
 use Rattle.am_retry.specs.declared.outcome.Outcome.{Outcome}
 use Rattle.am_model.specs.declared.group.GroupName.{GroupName}
 use Rattle.am_model.specs.declared.record.Call.{Call}
-use Rattle.am_model.specs.declared.record.Call.TheVariants.{Insert, Silence, Begin, Finish, Maintain, Forget, Note}
+use Rattle.am_model.specs.declared.record.Call.TheVariants.{Insert, Silence, Begin, Finish, Maintain, Forget, Load, Note}
 use Rattle.am_model.specs.declared.record.Record.{Record}
 use Rattle.am_model.specs.Finish.{is_delivered}
 use Rattle.am_model.specs.look_back.Past.{Past, is_flush, is_flush_of, moment_at, notices_in, was_noted}
@@ -41,7 +41,8 @@ abbrev pub finish_logs : (ℕ → Bool) → List (ℕ × Outcome) → GroupName 
 finish_logs noted outcomes name integration r =
     is_flush_of name r.reply && is_logged noted outcomes integration (notices_in r.reply)
 
--- whether a call logs a success of an integration for a group, by the record of each flush, and by what was noted for it
+-- whether a call logs a success of an integration for a group, by the record of each flush, and by what was noted for it; a load logs
+-- none, whatever becomes of its row
 abbrev pub logs_by : (ℕ → Option Record) → (ℕ → ℕ → Bool) → GroupName → ℕ → Call → Bool
 logs_by flush noted name integration (Insert now alert) = false
 logs_by flush noted name integration (Silence now id matchers start end) = false
@@ -50,6 +51,7 @@ logs_by flush noted name integration (Finish now number outcomes) =
     option_map_or (finish_logs (noted number) outcomes name integration) (flush number) false
 logs_by flush noted name integration (Maintain now) = false
 logs_by flush noted name integration (Forget now) = false
+logs_by flush noted name integration (Load now row) = false
 logs_by flush noted name integration (Note now number i outcome) =
     option_map_or (λ r. is_flush_of name r.reply) (flush number) false && (i == integration)
 

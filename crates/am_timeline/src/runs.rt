@@ -3,7 +3,8 @@
 //!
 //! Begins are looked at from the last one back. A table has the next flush of each group, so that the lines of no more than one
 //! flush of each group are in memory. Cost: the lines of each begin whose preview isn't like the next one of its group.
-ghost use Rattle.std.specs.Prelude.{◌≡◌, ◌+◌, ◌<◌, ◌&&◌, ◌==◌, [], true, IfOk, IfSome, IsTrue, OnOk, Some, if◌then◌else◌, length, map, reverse, string_bytes};
+ghost use Rattle.std.specs.Prelude.{◌≡◌, ◌+◌, ◌<◌, ◌&&◌, ◌==◌, [], true, IfOk, IfSome, IsTrue, OnOk, Some, if◌then◌else◌};
+ghost use Rattle.std.specs.Prelude.{length, map, reverse, string_bytes};
 ghost use Rattle.std.specs.HashMap.{get};
 ghost use Rattle.std.specs.List.{list_all};
 ghost use Rattle.std.specs.Option.{option_map_or};

@@ -110,6 +110,7 @@ fn now_of(call: &Call) -> u64
         | Call::Finish { now, .. }
         | Call::Maintain { now }
         | Call::Forget { now }
+        | Call::Load { now, .. }
         | Call::Note { now, .. } => *now,
     }
 }

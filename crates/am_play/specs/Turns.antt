@@ -37,6 +37,7 @@ opened_in (reply.Flush number group deadline notices) = record { number = number
 opened_in (reply.Finished finished) = []
 opened_in (reply.Maintained maintained) = []
 opened_in (reply.Forgotten forgotten) = []
+opened_in (reply.Loaded loaded) = []
 opened_in reply.Noted = []
 
 -- the flushes that these begins opened, in their order

@@ -156,6 +156,7 @@ notices_in (reply.Flush number group deadline notices) = length notices
 notices_in (reply.Finished finished) = 0
 notices_in (reply.Maintained maintained) = 0
 notices_in (reply.Forgotten forgotten) = 0
+notices_in (reply.Loaded loaded) = 0
 notices_in reply.Noted = 0
 
 module _ (config : Config) (id : ℕ) (s : State) (t : ℕ) (few : HaveFewIntegrations config) where
@@ -299,6 +300,7 @@ module _ (r : Setting) (c d : Scene) (whole : c.board.handed ≡ []) where
     replied (reply.Finished finished) told room is = absurd is
     replied (reply.Maintained maintained) told room is = absurd is
     replied (reply.Forgotten forgotten) told room is = absurd is
+    replied (reply.Loaded loaded) told room is = absurd is
     replied reply.Noted told room is = absurd is
 
     begun_by : (cause : Option Fault) → why_not c.board at ≡ cause → IsTrue (c.begins || not c.blocked) → IsBegun r c at d cause → Falls

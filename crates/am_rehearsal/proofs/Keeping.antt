@@ -134,6 +134,7 @@ module _ (r : Setting) where
     replied at (reply.Finished finished) is = absurd is
     replied at (reply.Maintained maintained) is = absurd is
     replied at (reply.Forgotten forgotten) is = absurd is
+    replied at (reply.Loaded loaded) is = absurd is
     replied at reply.Noted is = absurd is
 
     begun_by : (at : ℕ) (cause : Option Fault) → IsBegun r c at d cause → Stays

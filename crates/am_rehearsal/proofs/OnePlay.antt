@@ -80,6 +80,7 @@ module _ (r : Setting) where
     replied_once at (reply.Finished finished) a b = absurd a
     replied_once at (reply.Maintained maintained) a b = absurd a
     replied_once at (reply.Forgotten forgotten) a b = absurd a
+    replied_once at (reply.Loaded loaded) a b = absurd a
     replied_once at reply.Noted a b = absurd a
 
     begun_once : (at : ℕ) (cause : Option Fault) → IsBegun r c at d cause → IsBegun r c at e cause → d ≡ e

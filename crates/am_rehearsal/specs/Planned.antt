@@ -19,6 +19,7 @@ input_of (call.Begin now) = None
 input_of (call.Finish now number outcomes) = None
 input_of (call.Maintain now) = None
 input_of (call.Forget now) = None
+input_of (call.Load now row) = None
 input_of (call.Note now number integration outcome) = None
 
 -- inputs_in: the inserts and the silences of a history, in their order

@@ -5,7 +5,7 @@ use Rattle.am_model.specs.declared.preview.Preview.{Preview}
 use Rattle.am_model.specs.declared.record.Record.{Record}
 use Rattle.am_model.specs.declared.record.Reply.{Reply}
 use Rattle.am_model.specs.declared.record.Reply.TheVariants.{Inserted, Silenced, NothingDue, Quiet, Flush}
-use Rattle.am_model.specs.declared.record.Reply.TheVariants.{Finished, Maintained, Forgotten, Noted}
+use Rattle.am_model.specs.declared.record.Reply.TheVariants.{Finished, Maintained, Forgotten, Loaded, Noted}
 use Rattle.am_model.specs.look_back.Preview.{preview}
 use Rattle.am_model.specs.Records.{now_of}
 use Rattle.am_terms.specs.declared.event.PreviewedBegin.{PreviewedBegin}
@@ -20,6 +20,7 @@ takes_group (Flush number group deadline notices) = true
 takes_group (Finished finished) = false
 takes_group (Maintained maintained) = false
 takes_group (Forgotten forgotten) = false
+takes_group (Loaded loaded) = false
 takes_group Noted = false
 
 -- what is told of the record at a place, where this is what it was to do

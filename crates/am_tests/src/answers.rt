@@ -5,7 +5,7 @@ use am_alerts::alert::Alert;
 use am_alerts::labels::Labels;
 use am_board::board::Board;
 use am_board::preview::{MutedAlert, Preview};
-use am_board::record::{Call, Record};
+use am_board::record::{Call, Loaded, Record};
 use am_board::views::{GroupView, RowView, Summary};
 use am_mute::mute::MuteCause;
 use am_retry::Outcome;
@@ -45,6 +45,8 @@ fn push_answer(
             let (alerts, silences) = (told.alerts, told.silences);
             write!(text, "alerts {alerts}, silences {silences}")
         }
+        Answer::Loaded(told) => text.push_str(loaded_text(told)),
+        Answer::Unloaded(fault) => write!(text, "{fault:?}"),
         Answer::Finished(told) => {
             let (logged, removed) = (told.logged, told.removed);
             write!(text, "logged {logged}, removed {removed}")
@@ -78,6 +80,14 @@ fn push_of_flush(
         Answer::Summary => push_summary(text, &stage.board().summary()),
         Answer::Taken => push_records(text, "taken", stage.taken()),
         _ => push_records(text, "history", stage.board().history()),
+    }
+}
+
+fn loaded_text(told: Loaded) -> &'static str {
+    match told {
+        Loaded::Put => "put",
+        Loaded::Kept => "kept",
+        Loaded::Expired => "expired",
     }
 }
 
@@ -286,6 +296,7 @@ fn push_records(text: &mut String, word: &str, records: &[Record]) -> Result<(),
             Call::Finish { .. } => " finish",
             Call::Maintain { .. } => " maintain",
             Call::Forget { .. } => " forget",
+            Call::Load { .. } => " load",
         })?;
     }
     Ok(())

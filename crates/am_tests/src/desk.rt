@@ -6,10 +6,15 @@ use am_alerts::alert::Alert;
 use am_board::begin::Begun;
 use am_board::board::Board;
 use am_board::config::Config;
-use am_board::fault::{BoardFault, Fault, FinishFault, NoteFault, ReportFault, TakeFault};
+use am_board::fault::{
+    BoardFault, Fault, FinishFault, LoadFault, NoteFault, ReportFault, TakeFault,
+};
 use am_board::notice::{Notice, Report};
-use am_board::record::{Finished, Forgotten, Inserted, Maintained, Noted, Record, Silenced};
+use am_board::record::{
+    Finished, Forgotten, Inserted, Loaded, Maintained, Noted, Record, Silenced,
+};
 use am_board::ticket::Ticket;
+use am_board::views::RowView;
 use am_mute::silence::Silence;
 use am_retry::Outcome;
 use std::alloc::Global;
@@ -93,6 +98,11 @@ impl Desk {
     /// Forgets resolved alerts that are in no group, and silences that are over.
     pub fn forget(&mut self, alloc: Global, now: u64) -> Result<Forgotten, Fault> {
         self.board.forget(alloc, PASS, now)
+    }
+
+    /// Takes over a row of another board's log.
+    pub fn load(&mut self, alloc: Global, now: u64, row: RowView) -> Result<Loaded, LoadFault> {
+        self.board.load(alloc, PASS, row, now)
     }
 
     /// Begins the flush of the group that is due first.

@@ -3,12 +3,12 @@ use crate::desk::{
     ABROAD, Desk, Elsewhere, Ending, HOME, OwnBegun, OwnTicket, discard, finish_at, note_at,
 };
 use crate::setup::read_config;
-use crate::values::{read_alert, read_outcome, read_silence};
+use crate::values::{read_alert, read_outcome, read_row, read_silence};
 use crate::words::{Trouble, Words};
 use am_board::board::Board;
 use am_board::config::ConfigFault;
-use am_board::fault::{BoardFault, Fault, NoteFault, ReportFault, TakeFault};
-use am_board::record::{Finished, Forgotten, Inserted, Maintained, Record, Silenced};
+use am_board::fault::{BoardFault, Fault, LoadFault, NoteFault, ReportFault, TakeFault};
+use am_board::record::{Finished, Forgotten, Inserted, Loaded, Maintained, Record, Silenced};
 use std::alloc::Global;
 use std::mem::replace;
 
@@ -33,6 +33,8 @@ pub enum Answer {
     Silenced(Silenced),
     Maintained(Maintained),
     Forgotten(Forgotten),
+    Loaded(Loaded),
+    Unloaded(LoadFault),
     NothingDue,
     Quiet(usize),
     /// The ticket at this place of the stage's was given.
@@ -99,6 +101,7 @@ impl Stage {
             "silence" => self.silence(alloc, &mut words),
             "maintain" => self.maintain(alloc, &mut words),
             "forget" => self.forget(alloc, &mut words),
+            "load" => self.load(alloc, &mut words),
             "begin" => self.begin(alloc, &mut words),
             "report" => self.report(&mut words),
             "outcomes" => Ok(Answer::Outcomes(self.find(words.number()?)?)),
@@ -183,6 +186,17 @@ impl Stage {
         Ok(match self.desk.forget(alloc, words.number()?) {
             Ok(told) => Answer::Forgotten(told),
             Err(fault) => Answer::Refused(fault),
+        })
+    }
+
+    /// `load MOMENT`, and the words of a row.
+    fn load(&mut self, alloc: Global, words: &mut Words<'_>) -> Result<Answer, Trouble> {
+        let now = words.number()?;
+        let row = read_row(alloc, words)?;
+        Ok(match self.desk.load(alloc, now, row) {
+            Ok(told) => Answer::Loaded(told),
+            Err(LoadFault::NoMemory) => Answer::Refused(Fault::NoMemory),
+            Err(fault) => Answer::Unloaded(fault),
         })
     }
 

@@ -3,7 +3,10 @@ use crate::words::{Trouble, Words};
 use am_alerts::alert::Alert;
 use am_alerts::labels::{LabelFault, Labels};
 use am_alerts::matcher::{Matcher, MatcherFault, MatcherParts, Operator};
+use am_alerts::sequence::Sequence;
 use am_alerts::text::Text;
+use am_board::group::GroupName;
+use am_board::views::RowView;
 use am_mute::silence::Silence;
 use am_retry::Outcome;
 use std::alloc::{AllocError, Global};
@@ -88,6 +91,38 @@ pub fn read_silence(alloc: Global, words: &mut Words<'_>) -> Result<Silence, Tro
         Ok(silence) => Ok(silence),
         Err(_) => Err(Trouble::BadLine),
     }
+}
+
+/// A log row: the position of its route, its group labels, the position of its integration, its
+/// moment, its expiry, and the label sets that it has as firing and as resolved.
+pub fn read_row(alloc: Global, words: &mut Words<'_>) -> Result<RowView, Trouble> {
+    let route = words.position()?;
+    let labels = read_labels(alloc, words.word()?)?;
+    let integration = words.position()?;
+    let moment = words.number()?;
+    let expiry = words.number()?;
+    let firing = read_sets(alloc, words.word()?)?;
+    let resolved = read_sets(alloc, words.word()?)?;
+    Ok(RowView {
+        group: GroupName { route, labels },
+        integration,
+        moment,
+        expiry,
+        firing,
+        resolved,
+    })
+}
+
+/// Label sets joined by semicolons, or `-` for none.
+fn read_sets(alloc: Global, word: &str) -> Result<Sequence<Labels>, Trouble> {
+    let mut sets = Vec::new(alloc);
+    if word != "-" {
+        for set in word.split(';') {
+            let labels = read_labels(alloc, set)?;
+            sets.push(labels)?;
+        }
+    }
+    Ok(Sequence::from(sets))
 }
 
 /// The outcome of a report.

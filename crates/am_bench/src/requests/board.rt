@@ -4,13 +4,14 @@ ghost use Rattle.am_bench.specs.declared.requests.board.TheConstants.{HOME};
 
 use crate::requests::probe::Probe;
 use crate::requests::ticket;
-use crate::requests::values::{alert, config};
+use crate::requests::values::{alert, config, row};
 use am_alerts::alert::Alert;
 use am_board::begin::Begun;
 use am_board::board::Board;
 use am_board::config::Config;
 use am_board::fault::{BoardFault, FinishFault};
 use am_board::own_ticket::OwnTicket;
+use am_board::views::RowView;
 use std::alloc::{AllocError, Global};
 
 /// The id of the board, which its tickets name.
@@ -34,7 +35,22 @@ pub fn make_calls(probe: &Probe, alloc: Global) -> Result<(), AllocError> {
         Ok(mut desk) => {
             let made = desk.make_calls(probe, alloc);
             drop(desk);
-            made
+            made?;
+        }
+        Err(_) => return Err(AllocError),
+    }
+    load_rows(probe, alloc)
+}
+
+/// Loads rows into a board whose history has room for one record.
+fn load_rows(probe: &Probe, alloc: Global) -> Result<(), AllocError> {
+    let mut config = config(alloc)?;
+    config.limits.history = 1;
+    match Desk::open(probe, alloc, config) {
+        Ok(mut desk) => {
+            let loaded = desk.load_rows(probe, alloc);
+            drop(desk);
+            loaded
         }
         Err(_) => Err(AllocError),
     }
@@ -78,6 +94,31 @@ impl Desk {
         probe.ask("with memory: Board::insert");
         let inserted = self.board.insert(alloc, PASS, 0, alert);
         probe.tell(&inserted);
+    }
+
+    /// Loads a row, and then rows that are refused before memory is asked for.
+    fn load_rows(&mut self, probe: &Probe, alloc: Global) -> Result<(), AllocError> {
+        let loaded = row(alloc, 0, 100, &["1", "2"])?;
+        self.load(probe, alloc, "with memory: Board::load", loaded);
+        let stray = row(alloc, 2, 100, &["1"])?;
+        let call = "without memory: Board::load, there is no such integration";
+        self.load(probe, alloc, call, stray);
+        let unordered = row(alloc, 0, 100, &["2", "1"])?;
+        let call = "without memory: Board::load, the label sets aren't in order";
+        self.load(probe, alloc, call, unordered);
+        let ahead = row(alloc, 0, 101, &["1"])?;
+        let call = "without memory: Board::load, the row is ahead";
+        self.load(probe, alloc, call, ahead);
+        let late = row(alloc, 0, 100, &["1"])?;
+        let call = "without memory: Board::load, the history is full";
+        self.load(probe, alloc, call, late);
+        Ok(())
+    }
+
+    fn load(&mut self, probe: &Probe, alloc: Global, call: &str, row: RowView) {
+        probe.ask(call);
+        let loaded = self.board.load(alloc, PASS, row, 100);
+        probe.tell(&loaded);
     }
 
     /// Hands the records out while no flush is open.

@@ -9,7 +9,8 @@ use std::alloc::{AllocError, Global};
 
 pub fn make_calls(probe: &Probe, alloc: Global) -> Result<(), AllocError> {
     keep_rows(probe, alloc)?;
-    ask_update(probe, &row(alloc)?);
+    merge_rows(probe, alloc)?;
+    ask_update(probe, &row(alloc, 100)?);
     Ok(())
 }
 
@@ -22,10 +23,10 @@ fn key() -> LogKey<u64>
     }
 }
 
-/// A row at 100, in which 1 and 3 fired and nothing was resolved; it is collected from 1,000 on.
-fn row(alloc: Global) -> Result<LogRow<u64>, AllocError> {
+/// A row at this moment, in which 1 and 3 fired and nothing was resolved; it is collected from 1,000 on.
+fn row(alloc: Global, moment: u64) -> Result<LogRow<u64>, AllocError> {
     Ok(LogRow {
-        moment: 100,
+        moment,
         firing: members(alloc, &[1, 3])?,
         resolved: members(alloc, &[])?,
         expiry: 1_000,
@@ -46,7 +47,7 @@ fn keep_rows(probe: &Probe, alloc: Global) -> Result<(), AllocError> {
     probe.ask("with memory: NfLog::reserve");
     log.reserve(key())?;
     probe.tell(&log.len());
-    let row = row(alloc)?;
+    let row = row(alloc, 100)?;
     probe.ask("NfLog::put");
     log.put(&key(), row);
     probe.tell(&log.len());
@@ -68,6 +69,29 @@ fn collect(probe: &Probe, log: &mut NfLog<u64, u64>) {
     probe.ask("NfLog::forget");
     log.forget(&[2]);
     probe.tell(&log.len());
+}
+
+/// Merges a row into an empty log, and then at its key one of the same moment and a later one.
+fn merge_rows(probe: &Probe, alloc: Global) -> Result<(), AllocError> {
+    let mut log: NfLog<u64, u64> = NfLog::new(alloc)?;
+    let first = row(alloc, 100)?;
+    let same = row(alloc, 100)?;
+    let later = row(alloc, 101)?;
+    merge(probe, &mut log, "with memory: NfLog::merge", first);
+    merge(
+        probe,
+        &mut log,
+        "NfLog::merge, of a row that isn't later",
+        same,
+    );
+    merge(probe, &mut log, "NfLog::merge, at a known key", later);
+    Ok(())
+}
+
+fn merge(probe: &Probe, log: &mut NfLog<u64, u64>, call: &str, row: LogRow<u64>) {
+    probe.ask(call);
+    let merged = log.merge(key(), row);
+    probe.tell(&merged);
 }
 
 fn ask_update(probe: &Probe, row: &LogRow<u64>) {

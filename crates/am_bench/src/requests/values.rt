@@ -8,6 +8,8 @@ use am_alerts::route::{Child, GroupBy, Route, Routes};
 use am_alerts::sequence::Sequence;
 use am_alerts::text::Text;
 use am_board::config::{Config, Integration, Limits, Receiver};
+use am_board::group::GroupName;
+use am_board::views::RowView;
 use am_mute::inhibit::InhibitRule;
 use std::alloc::{AllocError, Global};
 
@@ -23,6 +25,32 @@ pub fn labels(alloc: Global, instance: &str) -> Result<Labels, AllocError> {
 pub fn alert(alloc: Global, instance: &str, ends: Option<u64>) -> Result<Alert, AllocError> {
     match Alert::new(labels(alloc, instance)?, 0, ends) {
         Ok(alert) => Ok(alert),
+        Err(_) => Err(AllocError),
+    }
+}
+
+/// A log row of the group of A at the root, of this integration and moment, in which these instances
+/// fired.
+pub fn row(
+    alloc: Global,
+    integration: u32,
+    moment: u64,
+    instances: &[&str],
+) -> Result<RowView, AllocError> {
+    let mut firing = Vec::new(alloc);
+    for instance in instances {
+        let labels = labels(alloc, instance)?;
+        firing.push(labels)?;
+    }
+    match Labels::read(alloc, &[("alertname", "A")]) {
+        Ok(labels) => Ok(RowView {
+            group: GroupName { route: 0, labels },
+            integration,
+            moment,
+            expiry: 28_800_000,
+            firing: Sequence::from(firing),
+            resolved: Sequence::empty(alloc),
+        }),
         Err(_) => Err(AllocError),
     }
 }

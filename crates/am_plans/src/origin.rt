@@ -1,4 +1,6 @@
 //! The pointer of a planned action. `am_rehearse` reports it if a limit leaves no capacity for the action.
+ghost use Rattle.am_cli.specs.Read.{IsRefusedBy};
+
 use am_cli::fault::{FaultKind, InputFault};
 use am_cli::place::JsonPointer;
 use std::alloc::Global;
@@ -12,16 +14,22 @@ pub enum Origin {
 
 impl Origin {
     /// A limit leaves no room for the plan.
-    pub fn refuse_full(&self, alloc: Global) -> InputFault {
+    pub fn refuse_full(&self, alloc: Global) -> InputFault
+        ensures { IsRefusedBy FaultKind.Full result }
+    {
         self.refuse(alloc, FaultKind::Full)
     }
 
     /// What is made of the plan's members is refused.
-    pub fn refuse_value(&self, alloc: Global) -> InputFault {
+    pub fn refuse_value(&self, alloc: Global) -> InputFault
+        ensures { IsRefusedBy FaultKind.BadValue result }
+    {
         self.refuse(alloc, FaultKind::BadValue)
     }
 
-    fn refuse(&self, alloc: Global, fault_kind: FaultKind) -> InputFault {
+    fn refuse(&self, alloc: Global, fault_kind: FaultKind) -> InputFault
+        ensures { IsRefusedBy fault_kind result }
+    {
         let top = JsonPointer::Root;
         match self {
             Origin::Silence { item } => top

@@ -1,5 +1,6 @@
 -- Configured: under which configuration a story is played.
-use Rattle.std.specs.Prelude.{◌≡◌, ◌||◌, ℕ, Bool, List, [], ◌∷◌, Option, Some, None, codes, is_some, option_map, if◌then◌else◌, IsSomeAnd, IsTrue, MatchOption}
+use Rattle.std.specs.Prelude.{◌≡◌, ◌||◌, ℕ, Bool, List, [], ◌∷◌, Option, Some, None, codes, is_some}
+use Rattle.std.specs.Prelude.{option_map, if◌then◌else◌, IsSomeAnd, IsTrue, MatchOption}
 use Rattle.std.specs.List.{list_any}
 use Rattle.serde_json.specs.Data.{Data, Members}
 use Rattle.serde_json.specs.Find.{as_object, get, get_member, pointer}
@@ -60,7 +61,8 @@ file_in changes = option_map (λ value. view value.now) changes.config
 
 -- the configuration of `config`, whose matchers look for no pattern
 abbrev pub TellsWithoutPatterns : Dialect → Members → Config → Type 0
-TellsWithoutPatterns dialect members config = Has (DecodesToConfig dialect) (codes "config") members config × IsTrue (config_compares_texts config)
+TellsWithoutPatterns dialect members config =
+    Has (DecodesToConfig dialect) (codes "config") members config × IsTrue (config_compares_texts config)
 
 -- the configuration of a value, whose matchers look for no pattern
 abbrev pub DecodesWithoutPatterns : Dialect → Data → Config → Type 0

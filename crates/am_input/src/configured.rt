@@ -6,7 +6,8 @@ ghost use Rattle.am_cli.specs.Configured.{DecodesToConfig};
 ghost use Rattle.am_cli.specs.Decoding.{HasNone};
 ghost use Rattle.am_cli.specs.Read.{Excludes};
 ghost use Rattle.am_cli.specs.declared.reader.Dialect.TheVariants.{Strict};
-ghost use Rattle.am_input.specs.Configured.{DecodesWithoutPatterns, IsConfigFor, IsConfigIn, IsConfigOf, IsReadOfTheirs, TellsWithoutPatterns, form_in};
+ghost use Rattle.am_input.specs.Configured.{DecodesWithoutPatterns, IsConfigFor, IsConfigIn, IsConfigOf};
+ghost use Rattle.am_input.specs.Configured.{IsReadOfTheirs, TellsWithoutPatterns, form_in};
 ghost use Rattle.am_input.specs.Request.{RefusesAll};
 
 use crate::form::{Form, alertmanager_in, form_of};

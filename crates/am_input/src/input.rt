@@ -22,7 +22,8 @@ ghost use Rattle.am_plans.specs.Planned.{ArePlannedWithoutPatterns, ArePlannedIn
 ghost use Rattle.am_terms.specs.declared.rehearsal.Rehearsal.{Rehearsal};
 ghost use Rattle.am_input.specs.declared.input.Asked.{Asked};
 ghost use Rattle.am_input.specs.declared.input.Input.{Input};
-ghost use Rattle.am_input.specs.Request.{DecodesToStart, IsRequestIn, IsWithoutPatterns, IsRequestWithoutPatterns, RefusesAll, Requests, end_for, maintain_in, member_names, output_for};
+ghost use Rattle.am_input.specs.Request.{DecodesToStart, IsRequestIn, IsWithoutPatterns, IsRequestWithoutPatterns};
+ghost use Rattle.am_input.specs.Request.{RefusesAll, Requests, end_for, maintain_in, member_names, output_for};
 
 use crate::configured::{Configured, read_configured};
 use crate::hours::check_start;
@@ -128,7 +129,8 @@ pub fn read_input<Z: ZoneFiles>(
 ) -> Result<Input, Refusal>
     ensures told { IfOk result (λ input. IsRequestIn changes.entry (view value.now) input.output input.start
         input.expectations.items input.rehearsal) }
-    ensures refused { IfErr result (RefusesAll (λ (input : Input). IsRequestWithoutPatterns changes.entry (view value.now) input.output input.start
+    ensures refused { IfErr result (RefusesAll (λ (input : Input).
+        IsRequestWithoutPatterns changes.entry (view value.now) input.output input.start
         input.expectations.items input.rehearsal)) }
 {
     let reader = Reader::strict(alloc, value);

@@ -1,5 +1,6 @@
 -- What the JSON values of a story's alerts, silences and outages tell, a line for each member.
-use Rattle.std.specs.Prelude.{◌≡◌, ◌<◌, ◌≤◌, ◌&&◌, ℕ, Bool, true, false, List, [], ◌∷◌, Option, Some, codes, find, length, nat_le, nat_lt, IfSome, IsTrue, MatchOption}
+use Rattle.std.specs.Prelude.{◌≡◌, ◌<◌, ◌≤◌, ◌&&◌, ℕ, Bool, true, false, List, [], ◌∷◌, Option, Some}
+use Rattle.std.specs.Prelude.{codes, find, length, nat_le, nat_lt, IfSome, IsTrue, MatchOption}
 use Rattle.std.specs.List.{list_all}
 use Rattle.std.specs.Option.{option_map_or}
 use Rattle.std.specs.Str.{bytes_eq}

@@ -1,5 +1,6 @@
 -- Expected: what the members of an expectation say.
-use Rattle.std.specs.Prelude.{◌≡◌, ◌≢◌, ◌≤◌, ◌<◌, ◌+◌, ◌^◌, ◌++◌, ◌==◌, ◌&&◌, ◌||◌, ⊤, ℕ, Bool, true, false, not, nat_le, nat_lt, max, codes}
+use Rattle.std.specs.Prelude.{◌≡◌, ◌≢◌, ◌≤◌, ◌<◌, ◌+◌, ◌^◌, ◌++◌, ◌==◌, ◌&&◌, ◌||◌, ⊤, ℕ}
+use Rattle.std.specs.Prelude.{Bool, true, false, not, nat_le, nat_lt, max, codes}
 use Rattle.std.specs.Prelude.{List, [], ◌∷◌, length, find, get_or, IsTrue, is_none, is_some, slice_get, Option, Some, None, IsSomeAnd}
 use Rattle.std.specs.Prelude.{MatchOption, option_map, if◌then◌else◌}
 use Rattle.std.specs.List.{list_all, list_any}

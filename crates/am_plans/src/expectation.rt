@@ -7,7 +7,8 @@ ghost use Rattle.serde_json.specs.Find.{as_object, as_str, get_member};
 ghost use Rattle.serde_json.specs.View.{members_view, view};
 ghost use Rattle.am_cli.specs.Read.{Excludes};
 ghost use Rattle.am_plans.specs.Decoding.{Denies};
-ghost use Rattle.am_plans.specs.Expected.{AreExpectedIn, HaveNoPatternIn, IsExpectedIn, IsExpectedOf, IsKnownIn, HasNoPattern, HasNoPatternIn};
+ghost use Rattle.am_plans.specs.Expected.{AreExpectedIn, HaveNoPatternIn, IsExpectedIn};
+ghost use Rattle.am_plans.specs.Expected.{IsExpectedOf, IsKnownIn, HasNoPattern, HasNoPatternIn};
 ghost use Rattle.am_plans.specs.Expected.{has_alerts, last_end, member_if, until_in};
 
 pub(crate) mod alerts;

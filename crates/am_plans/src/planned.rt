@@ -6,7 +6,8 @@ ghost use Rattle.std.specs.List.{flat_map, list_all};
 ghost use Rattle.serde_json.specs.View.{members_view};
 ghost use Rattle.am_cli.specs.Read.{Excludes};
 ghost use Rattle.am_plans.specs.Decoding.{Denies};
-ghost use Rattle.am_plans.specs.Planned.{AddsPlans, ArePlannedWithoutPatterns, ArePlannedIn, insert_of, inserts_in, inserts_of, plans_of, set_of, sets_from};
+ghost use Rattle.am_plans.specs.Planned.{AddsPlans, ArePlannedWithoutPatterns, ArePlannedIn, insert_of};
+ghost use Rattle.am_plans.specs.Planned.{inserts_in, inserts_of, plans_of, set_of, sets_from};
 ghost use Rattle.am_plans.specs.Planned.{may_insert, may_insert_all, may_insert_in, may_set};
 ghost use Rattle.am_cli.specs.declared.fault.InputFault.TheVariants.{NoMemory};
 

@@ -1,11 +1,13 @@
 //! The span of an expectation: its times, or so long from when an alert fires or is resolved. `expectation` calls it.
-ghost use Rattle.std.specs.Prelude.{◌≡◌, ◌≢◌, ◌≤◌, ◌<◌, ◌&&◌, ℕ, IfErr, IfOk, IsSomeAnd, IsTrue, MatchOption, None, OnOk, Some, codes, nat_le};
+ghost use Rattle.std.specs.Prelude.{◌≡◌, ◌≢◌, ◌≤◌, ◌<◌, ◌&&◌, ℕ, IfErr, IfOk, IsSomeAnd, IsTrue};
+ghost use Rattle.std.specs.Prelude.{MatchOption, None, OnOk, Some, codes, nat_le};
 ghost use Rattle.std.specs.Result.{result_ok};
 ghost use Rattle.serde_json.specs.Find.{get_member};
 ghost use Rattle.serde_json.specs.View.{members_view, view};
 ghost use Rattle.am_cli.specs.Decoding.{HasNone};
 ghost use Rattle.am_cli.specs.Read.{Excludes, duration_in, is_refusal};
-ghost use Rattle.am_plans.specs.Expected.{IsAt, IsEndOf, IsFromTo, IsOwnSpan, IsSpanFrom, IsSpanIn, IsSpanWithin, HasNoPatternAt, does_as_said};
+ghost use Rattle.am_plans.specs.Expected.{IsAt, IsEndOf, IsFromTo, IsOwnSpan, IsSpanFrom, IsSpanIn};
+ghost use Rattle.am_plans.specs.Expected.{IsSpanWithin, HasNoPatternAt, does_as_said};
 ghost use Rattle.am_plans.specs.Expected.{first_insert, inserts, member_or, resolves_in};
 
 use crate::alert::refuse;

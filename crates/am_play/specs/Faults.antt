@@ -1,6 +1,7 @@
 -- How a run ends without its report.
-use Rattle.std.specs.Prelude.{ℕ, List}
+use Rattle.std.specs.Prelude.{◌≡◌, ℕ, IsTrue, List}
 use Rattle.am_cli.specs.Read.{IsJson, IsNoJson}
+use Rattle.am_cli.specs.declared.fault.FaultKind.TheVariants.{Full}
 use Rattle.am_cli.specs.declared.fault.InputFault.{InputFault}
 use Rattle.am_cli.specs.declared.fault.InputFault.TheVariants as input
 use Rattle.am_cli.specs.declared.fault.ParseFault.{ParseFault}
@@ -9,6 +10,8 @@ use Rattle.am_cli.specs.declared.transfer.ReadFault.{ReadFault}
 use Rattle.am_cli.specs.declared.transfer.ReadFault.TheVariants as read
 use Rattle.am_play.specs.declared.fault.RunFault.{RunFault}
 use Rattle.am_play.specs.declared.fault.RunFault.TheVariants as run
+use Rattle.am_scenario.specs.Decoding.{IsScenarioIn, scenario_compares_texts}
+use Rattle.am_scenario.specs.declared.scenario.Scenario.{Scenario}
 
 -- a fault of the input's text is the run's of the same name
 abbrev pub fault_of_parse : ParseFault → RunFault
@@ -33,10 +36,12 @@ status_of (run.Refused place fault_kind) = 2
 status_of run.NoMemory = 3
 status_of run.Unwritable = 4
 
--- an input is refused as no JSON only where it is none, and at a place only where it is the text of a JSON value
+-- an input is refused as no JSON only where it is none, and at a place only where it is the text of a JSON value. Where it tells a
+-- scenario whose matchers look for no pattern, it is refused at a place only for want of room
 abbrev pub Refuses : List ℕ → RunFault → Type 0
 Refuses input run.NotJson = IsNoJson input
 Refuses input (run.Refused place fault_kind) = IsJson input
+    × ((scenario : Scenario) → IsScenarioIn input scenario → IsTrue (scenario_compares_texts scenario) → fault_kind ≡ Full)
 Refuses input run.Unreadable = ⊥
 Refuses input run.NoMemory = Unit {0}
 Refuses input run.Unwritable = ⊥

@@ -60,7 +60,8 @@ pub const BOARD_ID: u64 = 1;
 /// The report is that of the scenario which the whole input tells, member by member, played as
 /// `play_scenario` says it. It is made whole before its first byte is written: on every fault but
 /// `Unwritable` the sink wasn't asked. An input is refused as `NotJson` only where it is none, and as
-/// `Refused` only where it is the text of a JSON value; it was read whole before.
+/// `Refused` only where it is the text of a JSON value; it was read whole before. Where that tells a
+/// scenario, and no matcher looks for a pattern, it is refused at a place only as `Full`.
 pub fn run_scenario<R: AllocGlobal + Threads + Wait + Sync, S: Source, K: Sink>(
     rt: &R,
     source: &mut S,

@@ -1,15 +1,17 @@
 -- What the JSON value of a scenario tells, a line for each member.
-use Rattle.std.specs.Prelude.{◌≡◌, ℕ, List, [], Option, Some, None, false, codes}
+use Rattle.std.specs.Prelude.{◌≡◌, ◌≤◌, ◌&&◌, ℕ, Bool, true, false, List, [], Option, Some, None, codes}
+use Rattle.std.specs.List.{list_all}
 use Rattle.serde_json.specs.Data.{Data, no_items, item, string, Members}
-use Rattle.serde_json.specs.Find.{as_array, as_null, as_object, get_member}
+use Rattle.serde_json.specs.Find.{as_array, as_null, get_member}
 use Rattle.serde_json.specs.Read.{read}
-use Rattle.am_alerts.specs.AlertData.{AlertData, alert_of}
-use Rattle.am_alerts.specs.declared.labels.Label.{Label}
-use Rattle.am_cli.specs.Configured.{DecodesToConfig, DecodesToLabels, DecodesToMatcher}
-use Rattle.am_cli.specs.Decoding.{IsFlag, IsList, IsNumber, Has, HasNone, HasOr, answer_text}
+use Rattle.am_alerts.specs.AlertData.{AlertData, alert_fault}
+use Rattle.am_alerts.specs.Matcher.{compare_texts}
+use Rattle.am_alerts.specs.declared.limits.TheConstants.{MAX_DURATION}
+use Rattle.am_cli.specs.Configured.{DecodesToConfig, DecodesToLabels, DecodesToMatcher, config_compares_texts}
+use Rattle.am_cli.specs.Decoding.{IsFlag, IsList, IsNumber, IsObject, Has, HasNone, HasOr, answer_text}
 use Rattle.am_cli.specs.declared.reader.Dialect.{Dialect}
 use Rattle.am_cli.specs.declared.reader.Dialect.TheVariants.{Lenient}
-use Rattle.am_mute.specs.Silence.{SilenceData}
+use Rattle.am_mute.specs.Silence.{SilenceData, silence_fault}
 use Rattle.am_scenario.specs.declared.scenario.Lane.{Lane}
 use Rattle.am_scenario.specs.declared.scenario.Phase.{Phase}
 use Rattle.am_scenario.specs.declared.scenario.Scenario.{Scenario}
@@ -23,72 +25,98 @@ pub record DecodesToPlanned (value : Data) (planned : ScriptedAnswer) : Type 0 w
   pub takes : Data
   pub is : as_array value ≡ Some (item (string (answer_text planned.answer)) (item takes no_items))
   pub is_lasting : IsNumber takes planned.takes
+  pub within : planned.takes ≤ MAX_DURATION
 
-pub record DecodesToScript (value : Data) (script : Script) : Type 0 where
-  pub members : Members
-  pub object : as_object value ≡ Some members
+-- what the members of a script tell
+pub record HasScript (members : Members) (script : Script) : Type 0 where
   pub ticket : Has IsNumber (codes "ticket") members script.ticket
   pub integration : Has IsNumber (codes "integration") members script.integration
   pub answers : Has (IsList DecodesToPlanned) (codes "script") members script.answers.items
+
+abbrev pub DecodesToScript : Data → Script → Type 0
+DecodesToScript value script = IsObject HasScript value script
 
 -- a moment, or `null` for none
 abbrev pub IsEnd : Data → Option ℕ → Type 0
 IsEnd value None = as_null value ≡ Some tt
 IsEnd value (Some end) = IsNumber value end
 
-pub record DecodesToAlert (dialect : Dialect) (value : Data) (alert : AlertData) : Type 0 where
-  pub members : Members
-  pub object : as_object value ≡ Some members
-  pub labels : List Label
-  pub has_labels : Has (DecodesToLabels dialect) (codes "labels") members labels
-  pub starts : ℕ
-  pub has_starts : Has IsNumber (codes "starts") members starts
-  pub ends : Option ℕ
-  pub has_ends : HasOr IsEnd None (codes "ends") members ends
-  pub is : alert ≡ alert_of labels starts ends
+-- what the members of an alert tell
+pub record HasAlert (dialect : Dialect) (members : Members) (alert : AlertData) : Type 0 where
+  pub labels : Has (DecodesToLabels dialect) (codes "labels") members alert.labels
+  pub starts : Has IsNumber (codes "starts") members alert.starts
+  pub ends : HasOr IsEnd None (codes "ends") members alert.ends
+  pub sound : alert_fault alert ≡ None
 
-pub record DecodesToSilence (dialect : Dialect) (value : Data) (silence : SilenceData) : Type 0 where
-  pub members : Members
-  pub object : as_object value ≡ Some members
+abbrev pub DecodesToAlert : Dialect → Data → AlertData → Type 0
+DecodesToAlert dialect value alert = IsObject (HasAlert dialect) value alert
+
+-- what the members of a silence tell
+pub record HasSilence (dialect : Dialect) (members : Members) (silence : SilenceData) : Type 0 where
   pub id : Has IsNumber (codes "id") members silence.id
   pub matchers : Has (IsList (DecodesToMatcher dialect)) (codes "matchers") members silence.matchers
   pub start : Has IsNumber (codes "start") members silence.start
   pub end : Has IsNumber (codes "end") members silence.end
+  pub sound : silence_fault silence ≡ None
 
--- an object that tells one call
-abbrev pub IsCall : Dialect → Members → LaneCall → Type 0
-IsCall dialect members (Insert alert) = Has (DecodesToAlert dialect) (codes "insert") members alert
+abbrev pub DecodesToSilence : Dialect → Data → SilenceData → Type 0
+DecodesToSilence dialect value silence = IsObject (HasSilence dialect) value silence
+
+-- members that tell one call
+abbrev pub HasCall : Dialect → Members → LaneCall → Type 0
+HasCall dialect members (Insert alert) = Has (DecodesToAlert dialect) (codes "insert") members alert
     × HasNone (codes "silence") members × HasNone (codes "maintain") members
-IsCall dialect members (Silence silence) = Has (DecodesToSilence dialect) (codes "silence") members silence
+HasCall dialect members (Silence silence) = Has (DecodesToSilence dialect) (codes "silence") members silence
     × HasNone (codes "insert") members × HasNone (codes "maintain") members
-IsCall dialect members Maintain = HasNone (codes "insert") members × HasNone (codes "silence") members
+HasCall dialect members Maintain = HasNone (codes "insert") members × HasNone (codes "silence") members
     × (value : Data) × (get_member (codes "maintain") members ≡ Some value)
 
-pub record DecodesToCall (dialect : Dialect) (value : Data) (call : LaneCall) : Type 0 where
-  pub members : Members
-  pub object : as_object value ≡ Some members
-  pub is : IsCall dialect members call
+abbrev pub DecodesToCall : Dialect → Data → LaneCall → Type 0
+DecodesToCall dialect value call = IsObject (HasCall dialect) value call
 
 abbrev pub DecodesToLane : Dialect → Data → Lane → Type 0
 DecodesToLane dialect value lane = IsList (DecodesToCall dialect) value lane.calls.items
 
-pub record DecodesToPhase (dialect : Dialect) (value : Data) (phase : Phase) : Type 0 where
-  pub members : Members
-  pub object : as_object value ≡ Some members
+-- what the members of a phase tell
+pub record HasPhase (dialect : Dialect) (members : Members) (phase : Phase) : Type 0 where
   pub at : Has IsNumber (codes "at") members phase.at
   pub flush : HasOr IsFlag false (codes "flush") members phase.flush
   pub lanes : HasOr (IsList (DecodesToLane dialect)) [] (codes "lanes") members phase.lanes.items
 
-pub record DecodesToScenario (value : Data) (scenario : Scenario) : Type 0 where
-  pub members : Members
-  pub object : as_object value ≡ Some members
+abbrev pub DecodesToPhase : Dialect → Data → Phase → Type 0
+DecodesToPhase dialect value phase = IsObject (HasPhase dialect) value phase
+
+-- what the members of a scenario tell
+pub record HasScenario (members : Members) (scenario : Scenario) : Type 0 where
   pub config : Has (DecodesToConfig Lenient) (codes "config") members scenario.config
   pub workers : HasOr IsNumber 2 (codes "workers") members scenario.workers
   pub scripts : HasOr (IsList DecodesToScript) [] (codes "answers") members scenario.scripts.items
   pub phases : Has (IsList (DecodesToPhase Lenient)) (codes "phases") members scenario.phases.items
+
+abbrev pub DecodesToScenario : Data → Scenario → Type 0
+DecodesToScenario value scenario = IsObject HasScenario value scenario
 
 -- these bytes are the text of a JSON value that tells this scenario
 pub record IsScenarioIn (input : List ℕ) (scenario : Scenario) : Type 0 where
   pub value : Data
   pub text : read input ≡ Some value
   pub told : DecodesToScenario value scenario
+
+-- whether no matcher of a call looks for a pattern
+abbrev pub call_compares_texts : LaneCall → Bool
+call_compares_texts (Insert alert) = true
+call_compares_texts (Silence silence) = compare_texts silence.matchers
+call_compares_texts Maintain = true
+
+-- the same of the calls of a lane
+abbrev pub lane_compares_texts : Lane → Bool
+lane_compares_texts lane = list_all call_compares_texts lane.calls.items
+
+-- the same of the lanes of a phase
+abbrev pub phase_compares_texts : Phase → Bool
+phase_compares_texts phase = list_all lane_compares_texts phase.lanes.items
+
+-- the same of a scenario: of its configuration and its phases
+abbrev pub scenario_compares_texts : Scenario → Bool
+scenario_compares_texts scenario =
+    config_compares_texts scenario.config && list_all phase_compares_texts scenario.phases.items

@@ -1,8 +1,10 @@
 //! The calls of a lane, and how they are read. `read` calls it.
-ghost use Rattle.std.specs.Prelude.{◌≡◌, None, IfOk, IsSomeAnd, MatchOption, codes};
-ghost use Rattle.serde_json.specs.Find.{get_member};
+ghost use Rattle.std.specs.Prelude.{None, IfErr, IfOk, IfSome, IsTrue, Option, codes};
 ghost use Rattle.serde_json.specs.View.{members_view, view};
-ghost use Rattle.am_cli.specs.Decoding.{HasOr};
+ghost use Rattle.am_alerts.specs.Matcher.{compare_texts};
+ghost use Rattle.am_cli.specs.Decoding.{HasIf, HasOr};
+ghost use Rattle.am_cli.specs.Read.{Excludes};
+ghost use Rattle.am_mute.specs.Silence.{SilenceData};
 ghost use Rattle.am_scenario.specs.Decoding.{IsEnd, DecodesToAlert, DecodesToSilence};
 
 use am_alerts::alert::Alert;
@@ -21,9 +23,11 @@ pub enum LaneCall {
 }
 
 impl<'v> FromJson<'v> for LaneCall {
-    ghost use Rattle.am_scenario.specs.Decoding.{DecodesToCall};
+    ghost use Rattle.am_scenario.specs.Decoding.{DecodesToCall, call_compares_texts};
 
     ghost decodes_to = { λ dialect value call. DecodesToCall dialect value call };
+
+    ghost never_refused = { λ call. call_compares_texts call };
 
     fn read(reader: &Reader<'v, '_>) -> Result<LaneCall, InputFault> {
         let call = reader.object()?;
@@ -42,8 +46,9 @@ impl<'v> FromJson<'v> for LaneCall {
 
 /// The alert of an insert, if the call has one.
 fn read_insert(call: &Object<'_, '_>) -> Result<Option<Alert>, InputFault>
-    ensures { IfOk result (λ insert. MatchOption (get_member (codes "insert") (members_view call.now.members))
-        (insert ≡ None) (λ value. IsSomeAnd insert (DecodesToAlert call.now.dialect value))) }
+    ensures told { IfOk result (HasIf (DecodesToAlert call.now.dialect) (codes "insert") (members_view call.now.members)) }
+    ensures refused { IfErr result (Excludes (HasIf (DecodesToAlert call.now.dialect) (codes "insert")
+        (members_view call.now.members))) }
 {
     match call.optional("insert") {
         None => Ok(None),
@@ -52,7 +57,8 @@ fn read_insert(call: &Object<'_, '_>) -> Result<Option<Alert>, InputFault>
 }
 
 fn read_alert(reader: &Reader<'_, '_>) -> Result<Alert, InputFault>
-    ensures { IfOk result (DecodesToAlert reader.now.dialect (view reader.now.value)) }
+    ensures told { IfOk result (DecodesToAlert reader.now.dialect (view reader.now.value)) }
+    ensures refused { IfErr result (Excludes (DecodesToAlert reader.now.dialect (view reader.now.value))) }
 {
     let insert = reader.object()?;
     let labels = read_labels(&insert.required("labels")?)?;
@@ -66,7 +72,8 @@ fn read_alert(reader: &Reader<'_, '_>) -> Result<Alert, InputFault>
 
 /// When an alert ends, if it tells that.
 fn read_ends(insert: &Object<'_, '_>) -> Result<Option<u64>, InputFault>
-    ensures { IfOk result (HasOr IsEnd None (codes "ends") (members_view insert.now.members)) }
+    ensures told { IfOk result (HasOr IsEnd None (codes "ends") (members_view insert.now.members)) }
+    ensures refused { IfErr result (Excludes (HasOr IsEnd None (codes "ends") (members_view insert.now.members))) }
 {
     match insert.optional("ends") {
         None => Ok(None),
@@ -76,7 +83,8 @@ fn read_ends(insert: &Object<'_, '_>) -> Result<Option<u64>, InputFault>
 
 /// A moment, or `null` for none.
 fn read_end(member: &Reader<'_, '_>) -> Result<Option<u64>, InputFault>
-    ensures { IfOk result (IsEnd (view member.now.value)) }
+    ensures told { IfOk result (IsEnd (view member.now.value)) }
+    ensures refused { IfErr result (Excludes (IsEnd (view member.now.value))) }
 {
     if member.is_null() {
         return Ok(None);
@@ -86,8 +94,10 @@ fn read_end(member: &Reader<'_, '_>) -> Result<Option<u64>, InputFault>
 
 /// The silence that is set, if the call has one.
 fn read_silence(call: &Object<'_, '_>) -> Result<Option<Silence>, InputFault>
-    ensures { IfOk result (λ silence. MatchOption (get_member (codes "silence") (members_view call.now.members))
-        (silence ≡ None) (λ value. IsSomeAnd silence (DecodesToSilence call.now.dialect value))) }
+    ensures told { IfOk result (HasIf (DecodesToSilence call.now.dialect) (codes "silence") (members_view call.now.members)) }
+    ensures refused { IfErr result (Excludes (λ (silence : Option SilenceData).
+        HasIf (DecodesToSilence call.now.dialect) (codes "silence") (members_view call.now.members) silence
+        × IfSome silence (λ s. IsTrue (compare_texts s.matchers)))) }
 {
     match call.optional("silence") {
         None => Ok(None),
@@ -96,7 +106,9 @@ fn read_silence(call: &Object<'_, '_>) -> Result<Option<Silence>, InputFault>
 }
 
 fn read_set(reader: &Reader<'_, '_>) -> Result<Silence, InputFault>
-    ensures { IfOk result (DecodesToSilence reader.now.dialect (view reader.now.value)) }
+    ensures told { IfOk result (DecodesToSilence reader.now.dialect (view reader.now.value)) }
+    ensures refused { IfErr result (Excludes (λ silence.
+        DecodesToSilence reader.now.dialect (view reader.now.value) silence × IsTrue (compare_texts silence.matchers))) }
 {
     let silence = reader.object()?;
     let id = silence.required("id")?.number()?;

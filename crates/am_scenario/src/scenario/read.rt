@@ -4,10 +4,11 @@
 //! items of an array that is too long come before its length. A call with two kinds is rejected
 //! after both were read. Any value of `maintain` is a maintenance. Other fields of a call are
 //! ignored.
-ghost use Rattle.std.specs.Prelude.{◌≤◌, IfOk, codes};
+ghost use Rattle.std.specs.Prelude.{◌≤◌, ℕ, IfErr, IfOk, IsTrue, codes};
 ghost use Rattle.am_cli.specs.Decoding.{IsNumber, HasOr};
+ghost use Rattle.am_cli.specs.Read.{Excludes};
 ghost use Rattle.am_pool.specs.declared.limits.TheConstants.{MAX_WORKERS};
-ghost use Rattle.am_scenario.specs.Decoding.{DecodesToScenario};
+ghost use Rattle.am_scenario.specs.Decoding.{DecodesToScenario, scenario_compares_texts};
 ghost use Rattle.serde_json.specs.View.{members_view, view};
 
 use super::{Lane, LaneCall, MAX_LANES, Phase, Scenario, Script};
@@ -22,9 +23,12 @@ use std::alloc::Global;
 /// How many workers there are, where the scenario doesn't say.
 const USUAL_WORKERS: usize = 2;
 
-/// Reads a whole scenario. The first fault in the order of reading is answered.
+/// Reads a whole scenario. The first fault in the order of reading is answered. A matcher's pattern
+/// may be too large; else what the value tells is refused only for want of memory.
 pub fn read_scenario(alloc: Global, value: &Value) -> Result<Scenario, InputFault>
-    ensures { IfOk result (DecodesToScenario (view value.now)) }
+    ensures told { IfOk result (DecodesToScenario (view value.now)) }
+    ensures refused { IfErr result (Excludes (λ scenario.
+        DecodesToScenario (view value.now) scenario × IsTrue (scenario_compares_texts scenario))) }
 {
     let reader = Reader::top(alloc, value);
     let top = reader.object()?;
@@ -44,6 +48,8 @@ pub fn read_scenario(alloc: Global, value: &Value) -> Result<Scenario, InputFaul
 fn read_workers(top: &Object<'_, '_>) -> Result<usize, InputFault>
     ensures bounds { IfOk result (λ workers. (1 ≤ workers) × (workers ≤ MAX_WORKERS)) }
     ensures told { IfOk result (HasOr IsNumber 2 (codes "workers") (members_view top.now.members)) }
+    ensures refused { IfErr result (Excludes (λ (workers : ℕ). HasOr IsNumber 2 (codes "workers") (members_view top.now.members) workers
+        × (1 ≤ workers) × (workers ≤ MAX_WORKERS))) }
 {
     match top.optional("workers") {
         None => Ok(USUAL_WORKERS),
@@ -58,9 +64,11 @@ fn read_workers(top: &Object<'_, '_>) -> Result<usize, InputFault>
 }
 
 impl<'v> FromJson<'v> for Phase {
-    ghost use Rattle.am_scenario.specs.Decoding.{DecodesToPhase};
+    ghost use Rattle.am_scenario.specs.Decoding.{DecodesToPhase, phase_compares_texts};
 
     ghost decodes_to = { λ dialect value phase. DecodesToPhase dialect value phase };
+
+    ghost never_refused = { λ phase. phase_compares_texts phase };
 
     fn read(reader: &Reader<'v, '_>) -> Result<Phase, InputFault> {
         let phase = reader.object()?;
@@ -72,9 +80,11 @@ impl<'v> FromJson<'v> for Phase {
 }
 
 impl<'v> FromJson<'v> for Lane {
-    ghost use Rattle.am_scenario.specs.Decoding.{DecodesToLane};
+    ghost use Rattle.am_scenario.specs.Decoding.{DecodesToLane, lane_compares_texts};
 
     ghost decodes_to = { λ dialect value lane. DecodesToLane dialect value lane };
+
+    ghost never_refused = { λ lane. lane_compares_texts lane };
 
     fn read(reader: &Reader<'v, '_>) -> Result<Lane, InputFault> {
         let calls = reader.list::<LaneCall>()?;

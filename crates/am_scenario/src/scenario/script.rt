@@ -64,9 +64,12 @@ impl ScriptedAnswer {
 }
 
 impl<'v> FromJson<'v> for Script {
+    ghost use Rattle.std.specs.Prelude.{true};
     ghost use Rattle.am_scenario.specs.Decoding.{DecodesToScript};
 
     ghost decodes_to = { λ dialect value script. DecodesToScript value script };
+
+    ghost never_refused = { λ _. true };
 
     fn read(reader: &Reader<'v, '_>) -> Result<Script, InputFault> {
         let script = reader.object()?;
@@ -79,9 +82,12 @@ impl<'v> FromJson<'v> for Script {
 }
 
 impl<'v> FromJson<'v> for ScriptedAnswer {
+    ghost use Rattle.std.specs.Prelude.{true};
     ghost use Rattle.am_scenario.specs.Decoding.{DecodesToPlanned};
 
     ghost decodes_to = { λ dialect value planned. DecodesToPlanned value planned };
+
+    ghost never_refused = { λ _. true };
 
     fn read(reader: &Reader<'v, '_>) -> Result<ScriptedAnswer, InputFault> {
         let (word, takes) = reader.pair()?;

@@ -1,34 +1,54 @@
-use Rattle.std.proofs.Common.{◌≡◌, Option, List, ℕ, codes, subst, sym}
-use Rattle.serde_json.specs.Find.{get_member}
+use Rattle.std.proofs.Common.{◌≡◌, ◌∙◌, Option, List, Some, ℕ, codes, subst, sym}
+use Rattle.serde_json.specs.Data.{Data}
+use Rattle.serde_json.specs.Find.{as_object, get_member}
 use Rattle.serde_json.specs.View.{members_view, view}
-use Rattle.am_alerts.specs.AlertData.{alert_fault, alert_of}
+use Rattle.am_alerts.specs.AlertData.{AlertData, alert_fault, alert_of}
 use Rattle.am_alerts.specs.declared.labels.Label.{Label}
+use Rattle.am_cli.proofs.Decoding.{as_told, as_told_in, decoded_by, in_object}
+use Rattle.am_cli.proofs.Made.{made_is, made_well, unmade}
 use Rattle.am_cli.specs.Configured.{DecodesToLabels}
-use Rattle.am_cli.specs.Decoding.{IsNumber, Has}
+use Rattle.am_cli.specs.Decoding.{IsNumber}
+use Rattle.am_cli.specs.Read.{ObjectData}
 use Rattle.am_cli.specs.declared.reader.Dialect.{Dialect}
-use Rattle.am_cli.proofs.Made.{made_is}
-use Rattle.am_cli.proofs.Decoding.{decoded_by}
+use Rattle.am_scenario.proofs.Calls.{same_fault}
+use Rattle.am_scenario.specs.Decoding.{DecodesToAlert, HasAlert}
 use Rattle.am_scenario.proofs.scenario.call.read_alert.Goals as goal
 
-pub returns-in-Ok : goal.returns-in-Ok
-returns-in-Ok c =
-    let members = members_view c.in_ok-insert.insert.members in
+inside : (dialect : Dialect) (value : Data) (o : ObjectData) (alert : AlertData) → Some (members_view o.members) ≡ as_object value → o.dialect ≡ dialect
+    → DecodesToAlert dialect value alert → HasAlert o.dialect (members_view o.members) alert
+inside dialect value o alert is same told = in_object HasAlert dialect o.dialect (members_view o.members) value alert is same told
+
+pub returns-in-Ok-clause-told : goal.returns-in-Ok-clause-told
+returns-in-Ok-clause-told c =
+    let o = c.in_ok-insert.insert in
+    let members = members_view o.members in
     let labels : List Label = c.in_ok-labels.labels in
     let starts : ℕ = c.in_ok-starts.starts in
     let ends : Option ℕ = c.in_ok-ends.ends in
-    let given : Has (DecodesToLabels c.in_ok-required.field-0.dialect) (codes "labels") members labels =
-    decoded_by (DecodesToLabels c.in_ok-required.field-0.dialect) (get_member (codes "labels") members) (view c.in_ok-required.field-0.value) labels
-    c.in_ok-required.ensures.value c.in_ok-labels.ensures.told in
-    record {
-      members = members;
-      object = sym c.in_ok-insert.ensures.members;
-      labels = labels;
-      has_labels = subst (λ (m : Dialect). Has (DecodesToLabels m) (codes "labels") members labels) c.in_ok-insert.ensures.dialect
-          (subst (λ (m : Dialect). Has (DecodesToLabels m) (codes "labels") members labels) c.in_ok-required.ensures.dialect given);
-      starts = starts;
-      has_starts = decoded_by IsNumber (get_member (codes "starts") members) (view c.in_ok-required-2.field-0.value) starts
+    let alert : AlertData = alert_of labels starts ends in
+    let made : c.in-Ok.alert ≡ alert = made_is (alert_fault alert) alert c.in-Ok.alert c.in-Ok.ensures in
+    let has : HasAlert o.dialect members alert = record {
+      labels = as_told_in DecodesToLabels o.dialect c.in_ok-required.field-0.dialect (view c.in_ok-required.field-0.value) (get_member (codes "labels") members)
+          labels c.in_ok-required.ensures.value c.in_ok-required.ensures.dialect c.in_ok-labels.ensures.told;
+      starts = decoded_by IsNumber (get_member (codes "starts") members) (view c.in_ok-required-2.field-0.value) starts
           c.in_ok-required-2.ensures.value (sym c.in_ok-starts.ensures.number);
-      ends = ends;
-      has_ends = c.in_ok-ends.ensures;
-      is = made_is (alert_fault (alert_of labels starts ends)) (alert_of labels starts ends) c.in-Ok.alert c.in-Ok.ensures;
-    }
+      ends = c.in_ok-ends.ensures.told;
+      sound = made_well (alert_fault alert) alert c.in-Ok.alert c.in-Ok.ensures;
+    } in
+    subst (λ (a : AlertData). DecodesToAlert c.args.reader.now.dialect (view c.args.reader.now.value) a) (sym made)
+    (as_told HasAlert c.args.reader.now.dialect o.dialect members (view c.args.reader.now.value) alert c.in_ok-insert.ensures.members
+    c.in_ok-insert.ensures.dialect has)
+
+-- labels and moments that are no alert
+pub returns-in-Err-clause-refused : goal.returns-in-Err-clause-refused
+returns-in-Err-clause-refused c refusal x told =
+    let o = c.in_ok-insert.insert in
+    let members = members_view o.members in
+    let alert : AlertData = alert_of c.in_ok-labels.labels c.in_ok-starts.starts c.in_ok-ends.ends in
+    let is = inside c.args.reader.now.dialect (view c.args.reader.now.value) o x c.in_ok-insert.ensures.members c.in_ok-insert.ensures.dialect told in
+    let same : alert_fault alert ≡ alert_fault x = same_fault o.dialect members alert x
+    (as_told_in DecodesToLabels o.dialect c.in_ok-required.field-0.dialect (view c.in_ok-required.field-0.value) (get_member (codes "labels") members)
+    alert.labels c.in_ok-required.ensures.value c.in_ok-required.ensures.dialect c.in_ok-labels.ensures.told) is.labels
+    (decoded_by IsNumber (get_member (codes "starts") members) (view c.in_ok-required-2.field-0.value) alert.starts
+    c.in_ok-required-2.ensures.value (sym c.in_ok-starts.ensures.number)) is.starts c.in_ok-ends.ensures.told is.ends in
+    unmade (alert_fault alert) alert _ c.in-Err.ensures (same ∙ is.sound)

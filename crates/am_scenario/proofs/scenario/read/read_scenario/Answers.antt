@@ -1,33 +1,79 @@
-use Rattle.std.proofs.Common.{◌≡◌, ◌∙◌, List, codes, ap, subst, sym}
-use Rattle.serde_json.specs.Data.{Members}
+use Rattle.std.proofs.Common.{◌≡◌, ◌∙◌, Some, codes, ap, refl}
+use Rattle.std.specs.List.{list_all}
+use Rattle.std.specs.Prelude.{IsTrue}
+use Rattle.serde_json.specs.Data.{Data, Members}
 use Rattle.serde_json.specs.Find.{as_object, get_member}
 use Rattle.serde_json.specs.View.{members_view, view}
 use Rattle.serde_json.specs.declared.value.Value.{Value}
-use Rattle.am_cli.specs.Configured.{DecodesToConfig}
-use Rattle.am_cli.specs.Decoding.{IsList, Has}
+use Rattle.am_cli.proofs.Decoding.{all_sure, as_listed, as_told, as_told_in, found, handed_on, listed_in, told_in}
+use Rattle.am_cli.proofs.Members.{first, second}
+use Rattle.am_cli.specs.Configured.{DecodesToConfig, config_compares_texts}
 use Rattle.am_cli.specs.declared.reader.Dialect.{Dialect}
 use Rattle.am_cli.specs.declared.reader.Dialect.TheVariants.{Lenient}
-use Rattle.am_cli.proofs.Decoding.{decoded_by}
-use Rattle.am_scenario.specs.Decoding.{DecodesToPhase}
-use Rattle.am_scenario.specs.declared.scenario.Phase.{Phase}
+use Rattle.am_scenario.specs.Decoding.{DecodesToPhase, DecodesToScenario, HasScenario, phase_compares_texts, scenario_compares_texts}
+use Rattle.am_scenario.specs.declared.scenario.Scenario.{Scenario}
 use Rattle.am_scenario.proofs.scenario.read.read_scenario.Goals as goal
 
-pub returns : goal.returns
-returns c =
+-- what is never refused
+abbrev Tells : Data → Scenario → Type 0
+Tells value scenario = DecodesToScenario value scenario × IsTrue (scenario_compares_texts scenario)
+
+inside : (value : Data) (members : Members) (scenario : Scenario) → Some members ≡ as_object value → Tells value scenario → HasScenario members scenario
+inside value members scenario is told = found ⊥ (λ ms. HasScenario ms scenario) members (as_object value) is told.0
+
+pub returns-clause-told : goal.returns-clause-told
+returns-clause-told c =
+    let value = view c.args.value.now in
     let members : Members = members_view c.in_ok-top.top.members in
-    let phases : List Phase = c.in_ok-phases.phases.items in
-    let top : c.in_ok-top.top.dialect ≡ Lenient = c.in_ok-top.ensures.dialect ∙ c.top-reader.ensures.dialect in
-    let first : c.in_ok-required.field-0.dialect ≡ Lenient = c.in_ok-required.ensures.dialect ∙ top in
-    let second : c.in_ok-required-2.field-0.dialect ≡ Lenient = c.in_ok-required-2.ensures.dialect ∙ top in
-    record {
-      members = members;
-      object = ap (λ (v : Value). as_object (view v)) (sym c.top-reader.ensures.value) ∙ sym c.in_ok-top.ensures.members;
-      config = subst (λ (m : Dialect). Has (DecodesToConfig m) (codes "config") members c.in_ok-config.config) first
-          (decoded_by (DecodesToConfig c.in_ok-required.field-0.dialect) (get_member (codes "config") members) (view c.in_ok-required.field-0.value) c.in_ok-config.config
-          c.in_ok-required.ensures.value c.in_ok-config.ensures.told);
+    let is : Some members ≡ as_object value = c.in_ok-top.ensures.members ∙ ap (λ (v : Value). as_object (view v)) c.top-reader.ensures.value in
+    let lenient : c.in_ok-top.top.dialect ≡ Lenient = c.in_ok-top.ensures.dialect ∙ c.top-reader.ensures.dialect in
+    as_told (λ (d : Dialect). HasScenario) Lenient Lenient members value _ is refl (record {
+      config = as_told_in DecodesToConfig Lenient c.in_ok-required.field-0.dialect (view c.in_ok-required.field-0.value) (get_member (codes "config") members)
+          c.in_ok-config.config c.in_ok-required.ensures.value (c.in_ok-required.ensures.dialect ∙ lenient) c.in_ok-config.ensures.told;
       workers = c.in_ok-workers.ensures.told;
       scripts = c.in_ok-scripts.ensures.told;
-      phases = subst (λ (m : Dialect). Has (IsList (DecodesToPhase m)) (codes "phases") members phases) second
-          (decoded_by (IsList (DecodesToPhase c.in_ok-required-2.field-0.dialect)) (get_member (codes "phases") members) (view c.in_ok-required-2.field-0.value) phases
-          c.in_ok-required-2.ensures.value c.in_ok-phases.ensures.told);
-    }
+      phases = as_listed DecodesToPhase Lenient c.in_ok-required-2.field-0.dialect (view c.in_ok-required-2.field-0.value) (get_member (codes "phases") members)
+          c.in_ok-phases.phases.items c.in_ok-required-2.ensures.value (c.in_ok-required-2.ensures.dialect ∙ lenient) c.in_ok-phases.ensures.told;
+    })
+
+pub returns-in_err-config-clause-refused : goal.returns-in_err-config-clause-refused
+returns-in_err-config-clause-refused c =
+    let value = view c.args.value.now in
+    let members = members_view c.in_ok-top.top.members in
+    let is : Some members ≡ as_object value = c.in_ok-top.ensures.members ∙ ap (λ (v : Value). as_object (view v)) c.top-reader.ensures.value in
+    let lenient : c.in_ok-top.top.dialect ≡ Lenient = c.in_ok-top.ensures.dialect ∙ c.top-reader.ensures.dialect in
+    handed_on (Tells value) c.from_residual-in_err-config.result c.in_err-config.field-0.0 c.from_residual-in_err-config.ensures.1
+    (λ refusal x told. c.in_err-config.ensures.refused refusal x.config (
+      told_in DecodesToConfig Lenient c.in_ok-required.field-0.dialect (view c.in_ok-required.field-0.value) (get_member (codes "config") members) x.config
+          c.in_ok-required.ensures.value (c.in_ok-required.ensures.dialect ∙ lenient) (inside value members x is told).config,
+      first (config_compares_texts x.config) (list_all phase_compares_texts x.phases.items) told.1,
+    ))
+
+pub returns-in_err-workers-clause-refused : goal.returns-in_err-workers-clause-refused
+returns-in_err-workers-clause-refused c =
+    let value = view c.args.value.now in
+    let members = members_view c.in_ok-top.top.members in
+    let is : Some members ≡ as_object value = c.in_ok-top.ensures.members ∙ ap (λ (v : Value). as_object (view v)) c.top-reader.ensures.value in
+    handed_on (Tells value) c.from_residual-in_err-workers.result c.in_err-workers.field-0.0 c.from_residual-in_err-workers.ensures.1
+    (λ refusal x told. c.in_err-workers.ensures.refused refusal x.workers ((inside value members x is told).workers, x.some_workers, x.few_workers))
+
+pub returns-in_err-scripts-clause-refused : goal.returns-in_err-scripts-clause-refused
+returns-in_err-scripts-clause-refused c =
+    let value = view c.args.value.now in
+    let members = members_view c.in_ok-top.top.members in
+    let is : Some members ≡ as_object value = c.in_ok-top.ensures.members ∙ ap (λ (v : Value). as_object (view v)) c.top-reader.ensures.value in
+    handed_on (Tells value) c.from_residual-in_err-scripts.result c.in_err-scripts.field-0.0 c.from_residual-in_err-scripts.ensures.1
+    (λ refusal x told. c.in_err-scripts.ensures.refused refusal x.scripts.items ((inside value members x is told).scripts, all_sure x.scripts.items))
+
+pub returns-in_err-phases-clause-refused : goal.returns-in_err-phases-clause-refused
+returns-in_err-phases-clause-refused c =
+    let value = view c.args.value.now in
+    let members = members_view c.in_ok-top.top.members in
+    let is : Some members ≡ as_object value = c.in_ok-top.ensures.members ∙ ap (λ (v : Value). as_object (view v)) c.top-reader.ensures.value in
+    let lenient : c.in_ok-top.top.dialect ≡ Lenient = c.in_ok-top.ensures.dialect ∙ c.top-reader.ensures.dialect in
+    handed_on (Tells value) c.from_residual-in_err-phases.result c.in_err-phases.field-0.0 c.from_residual-in_err-phases.ensures.1
+    (λ refusal x told. c.in_err-phases.ensures.refused refusal x.phases.items (
+      listed_in DecodesToPhase Lenient c.in_ok-required-2.field-0.dialect (view c.in_ok-required-2.field-0.value) (get_member (codes "phases") members) x.phases.items
+          c.in_ok-required-2.ensures.value (c.in_ok-required-2.ensures.dialect ∙ lenient) (inside value members x is told).phases,
+      second (config_compares_texts x.config) (list_all phase_compares_texts x.phases.items) told.1,
+    ))

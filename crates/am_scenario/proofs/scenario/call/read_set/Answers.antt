@@ -52,9 +52,11 @@ returns-in_err-matchers-clause-refused c =
     let value = view c.args.reader.now.value in
     let o = c.in_ok-silence.silence in
     handed_on (Tells d value) c.from_residual-in_err-matchers.result c.in_err-matchers.field-0.0 c.from_residual-in_err-matchers.ensures.1
-    (λ refusal x told. c.in_err-matchers.ensures.refused refusal x.matchers
-    (listed_in DecodesToMatcher o.dialect c.in_ok-required-2.field-0.dialect (view c.in_ok-required-2.field-0.value) (get_member (codes "matchers") (members_view o.members)) x.matchers
-    c.in_ok-required-2.ensures.value c.in_ok-required-2.ensures.dialect (inside d value o x c.in_ok-silence.ensures.members c.in_ok-silence.ensures.dialect told).matchers, told.1))
+    (λ refusal x told. c.in_err-matchers.ensures.refused refusal x.matchers (
+      listed_in DecodesToMatcher o.dialect c.in_ok-required-2.field-0.dialect (view c.in_ok-required-2.field-0.value) (get_member (codes "matchers") (members_view o.members)) x.matchers
+          c.in_ok-required-2.ensures.value c.in_ok-required-2.ensures.dialect (inside d value o x c.in_ok-silence.ensures.members c.in_ok-silence.ensures.dialect told).matchers,
+      told.1,
+    ))
 
 -- matchers and moments that are no silence
 pub returns-in-Err-clause-refused : goal.returns-in-Err-clause-refused

@@ -1,6 +1,6 @@
 -- a list whose elements are written one after the other
 pub mod Written
--- what an input tells that is refused
+-- faults that refuse an input
 pub mod Refusals
 -- lemmas by subject
 pub mod lemmas

@@ -1,22 +1,37 @@
 -- What calls of the board leave, and what their answers tell.
-use Rattle.std.proofs.Common.{◌≡◌, ◌≢◌, ◌∙◌, ◌++◌, List, [], Result, Ok, Err, ap, codes, drop, length, sym}
+use Rattle.std.proofs.Common.{◌≡◌, ◌≢◌, ◌∙◌, ◌<◌, ◌==◌, ◌++◌, ℕ, List, [], Option, Some, Result, Ok, Err, ap, codes, drop, length, remove, slice_index_or, slice_set, subst, sym}
 use Rattle.std.proofs.Math.Seq.{drop-append_seam}
+use Rattle.std.specs.List.{position}
 use Rattle.std.specs.Result.{OnOk, IfErr}
+use Rattle.std.proofs.lemmas.Option.{slice_get_read}
 use Rattle.std.proofs.lemmas.Result.{on_ok_weaker}
 use Rattle.json.specs.Token.{Token}
 use Rattle.am_model.specs.declared.config.Config.{Config}
 use Rattle.am_model.specs.declared.record.Call.{Call}
+use Rattle.am_model.specs.declared.record.Call.TheVariants as call
 use Rattle.am_model.specs.declared.record.Record.{Record}
 use Rattle.am_model.specs.declared.record.Reply.{Reply}
-use Rattle.am_model.specs.Records.{entry}
-use Rattle.am_board.specs.History.{BoardData, IsReplyAt, kept_of, with_record}
+use Rattle.am_model.specs.declared.views.RowView.{RowView}
+use Rattle.am_model.specs.declared.record.Reply.TheVariants as reply
+use Rattle.am_model.specs.Records.{IsNoteOf, entry}
+use Rattle.am_model.specs.Replay.{IsLegal}
+use Rattle.am_model.specs.Ticket.{TicketData, recorded}
+use Rattle.am_board.specs.declared.begin.Begun.{Begun}
+use Rattle.am_board.specs.History.{BoardData, IsFresh, IsReplyAt, handed_out, kept_of, reply_of, with_record}
 use Rattle.am_lines.specs.declared.fault.LineFault.{LineFault}
-use Rattle.am_lines.specs.declared.fault.LineFault.TheVariants.{Untold}
-use Rattle.am_lines.specs.Reply.{reply_tokens}
+use Rattle.am_lines.specs.declared.fault.LineFault.TheVariants.{Spent, Untold}
+use Rattle.am_lines.specs.declared.request.Finishing.{Finishing}
+use Rattle.am_lines.specs.declared.request.Loading.{Loading}
+use Rattle.am_lines.specs.declared.request.Noting.{Noting}
+use Rattle.am_lines.specs.declared.request.Reporting.{Reporting}
+use Rattle.am_lines.specs.Reply.{named, reply_tokens}
 use Rattle.am_lines.specs.Record.{record_tokens}
 use Rattle.am_lines.specs.View.{listed}
-use Rattle.am_dispatch.specs.Session.{Makes, taken_tokens}
+use Rattle.am_dispatch.specs.Row.{IsRowOf}
+use Rattle.am_dispatch.specs.Session.{Begins, Finishes, KeepsTicket, Loads, Makes, Notes, Reports, taken_tokens}
+use Rattle.am_dispatch.specs.Ticket.{IsFirst, report_on}
 use Rattle.am_dispatch.specs.declared.session.Session.{Session}
+use Rattle.am_dispatch.specs.declared.ticket.TheConstants.{HOME}
 
 -- a call that was made, and told by the reply under the configuration that the board has afterwards
 pub made : {T E : Type 0} (r : Result T E) (old new : Session) (call : Call) (reply : Reply) (before after : List Token)
@@ -37,31 +52,124 @@ pub both : {T E : Type 0} (A B : Type 0) (r : Result T E) → OnOk r A → B →
 both A B r told b = on_ok_weaker {Q = A × B} r (λ (a : A). (a, b)) told
 
 -- where only the answer can't be told, the call was made
-pub untold_leaves : {T : Type 0} (r : Result T LineFault) (old new : BoardData)
-    → IfErr r (λ f. f ≡ Untold) → IfErr r (λ f. f ≢ Untold → new ≡ old)
-untold_leaves (Ok x) old new is = tt
-untold_leaves (Err f) old new is = λ differs. absurd (differs is)
+pub untold_leaves : {T : Type 0} (r : Result T LineFault) (old new : BoardData) (olds news : List TicketData)
+    → IfErr r (λ f. f ≡ Untold) → IfErr r (λ f. f ≢ Untold → f ≢ Spent → (new ≡ old) × (news ≡ olds))
+untold_leaves (Ok x) old new olds news is = tt
+untold_leaves (Err f) old new olds news is = λ differs _. absurd (differs is)
 
--- a board that is as it was
-pub keeps_board : {T : Type 0} (r : Result T LineFault) (old new : BoardData) → new ≡ old → IfErr r (λ f. f ≢ Untold → new ≡ old)
-keeps_board (Ok x) old new is = tt
-keeps_board (Err f) old new is = λ differs. is
+-- a begin that was made, and told by the reply under the configuration that the board has afterwards
+pub begins : {T E : Type 0} (r : Result T E) (old new : Session) (now : ℕ) (b : Begun) (before after : List Token) (mid : BoardData) (mids : List TicketData)
+    → IsReplyAt old.board (call.Begin now) (reply_of b) → mid ≡ with_record old.board (entry 0 (call.Begin now) (reply_of b))
+    → IsFresh HOME b → mids ≡ old.tickets.items → new.board ≡ mid → KeepsTicket b mids new.tickets.items
+    → OnOk r (after ≡ before ++ reply_tokens mid.config (reply_of b)) → OnOk r (Begins old new now before after)
+begins r old new now b before after mid mids due recorded fresh same board tickets =
+    on_ok_weaker {Q = Begins old new now before after} r (λ (told : after ≡ before ++ reply_tokens mid.config (reply_of b)). (
+      b,
+      record {
+        makes = record {
+          due = due;
+          recorded = board ∙ recorded;
+          told = told ∙ ap (λ (d : BoardData). before ++ reply_tokens d.config (reply_of b)) recorded;
+        };
+        fresh = fresh;
+        tickets = subst (λ (ts : List TicketData). KeepsTicket b ts new.tickets.items) same tickets;
+      },
+    ))
 
--- of a session that is as it was, the board is
-pub unless_untold : {T : Type 0} (r : Result T LineFault) (old new : BoardData) (rest : Type 0)
-    → IfErr r (λ f. f ≢ Untold → (new ≡ old) × rest) → IfErr r (λ f. f ≢ Untold → new ≡ old)
-unless_untold (Ok x) old new rest is = tt
-unless_untold (Err f) old new rest is = λ differs. (is differs).0
+-- a ticket of the program's board is fresh there
+pub fresh_here : (id : ℕ) (b : Begun) → id ≡ HOME → IsFresh id b → IsFresh HOME b
+fresh_here id b is fresh = subst (λ (n : ℕ). IsFresh n b) is fresh
+
+-- the ticket at the place that was found
+pub first_ticket : (number : ℕ) (tickets seen : List TicketData) (found : Option ℕ) (place : ℕ) (ticket : TicketData)
+    → seen ≡ tickets → found ≡ position (λ t. t.number == number) seen → found ≡ Some place → place < length seen
+    → ticket ≡ slice_index_or tickets place ticket → IsFirst number tickets place ticket
+first_ticket number tickets seen found place ticket same is_found is within held =
+    record {
+      first = ap (λ (ts : List TicketData). position (λ t. t.number == number) ts) (sym same) ∙ sym is_found ∙ is;
+      held = slice_get_read tickets (length seen) place ticket (ap length same) within held;
+    }
+
+-- a report that was recorded in the ticket that was found
+pub reports : {T E : Type 0} (r : Result T E) (old new : Session) (x : Reporting) (before after : List Token) (place : ℕ) (ticket : TicketData)
+    → IsFirst x.ticket old.tickets.items place ticket
+    → new.tickets.items ≡ slice_set old.tickets.items place (recorded ticket (report_on ticket x.integration x.outcome))
+    → OnOk r (after ≡ before ++ named (codes "reported") []) → OnOk r (Reports old new x before after)
+reports r old new x before after place ticket at tickets =
+    on_ok_weaker {Q = Reports old new x before after} r (λ (told : after ≡ before ++ named (codes "reported") []). record {
+      place = place;
+      ticket = ticket;
+      at = at;
+      tickets = tickets;
+      told = told;
+    })
+
+-- a note of the notice that was found
+pub notes : {T E : Type 0} (r : Result T E) (old new : Session) (n : Noting) (before after : List Token) (place : ℕ) (ticket noted : TicketData) (found : Option ℕ) (notice : ℕ)
+    → IsFirst n.ticket old.tickets.items place ticket → found ≡ position (λ x. x.integration == n.integration) ticket.notices → found ≡ Some notice
+    → noted ≡ ticket
+    → ((x : Record) × IsNoteOf 0 n.now noted notice x × (new.board ≡ with_record old.board x) × IsReplyAt old.board x.call x.reply)
+    → OnOk r (after ≡ before ++ reply_tokens new.board.config reply.Noted) → OnOk r (Notes old new n before after)
+notes r old new n before after place ticket noted found notice at is_found is same made =
+    on_ok_weaker {Q = Notes old new n before after} r (λ (told : after ≡ before ++ reply_tokens new.board.config reply.Noted). record {
+      place = place;
+      ticket = ticket;
+      at = at;
+      notice = notice;
+      noticed = sym is_found ∙ is;
+      r = made.0;
+      note = subst (λ (t : TicketData). IsNoteOf 0 n.now t notice made.0) same made.1;
+      due = made.3;
+      recorded = made.2;
+      told = told ∙ ap (λ (b : BoardData). before ++ reply_tokens b.config reply.Noted) made.2;
+    })
+
+-- a finish of the ticket that was found
+pub finishes : {T E : Type 0} (r : Result T E) (old new : Session) (f : Finishing) (before after : List Token) (place : ℕ) (ticket : TicketData)
+    → IsFirst f.ticket old.tickets.items place ticket → new.tickets.items ≡ remove old.tickets.items place
+    → OnOk r (Makes old new (call.Finish f.now ticket.number ticket.outcomes) before after) → OnOk r (Finishes old new f before after)
+finishes r old new f before after place ticket at tickets =
+    on_ok_weaker {Q = Finishes old new f before after} r
+    (λ (makes : Makes old new (call.Finish f.now ticket.number ticket.outcomes) before after). record {
+      place = place;
+      ticket = ticket;
+      at = at;
+      makes = makes;
+      tickets = tickets;
+    })
+
+-- a load of the row that is named
+pub loads : {T E : Type 0} (r : Result T E) (old new : Session) (l : Loading) (row : RowView) (config : Config) (before after : List Token)
+    → config ≡ old.board.config → IsRowOf config l.row row → OnOk r (Makes old new (call.Load l.now row) before after)
+    → OnOk r (Loads old new l before after)
+loads r old new l row config before after is_config is =
+    on_ok_weaker {Q = Loads old new l before after} r (λ (makes : Makes old new (call.Load l.now row) before after). record {
+      row = row;
+      is = subst (λ (c : Config). IsRowOf c l.row row) is_config is;
+      makes = makes;
+    })
 
 -- the records that follow those that were handed out are those that are kept
 pub kept : (board : BoardData) (records : List Record) → board.handed ++ records ≡ board.history → records ≡ kept_of board
 kept board records is = sym (drop-append_seam board.handed records) ∙ ap (drop (length board.handed)) is
 
+-- they follow them
+pub follow : (board : BoardData) (records : List Record) → board.handed ++ records ≡ board.history → board.history ≡ board.handed ++ kept_of board
+follow board records is = sym is ∙ ap (λ (rs : List Record). board.handed ++ rs) (kept board records is)
+
+-- what was handed out after a taking: these too
+pub handed_follow : (old new : BoardData) → new ≡ handed_out old → old.history ≡ old.handed ++ kept_of old → new.handed ≡ old.handed ++ kept_of old
+handed_follow old new after follow = ap (λ (b : BoardData). b.handed) after ∙ follow
+
+-- it is the whole history
+pub handed_legal : (old new : BoardData) → new ≡ handed_out old → IsLegal old.config old.id old.history → IsLegal new.config new.id new.handed
+handed_legal old new after legal = subst (λ (b : BoardData). IsLegal b.config b.id b.handed) (sym after) legal
+
 -- what is told of the records that are kept
 pub told_taken : (board : BoardData) (config : Config) (records : List Record) (fresh after : List Token)
-    → config ≡ board.config → board.handed ++ records ≡ board.history → fresh ≡ []
+    → config ≡ board.config → records ≡ kept_of board → fresh ≡ []
     → after ≡ fresh ++ listed (codes "taken") (record_tokens config) records → after ≡ taken_tokens board
-told_taken board config records fresh after is_config all is_fresh told =
+told_taken board config records fresh after is_config are is_fresh told =
     told ∙ ap (λ (t : List Token). t ++ listed (codes "taken") (record_tokens config) records) is_fresh
     ∙ ap (λ (c : Config). listed (codes "taken") (record_tokens c) records) is_config
-    ∙ ap (λ (rs : List Record). listed (codes "taken") (record_tokens board.config) rs) (kept board records all)
+    ∙ ap (λ (rs : List Record). listed (codes "taken") (record_tokens board.config) rs) are

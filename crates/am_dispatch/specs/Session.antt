@@ -1,6 +1,5 @@
 -- Session: what a session does with what a line asks, and what the answer tells.
-use Rattle.std.specs.Prelude.{◌≡◌, ◌≢◌, ℕ, ◌==◌, List, [], ◌∷◌, ◌++◌, Some, codes, remove, slice_get, slice_set, unwrap_or, length}
-use Rattle.std.specs.List.{position}
+use Rattle.std.specs.Prelude.{◌≡◌, ◌≢◌, ℕ, List, [], ◌∷◌, ◌++◌, Some, codes, remove, slice_set}
 use Rattle.json.specs.Print.{print}
 use Rattle.json.specs.Token.{Token}
 use Rattle.serde_json.specs.Data.{Data}
@@ -13,7 +12,9 @@ use Rattle.am_model.specs.declared.record.Record.{Record}
 use Rattle.am_model.specs.declared.record.Reply.{Reply}
 use Rattle.am_model.specs.declared.record.Reply.TheVariants as reply
 use Rattle.am_model.specs.Begin.{next_due}
+use Rattle.am_model.specs.declared.views.RowView.{RowView}
 use Rattle.am_model.specs.Records.{call_of_silence, entry, IsNoteOf}
+use Rattle.am_model.specs.Replay.{IsLegal}
 use Rattle.am_model.specs.Ticket.{TicketData, recorded as with_report}
 use Rattle.am_model.specs.Views.{group_views, row_views, summary, summary_data}
 use Rattle.am_model.specs.look_back.Preview.{preview}
@@ -23,6 +24,7 @@ use Rattle.am_board.specs.History.{BoardData, IsFresh, IsReplyAt, handed_out, ke
 use Rattle.am_lines.specs.declared.fault.LineFault.{LineFault}
 use Rattle.am_lines.specs.declared.fault.LineFault.TheVariants as fault
 use Rattle.am_lines.specs.declared.request.Finishing.{Finishing}
+use Rattle.am_lines.specs.declared.request.Loading.{Loading}
 use Rattle.am_lines.specs.declared.request.Noting.{Noting}
 use Rattle.am_lines.specs.declared.request.Reporting.{Reporting}
 use Rattle.am_lines.specs.declared.request.Opening.{Opening}
@@ -32,21 +34,18 @@ use Rattle.am_lines.specs.Record.{record_tokens}
 use Rattle.am_lines.specs.Reply.{named, opened_tokens, reply_tokens}
 use Rattle.am_lines.specs.Request.{IsRequestIn}
 use Rattle.am_lines.specs.View.{due_tokens, group_view_tokens, listed, outlook_tokens, row_tokens, summary_tokens}
-use Rattle.am_dispatch.specs.Ticket.{notice_place, report_on, ticket_tokens}
+use Rattle.am_dispatch.specs.Row.{IsRowOf}
+use Rattle.am_dispatch.specs.Ticket.{IsFirst, IsNoticeAt, report_on, ticket_tokens}
 use Rattle.am_dispatch.specs.declared.session.Session.{Session}
 use Rattle.am_dispatch.specs.declared.ticket.TheConstants.{HOME}
-
--- the place of the first ticket of this number; behind all where there is none
-abbrev pub place_of : ℕ → List TicketData → ℕ
-place_of number tickets = unwrap_or (position (λ t. t.number == number) tickets) (length tickets)
 
 -- the board and the tickets are as they were
 abbrev pub IsSame : Session → Session → Type 0
 IsSame old new = (new.board ≡ old.board) × (new.tickets.items ≡ old.tickets.items)
 
--- what a fault leaves: the board as it was, unless the call was made and its answer can't be told
+-- what a fault leaves: all as it was, unless the call was made and its answer can't be told, or the ticket of a finish was spent
 abbrev pub Leaves : Session → Session → LineFault → Type 0
-Leaves old new f = f ≢ fault.Untold → new.board ≡ old.board
+Leaves old new f = f ≢ fault.Untold → f ≢ fault.Spent → IsSame old new
 
 -- the board makes this call: it records it with the reply that the definitions give, and the answer tells that reply
 pub record MakesWith (old new : Session) (made : Call) (reply : Reply) (before after : List Token) : Type 0 where
@@ -74,28 +73,38 @@ Begins old new now before after = (b : Begun) × BeginsWith old new now b before
 
 -- a report is recorded in its ticket
 pub record Reports (old new : Session) (r : Reporting) (before after : List Token) : Type 0 where
+  pub place : ℕ
   pub ticket : TicketData
-  pub held : slice_get old.tickets.items (place_of r.ticket old.tickets.items) ≡ Some ticket
-  pub tickets : new.tickets.items
-      ≡ slice_set old.tickets.items (place_of r.ticket old.tickets.items) (with_report ticket (report_on ticket r.integration r.outcome))
+  pub at : IsFirst r.ticket old.tickets.items place ticket
+  pub tickets : new.tickets.items ≡ slice_set old.tickets.items place (with_report ticket (report_on ticket r.integration r.outcome))
   pub told : after ≡ before ++ named (codes "reported") []
 
 -- a note of the notice of an integration of a ticket
 pub record Notes (old new : Session) (n : Noting) (before after : List Token) : Type 0 where
+  pub place : ℕ
   pub ticket : TicketData
-  pub held : slice_get old.tickets.items (place_of n.ticket old.tickets.items) ≡ Some ticket
+  pub at : IsFirst n.ticket old.tickets.items place ticket
+  pub notice : ℕ
+  pub noticed : IsNoticeAt n.integration ticket.notices notice
   pub r : Record
-  pub note : IsNoteOf 0 n.now ticket (notice_place n.integration ticket.notices) r
+  pub note : IsNoteOf 0 n.now ticket notice r
   pub due : IsReplyAt old.board r.call r.reply
   pub recorded : new.board ≡ with_record old.board r
   pub told : after ≡ before ++ reply_tokens old.board.config reply.Noted
 
 -- a finish, which takes the ticket
 pub record Finishes (old new : Session) (f : Finishing) (before after : List Token) : Type 0 where
+  pub place : ℕ
   pub ticket : TicketData
-  pub held : slice_get old.tickets.items (place_of f.ticket old.tickets.items) ≡ Some ticket
+  pub at : IsFirst f.ticket old.tickets.items place ticket
   pub makes : Makes old new (call.Finish f.now ticket.number ticket.outcomes) before after
-  pub tickets : new.tickets.items ≡ remove old.tickets.items (place_of f.ticket old.tickets.items)
+  pub tickets : new.tickets.items ≡ remove old.tickets.items place
+
+-- a load of the row that is named
+pub record Loads (old new : Session) (l : Loading) (before after : List Token) : Type 0 where
+  pub row : RowView
+  pub is : IsRowOf old.board.config l.row row
+  pub makes : Makes old new (call.Load l.now row) before after
 
 -- a view changes nothing, and the answer tells these
 abbrev pub Shows : Session → Session → List Token → List Token → List Token → Type 0
@@ -110,11 +119,14 @@ ShowsSummary old new before after =
 abbrev pub taken_tokens : BoardData → List Token
 taken_tokens board = listed (codes "taken") (record_tokens board.config) (kept_of board)
 
--- the board has handed out the records that it kept, and nothing else changed
-abbrev pub HandsOut : Session → Session → Type 0
-HandsOut old new = (new.board ≡ handed_out old.board) × (new.tickets.items ≡ old.tickets.items)
+-- the board has handed out the records that it kept behind those before, all of them one legal history, and nothing else changed
+pub record HandsOut (old new : Session) : Type 0 where
+  pub board : new.board ≡ handed_out old.board
+  pub follow : new.board.handed ≡ old.board.handed ++ kept_of old.board
+  pub legal : IsLegal new.board.config new.board.id new.board.handed
+  pub tickets : new.tickets.items ≡ old.tickets.items
 
--- the board has handed out the records that it kept, and the line has them
+-- it has, and the line has these records
 abbrev pub Takes : Session → Session → List ℕ → Type 0
 Takes old new text = HandsOut old new × (text ≡ print (taken_tokens old.board) ++ 10 ∷ [])
 
@@ -138,6 +150,7 @@ Does old (request.Maintain x) new before after =
     Makes old new (call.Maintain x.now) before after × (new.tickets.items ≡ old.tickets.items)
 Does old (request.Forget x) new before after =
     Makes old new (call.Forget x.now) before after × (new.tickets.items ≡ old.tickets.items)
+Does old (request.Load x) new before after = Loads old new x before after × (new.tickets.items ≡ old.tickets.items)
 Does old request.NextDue new before after = Shows old new (due_tokens (next_due (state_at old.board))) before after
 Does old (request.Outlook x) new before after =
     Shows old new (outlook_tokens old.board.config (preview old.board.config old.board.history x.now)) before after

@@ -1,5 +1,5 @@
 -- Ticket: the JSON tokens of what is told of the open flushes.
-use Rattle.std.specs.Prelude.{ℕ, ◌==◌, List, ◌∷◌, ◌++◌, codes, length, unwrap_or}
+use Rattle.std.specs.Prelude.{◌≡◌, ℕ, ◌==◌, List, ◌∷◌, ◌++◌, Some, codes, slice_get}
 use Rattle.std.specs.List.{position}
 use Rattle.json.specs.Token.{Token, key}
 use Rattle.am_retry.specs.declared.outcome.Outcome.{Outcome}
@@ -21,10 +21,14 @@ abbrev pub ticket_tokens : Config → TicketData → List Token
 ticket_tokens config t =
     object (flush_members config t.number t.group t.deadline t.notices ++ key (codes "reports") ∷ reports_tokens t)
 
--- the place of the notice of an integration; behind all where there is none
-abbrev pub notice_place : ℕ → List NoticeData → ℕ
-notice_place integration notices =
-    unwrap_or (position (λ n. n.integration == integration) notices) (length notices)
+-- the first of these tickets that has this number, at this place
+pub record IsFirst (number : ℕ) (tickets : List TicketData) (place : ℕ) (ticket : TicketData) : Type 0 where
+  pub first : position (λ t. t.number == number) tickets ≡ Some place
+  pub held : slice_get tickets place ≡ Some ticket
+
+-- the notice of an integration is at this place
+abbrev pub IsNoticeAt : ℕ → List NoticeData → ℕ → Type 0
+IsNoticeAt integration notices place = position (λ n. n.integration == integration) notices ≡ Some place
 
 -- the report of how the sending to an integration ended. How often it was attempted, and until when, isn't told
 abbrev pub report_on : TicketData → ℕ → Outcome → Report

@@ -1,11 +1,11 @@
 //! The tickets of the flushes that are open, and what is told of them. `session` has them.
-ghost use Rattle.std.specs.Prelude.{◌≡◌, ◌++◌, ◌∷◌, OnErr, OnOk, Some, codes, slice_get};
-ghost use Rattle.std.specs.List.{flat_map};
+ghost use Rattle.std.specs.Prelude.{◌≡◌, ◌<◌, ◌++◌, ◌∷◌, ◌==◌, IfSome, OnErr, OnOk, Some, codes, length, slice_get};
+ghost use Rattle.std.specs.List.{flat_map, position};
 ghost use Rattle.json.specs.Token.{key};
 ghost use Rattle.am_lines.specs.Record.{report_tokens};
 ghost use Rattle.am_lines.specs.View.{listed};
 ghost use Rattle.am_model.specs.Ticket.{outcome_of, recorded};
-ghost use Rattle.am_dispatch.specs.Ticket.{notice_place, report_on, reports_tokens, ticket_tokens};
+ghost use Rattle.am_dispatch.specs.Ticket.{report_on, reports_tokens, ticket_tokens};
 
 use am_board::fault::ReportFault;
 use am_board::notice::{Notice, Report};
@@ -42,14 +42,33 @@ pub fn record(
     })
 }
 
-/// Returns the place of the notice of an integration. Where there is none it is behind all.
-pub fn place_of_notice(notices: &[Notice], integration: u32) -> usize
-    ensures { result ≡ notice_place integration notices.now }
+/// Returns the place of the first ticket of a number.
+pub fn find_ticket(tickets: &[OwnTicket<HOME>], number: u64) -> Option<usize>
+    ensures within { IfSome result (λ place. place < length tickets.now) }
+    ensures first { result ≡ position (λ t. t.number == number) tickets.now }
+{
+    tickets.iter().position(|own| number_of(own) == number)
+}
+
+fn number_of(own: &OwnTicket<HOME>) -> u64
+    ensures { result ≡ own.now.number }
+{
+    own.ticket().number()
+}
+
+/// Returns the place of the notice of an integration in a ticket.
+pub fn find_notice(own: &OwnTicket<HOME>, integration: u32) -> Option<usize>
+    ensures { result ≡ position (λ n. n.integration == integration) own.now.notices }
+{
+    place_of_notice(own.ticket().notices(), integration)
+}
+
+fn place_of_notice(notices: &[Notice], integration: u32) -> Option<usize>
+    ensures { result ≡ position (λ n. n.integration == integration) notices.now }
 {
     notices
         .iter()
         .position(|notice| notice.integration == integration)
-        .unwrap_or(notices.len())
 }
 
 /// Writes the flushes that are open: `{"tickets":[..]}`.

@@ -9,9 +9,11 @@ use Rattle.am_model.specs.declared.config.Config.{Config}
 use Rattle.am_model.specs.declared.record.Call.{Call}
 use Rattle.am_model.specs.declared.record.Call.TheVariants as call
 use Rattle.am_model.specs.declared.record.Record.{Record}
+use Rattle.am_model.specs.declared.views.RowView.{RowView}
 use Rattle.am_lines.specs.Answer.{number_member, object, array, alert_members}
 use Rattle.am_lines.specs.Reply.{named, reply_tokens}
 use Rattle.am_lines.specs.Request.{outcome_word}
+use Rattle.am_lines.specs.View.{row_tokens}
 
 -- how a sending ended, or `null` where nothing was reported
 abbrev pub outcome_tokens : Option Outcome → List Token
@@ -56,17 +58,22 @@ note_tokens now ticket integration =
     named (codes "note")
     (number_member (codes "now") now ++ number_member (codes "ticket") ticket ++ number_member (codes "integration") integration)
 
+-- a load, with the row that was handed in
+abbrev pub load_tokens : Config → ℕ → RowView → List Token
+load_tokens config now row = named (codes "load") (number_member (codes "now") now ++ key (codes "row") ∷ row_tokens config row)
+
 -- a call, as the line that asks for it. In a legal history the outcome of a note is always that the notice was delivered
-abbrev pub call_tokens : Call → List Token
-call_tokens (call.Insert now alert) = insert_tokens now alert
-call_tokens (call.Silence now id matchers start end) = silence_tokens now id matchers start end
-call_tokens (call.Begin now) = timed_tokens (codes "begin") now
-call_tokens (call.Finish now number outcomes) = finish_tokens now number outcomes
-call_tokens (call.Maintain now) = timed_tokens (codes "maintain") now
-call_tokens (call.Forget now) = timed_tokens (codes "forget") now
-call_tokens (call.Note now number integration outcome) = note_tokens now number integration
+abbrev pub call_tokens : Config → Call → List Token
+call_tokens config (call.Insert now alert) = insert_tokens now alert
+call_tokens config (call.Silence now id matchers start end) = silence_tokens now id matchers start end
+call_tokens config (call.Begin now) = timed_tokens (codes "begin") now
+call_tokens config (call.Finish now number outcomes) = finish_tokens now number outcomes
+call_tokens config (call.Maintain now) = timed_tokens (codes "maintain") now
+call_tokens config (call.Forget now) = timed_tokens (codes "forget") now
+call_tokens config (call.Load now row) = load_tokens config now row
+call_tokens config (call.Note now number integration outcome) = note_tokens now number integration
 
 -- an accepted call and its reply
 abbrev pub record_tokens : Config → Record → List Token
 record_tokens config r =
-    object (key (codes "call") ∷ call_tokens r.call ++ key (codes "reply") ∷ reply_tokens config r.reply)
+    object (key (codes "call") ∷ call_tokens config r.call ++ key (codes "reply") ∷ reply_tokens config r.reply)

@@ -5,6 +5,8 @@ use Rattle.am_config.specs.declared.dropped.IgnoredSettings.{IgnoredSettings}
 use Rattle.am_model.specs.declared.config.Config.{Config}
 use Rattle.am_model.specs.declared.group.GroupName.{GroupName}
 use Rattle.am_model.specs.declared.record.Inserted.{Inserted}
+use Rattle.am_model.specs.declared.record.Loaded.{Loaded}
+use Rattle.am_model.specs.declared.record.Loaded.TheVariants.{Put, Kept, Expired}
 use Rattle.am_model.specs.declared.record.Reply.{Reply}
 use Rattle.am_model.specs.declared.record.Reply.TheVariants as reply
 use Rattle.am_model.specs.declared.record.Silenced.{Silenced}
@@ -46,6 +48,16 @@ flush_tokens config ticket group deadline notices = named (codes "flush") (flush
 abbrev pub counts_tokens : List ℕ → List ℕ → ℕ → List ℕ → ℕ → List Token
 counts_tokens name first m second n = named name (number_member first m ++ number_member second n)
 
+-- what became of a row
+abbrev pub loaded_word : Loaded → List ℕ
+loaded_word Put = codes "put"
+loaded_word Kept = codes "kept"
+loaded_word Expired = codes "expired"
+
+-- a load
+abbrev pub loaded_tokens : Loaded → List Token
+loaded_tokens x = named (codes "loaded") (text_member (codes "row") (loaded_word x))
+
 -- a name, if it is wanted
 abbrev pub name_if : Bool → List ℕ → List Token
 name_if is_wanted name = if is_wanted then string name ∷ [] else []
@@ -70,4 +82,5 @@ reply_tokens config (reply.Flush ticket group deadline notices) = flush_tokens c
 reply_tokens config (reply.Finished x) = counts_tokens (codes "finished") (codes "logged") x.logged (codes "removed") x.removed
 reply_tokens config (reply.Maintained x) = counts_tokens (codes "maintained") (codes "groups") x.groups (codes "entries") x.entries
 reply_tokens config (reply.Forgotten x) = counts_tokens (codes "forgotten") (codes "alerts") x.alerts (codes "silences") x.silences
+reply_tokens config (reply.Loaded x) = loaded_tokens x
 reply_tokens config reply.Noted = named (codes "noted") []

@@ -5,7 +5,7 @@ use Rattle.serde_json.specs.Find.{as_null, as_object, as_str, get_member}
 use Rattle.am_alerts.specs.AlertData.{alert_of}
 use Rattle.am_alerts.specs.declared.labels.Label.{Label}
 use Rattle.am_cli.specs.Configured.{DecodesToConfig, DecodesToLabels, DecodesToMatcher}
-use Rattle.am_cli.specs.Decoding.{IsList, IsNumber, Has, HasOr}
+use Rattle.am_cli.specs.Decoding.{IsList, IsNumber, IsText, Has, HasOr}
 use Rattle.am_cli.specs.Read.{number_in, duration_in}
 use Rattle.am_cli.specs.declared.reader.Dialect.{Dialect}
 use Rattle.am_retry.specs.declared.outcome.Outcome.{Outcome}
@@ -14,6 +14,9 @@ use Rattle.am_model.specs.declared.config.Config.{Config}
 use Rattle.am_model.specs.Config.{config_fault}
 use Rattle.am_lines.specs.declared.request.Finishing.{Finishing}
 use Rattle.am_lines.specs.declared.request.Insertion.{Insertion}
+use Rattle.am_lines.specs.declared.request.Loading.{Loading}
+use Rattle.am_lines.specs.declared.request.NamedGroup.{NamedGroup}
+use Rattle.am_lines.specs.declared.request.NamedRow.{NamedRow}
 use Rattle.am_lines.specs.declared.request.Noting.{Noting}
 use Rattle.am_lines.specs.declared.request.Reporting.{Reporting}
 use Rattle.am_lines.specs.declared.request.Silencing.{Silencing}
@@ -93,6 +96,31 @@ pub record DecodesToFinishing (value : Data) (finishing : Finishing) : Type 0 wh
   pub now : Has IsMoment (codes "now") members finishing.now
   pub ticket : Has IsNumber (codes "ticket") members finishing.ticket
 
+-- a group by the name of its route
+pub record DecodesToGroup (dialect : Dialect) (value : Data) (group : NamedGroup) : Type 0 where
+  pub members : Members
+  pub object : as_object value ≡ Some members
+  pub route : Has IsText (codes "route") members group.route
+  pub labels : Has (DecodesToLabels dialect) (codes "labels") members group.labels
+
+-- a row of a log, by the names of its route and its integration
+pub record DecodesToRow (dialect : Dialect) (value : Data) (row : NamedRow) : Type 0 where
+  pub members : Members
+  pub object : as_object value ≡ Some members
+  pub group : Has (DecodesToGroup dialect) (codes "group") members row.group
+  pub integration : Has IsNumber (codes "integration") members row.integration
+  pub kind : Has IsText (codes "kind") members row.kind
+  pub moment : Has IsMoment (codes "moment") members row.moment
+  pub expiry : Has IsMoment (codes "expiry") members row.expiry
+  pub firing : Has (IsList (DecodesToLabels dialect)) (codes "firing") members row.firing.items
+  pub resolved : Has (IsList (DecodesToLabels dialect)) (codes "resolved") members row.resolved.items
+
+pub record DecodesToLoading (dialect : Dialect) (value : Data) (loading : Loading) : Type 0 where
+  pub members : Members
+  pub object : as_object value ≡ Some members
+  pub now : Has IsMoment (codes "now") members loading.now
+  pub row : Has (DecodesToRow dialect) (codes "row") members loading.row
+
 -- a configuration of our own, or one of Alertmanager, of which no more is said than that a board may have it
 abbrev pub IsOpening : Dialect → Members → Config → Type 0
 IsOpening dialect members config =
@@ -110,6 +138,7 @@ IsRequestOf dialect members (request.Note x) = Has DecodesToNoting (codes "note"
 IsRequestOf dialect members (request.Finish x) = Has DecodesToFinishing (codes "finish") members x
 IsRequestOf dialect members (request.Maintain x) = Has DecodesToTimed (codes "maintain") members x
 IsRequestOf dialect members (request.Forget x) = Has DecodesToTimed (codes "forget") members x
+IsRequestOf dialect members (request.Load x) = Has (DecodesToLoading dialect) (codes "load") members x
 IsRequestOf dialect members request.NextDue = get_member (codes "next_due") members ≢ None
 IsRequestOf dialect members (request.Outlook x) = Has DecodesToTimed (codes "outlook") members x
 IsRequestOf dialect members request.Rows = get_member (codes "rows") members ≢ None

@@ -2,14 +2,14 @@
 use crate::answer::Answer;
 use crate::reply::{begin, end};
 use am_cli::fault::{FaultKind, InputFault, ParseFault};
-use am_model::fault::{Fault, NoteFault, ReportFault};
+use am_model::fault::{Fault, LoadFault, NoteFault, ReportFault};
 use std::alloc::AllocError;
 
 /// What is written where memory for the text of another fault is refused.
 pub const NO_MEMORY_LINE: &str =
     "{\"error\":{\"pointer\":\"\",\"kind\":\"memory\",\"message\":\"out of memory\"}}\n";
 
-/// Why a line isn't answered by what it asks for. The board and the tickets are as before, except after `Untold`.
+/// Why a line isn't answered by what it asks for. The board and the tickets are as before, except after `Untold` and `Spent`.
 #[derive(Drop)]
 pub enum LineFault {
     /// It is no JSON text, for what stands at this column. It counts in bytes, from 1.
@@ -22,6 +22,8 @@ pub enum LineFault {
     NoMemory,
     /// The call was made, and memory for the text of its answer was refused.
     Untold,
+    /// The ticket was there, and the board has no open flush of its number. The ticket is gone.
+    Spent,
     /// A value is refused; the place is a JSON pointer.
     Refused {
         place: String,
@@ -111,6 +113,34 @@ impl LineFault {
         }
     }
 
+    /// Returns the fault of a load that the board refuses.
+    pub fn of_load(fault: LoadFault) -> LineFault {
+        let (place, kind, message) = match fault {
+            LoadFault::NoMemory => return LineFault::NoMemory,
+            LoadFault::HistoryFull => return LineFault::of_board("/load", Fault::HistoryFull),
+            LoadFault::NoIntegration => (
+                "/load/row",
+                "NoIntegration",
+                "there is no route of this name, or its receiver has no such integration",
+            ),
+            LoadFault::Unordered => (
+                "/load/row",
+                "Unordered",
+                "the label sets aren't in the order of rows, each once",
+            ),
+            LoadFault::Ahead => (
+                "/load/row/moment",
+                "Ahead",
+                "the row's time is after the board's",
+            ),
+        };
+        LineFault::NotMade {
+            place,
+            kind,
+            message,
+        }
+    }
+
     /// Returns the fault of a report that isn't recorded.
     pub fn of_report(fault: ReportFault) -> LineFault {
         match fault {
@@ -174,6 +204,7 @@ impl LineFault {
                 "untold",
                 "the call was made, and there was no memory to write its answer",
             ),
+            LineFault::Spent => ("NotOpen", "no open flush has this ticket"),
             LineFault::Refused {
                 place: _,
                 fault_kind,

@@ -2,7 +2,7 @@
 //! `write_list`.
 ghost use Rattle.std.specs.Prelude.{◌≡◌, ◌++◌, OnOk};
 ghost use Rattle.am_cli.specs.MatcherText.{operator_text};
-ghost use Rattle.am_lines.specs.Record.{call_tokens, finish_tokens, insert_tokens, note_tokens, outcome_tokens, report_tokens};
+ghost use Rattle.am_lines.specs.Record.{call_tokens, finish_tokens, insert_tokens, load_tokens, note_tokens, outcome_tokens, report_tokens};
 ghost use Rattle.am_lines.specs.Record.{silence_tokens, timed_tokens};
 
 use crate::answer::{Answer, ToJson};
@@ -13,6 +13,7 @@ use am_alerts::alert::Alert;
 use am_alerts::matcher::{MatcherParts, Operator};
 use am_model::config::Config;
 use am_model::record::{Call, Record};
+use am_model::views::RowView;
 use am_retry::Outcome;
 use std::alloc::AllocError;
 
@@ -33,7 +34,7 @@ impl ToJson for Record {
 }
 
 fn write_call(config: &Config, call: &Call, answer: &mut Answer) -> Result<(), AllocError>
-    ensures { OnOk result (answer.new ≡ answer.old ++ call_tokens call.now) }
+    ensures { OnOk result (answer.new ≡ answer.old ++ call_tokens config.now call.now) }
 {
     match call {
         Call::Insert { now, alert } => write_insert(config, *now, alert, answer),
@@ -52,6 +53,7 @@ fn write_call(config: &Config, call: &Call, answer: &mut Answer) -> Result<(), A
         } => write_finish(config, *now, *number, outcomes.as_slice(), answer),
         Call::Maintain { now } => write_timed("maintain", *now, answer),
         Call::Forget { now } => write_timed("forget", *now, answer),
+        Call::Load { now, row } => write_load(config, *now, row.row(), answer),
         Call::Note {
             now,
             number,
@@ -118,6 +120,21 @@ fn write_finish(
     answer.put_number("now", now)?;
     answer.put_number("ticket", ticket)?;
     answer.put_list(config, "reports", outcomes)?;
+    end(answer)
+}
+
+/// Writes a load, with the row that was handed in.
+fn write_load(
+    config: &Config,
+    now: u64,
+    row: &RowView,
+    answer: &mut Answer,
+) -> Result<(), AllocError>
+    ensures { OnOk result (answer.new ≡ answer.old ++ load_tokens config.now now row.now) }
+{
+    begin("load", answer)?;
+    answer.put_number("now", now)?;
+    answer.put(config, "row", row)?;
     end(answer)
 }
 

@@ -1,15 +1,15 @@
 //! The answers that tell a board's replies to its calls. `am_dispatch` calls it.
 ghost use Rattle.std.specs.Prelude.{◌≡◌, ◌++◌, ◌∷◌, [], OnOk};
 ghost use Rattle.json.specs.Token.{begin_object, end_object, key};
-ghost use Rattle.am_lines.specs.Reply.{counts_tokens, flush_members, flush_tokens, ignored_tokens, inserted_tokens, name_if, named, opened_tokens};
-ghost use Rattle.am_lines.specs.Reply.{quiet_tokens, reply_tokens, silenced_tokens};
+ghost use Rattle.am_lines.specs.Reply.{counts_tokens, flush_members, flush_tokens, ignored_tokens, inserted_tokens, loaded_tokens, loaded_word};
+ghost use Rattle.am_lines.specs.Reply.{name_if, named, opened_tokens, quiet_tokens, reply_tokens, silenced_tokens};
 
 use crate::answer::Answer;
 use am_config::dropped::IgnoredSettings;
 use am_model::config::Config;
 use am_model::group::GroupName;
 use am_model::notice::Notice;
-use am_model::record::{Inserted, Reply, Silenced};
+use am_model::record::{Inserted, Loaded, Reply, Silenced};
 use std::alloc::AllocError;
 
 /// Writes a reply: an object with one member, whose name tells what came, and whose value the reply's numbers and lists.
@@ -53,6 +53,7 @@ pub fn write_reply(config: &Config, reply: &Reply, answer: &mut Answer) -> Resul
             x.silences,
             answer,
         ),
+        Reply::Loaded(loaded) => write_loaded(*loaded, answer),
         Reply::Noted => write_named("noted", answer),
     }
 }
@@ -163,6 +164,25 @@ fn write_counts(
     answer.put_number(first, count as u64)?;
     answer.put_number(second, further as u64)?;
     end(answer)
+}
+
+/// Writes what became of a row that was loaded.
+fn write_loaded(loaded: Loaded, answer: &mut Answer) -> Result<(), AllocError>
+    ensures { OnOk result (answer.new ≡ answer.old ++ loaded_tokens loaded) }
+{
+    begin("loaded", answer)?;
+    answer.put_text("row", loaded_word(loaded))?;
+    end(answer)
+}
+
+fn loaded_word(loaded: Loaded) -> &'static str
+    ensures { result.now ≡ loaded_word loaded }
+{
+    match loaded {
+        Loaded::Put => "put",
+        Loaded::Kept => "kept",
+        Loaded::Expired => "expired",
+    }
 }
 
 /// Writes that a board was opened, and which settings of its configuration are ignored.

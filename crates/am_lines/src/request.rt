@@ -4,7 +4,7 @@
 ghost use Rattle.std.specs.Prelude.{◌≡◌, IfOk, IsOkAnd, codes};
 ghost use Rattle.serde_json.specs.View.{members_view, view};
 ghost use Rattle.am_alerts.specs.AlertData.{alert_of};
-ghost use Rattle.am_cli.specs.Configured.{DecodesToMatcher};
+ghost use Rattle.am_cli.specs.Configured.{DecodesToLabels, DecodesToMatcher};
 ghost use Rattle.am_cli.specs.Decoding.{Has, IsList, IsNumber};
 ghost use Rattle.am_mute.specs.Silence.{silence_of};
 ghost use Rattle.am_lines.specs.Request.{HasOneMember, IsOpening, IsOutcome, IsRequestIn, IsRequestOf, outcome_word};
@@ -14,6 +14,7 @@ use am_alerts::alert::{Alert, AlertFault};
 use am_alerts::labels::Labels;
 use am_alerts::limits::MAX_MOMENT;
 use am_alerts::matcher::Matcher;
+use am_alerts::text::Text;
 use am_cli::config::read_config;
 use am_cli::fault::{FaultKind, InputFault};
 use am_cli::faults::{Faults, Refusal};
@@ -41,6 +42,7 @@ pub enum Request {
     Finish(Finishing),
     Maintain(Timed),
     Forget(Timed),
+    Load(Loading),
     /// When the next group is due.
     NextDue,
     /// What a begin would do.
@@ -105,6 +107,32 @@ pub struct Finishing {
     pub ticket: u64,
 }
 
+/// A row of another board's log to be taken over, at this time in milliseconds.
+#[derive(Drop)]
+pub struct Loading {
+    pub now: u64,
+    pub row: NamedRow,
+}
+
+/// A row of a log as `rows` writes it: by the names of its route and its integration. Times are in milliseconds.
+#[derive(Drop)]
+pub struct NamedRow {
+    pub group: NamedGroup,
+    pub integration: u32,
+    pub kind: Text,
+    pub moment: u64,
+    pub expiry: u64,
+    pub firing: Vec<Labels>,
+    pub resolved: Vec<Labels>,
+}
+
+/// A group by the name of its route.
+#[derive(Drop)]
+pub struct NamedGroup {
+    pub route: Text,
+    pub labels: Labels,
+}
+
 /// The arguments of a call that has none: an empty object.
 #[derive(Drop)]
 struct Nothing;
@@ -139,6 +167,7 @@ fn read_call(line: &Object<'_, '_>, name: &str) -> Result<Request, InputFault>
         "finish" => Ok(Request::Finish(member(line, "finish")?)),
         "maintain" => Ok(Request::Maintain(member(line, "maintain")?)),
         "forget" => Ok(Request::Forget(member(line, "forget")?)),
+        "load" => Ok(Request::Load(member(line, "load")?)),
         "outlook" => Ok(Request::Outlook(member(line, "outlook")?)),
         _ => read_bare(line, name),
     }
@@ -402,6 +431,78 @@ impl<'v> FromJson<'v> for Finishing {
             ticket: number_at(&call, "ticket")?,
         })
     }
+}
+
+impl<'v> FromJson<'v> for Loading {
+    ghost use Rattle.am_lines.specs.Request.{DecodesToLoading};
+
+    ghost decodes_to = { λ dialect value loading. DecodesToLoading dialect value loading };
+
+    fn read(reader: &Reader<'v, '_>) -> Result<Loading, InputFault> {
+        let call = reader.object()?;
+        call.only(&["now", "row"])?;
+        let now = moment_at(&call, "now")?;
+        let row = member(&call, "row")?;
+        Ok(Loading { now, row })
+    }
+}
+
+impl<'v> FromJson<'v> for NamedRow {
+    ghost use Rattle.am_lines.specs.Request.{DecodesToRow};
+
+    ghost decodes_to = { λ dialect value row. DecodesToRow dialect value row };
+
+    fn read(reader: &Reader<'v, '_>) -> Result<NamedRow, InputFault> {
+        let row = reader.object()?;
+        row.only(&[
+            "group",
+            "integration",
+            "kind",
+            "moment",
+            "expiry",
+            "firing",
+            "resolved",
+        ])?;
+        let integration = position_at(&row)?;
+        let moment = moment_at(&row, "moment")?;
+        let expiry = moment_at(&row, "expiry")?;
+        let group = member(&row, "group")?;
+        let kind = member(&row, "kind")?;
+        let firing = label_sets(&row, "firing")?;
+        let resolved = label_sets(&row, "resolved")?;
+        Ok(NamedRow {
+            group,
+            integration,
+            kind,
+            moment,
+            expiry,
+            firing,
+            resolved,
+        })
+    }
+}
+
+impl<'v> FromJson<'v> for NamedGroup {
+    ghost use Rattle.am_lines.specs.Request.{DecodesToGroup};
+
+    ghost decodes_to = { λ dialect value group. DecodesToGroup dialect value group };
+
+    fn read(reader: &Reader<'v, '_>) -> Result<NamedGroup, InputFault> {
+        let group = reader.object()?;
+        group.only(&["route", "labels"])?;
+        let route = member(&group, "route")?;
+        let labels = member(&group, "labels")?;
+        Ok(NamedGroup { route, labels })
+    }
+}
+
+/// Reads label sets.
+fn label_sets(row: &Object<'_, '_>, name: &str) -> Result<Vec<Labels>, InputFault>
+    ensures { IfOk result (λ sets. Has (IsList (DecodesToLabels row.now.dialect)) name.now
+        (members_view row.now.members) sets.items) }
+{
+    let sets = row.required(name)?.list::<Labels>()?;
+    Ok(sets)
 }
 
 /// Reads a number that must be there.

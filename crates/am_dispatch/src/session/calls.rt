@@ -2,28 +2,30 @@
 ghost use Rattle.std.specs.Prelude.{◌≡◌, ◌≢◌, ◌<◌, ◌++◌, [], ◌∷◌, codes, IfErr, IfOk, IsOk, OnOk, vec_capacity, vec_len};
 ghost use Rattle.json.specs.Print.{print};
 ghost use Rattle.am_model.specs.Records.{call_of_silence};
+ghost use Rattle.am_model.specs.Replay.{IsLegal};
 ghost use Rattle.am_model.specs.Views.{group_views, row_views};
 ghost use Rattle.am_model.specs.look_back.Preview.{preview};
-ghost use Rattle.am_board.specs.History.{opening, state_at};
+ghost use Rattle.am_board.specs.History.{IsFresh, kept_of, opening, reply_of, state_at};
 ghost use Rattle.am_lines.specs.Reply.{flush_tokens, reply_tokens};
 ghost use Rattle.am_lines.specs.View.{group_view_tokens, listed, outlook_tokens, row_tokens};
-ghost use Rattle.am_dispatch.specs.Session.{Begins, Does, Finishes, IsSame, KeepsTicket, Leaves, Makes, Notes, Opens, Reports, Takes};
-ghost use Rattle.am_dispatch.specs.Session.{place_of, taken_tokens};
+ghost use Rattle.am_dispatch.specs.Session.{Begins, Does, Finishes, IsSame, KeepsTicket, Leaves, Loads, Makes, Notes, Opens, Reports, Takes};
+ghost use Rattle.am_dispatch.specs.Session.{taken_tokens};
 ghost use Rattle.am_dispatch.specs.declared.ticket.TheConstants.{HOME};
 
+use crate::row::row_of;
 use crate::session::Session;
-use crate::ticket::{HOME, place_of_notice, record, write_tickets};
+use crate::ticket::{HOME, find_notice, find_ticket, record, write_tickets};
 use am_board::begin::Begun;
 use am_board::board::Board;
 use am_board::config::Config;
-use am_board::fault::{BoardFault, TakeFault};
+use am_board::fault::{BoardFault, LoadFault, NoteFault, TakeFault};
 use am_board::own_ticket::OwnTicket;
-use am_board::record::{Call, Reply};
+use am_board::record::{Call, Record, Reply};
 use am_board::ticket::Ticket;
 use am_lines::answer::Answer;
 use am_lines::fault::LineFault;
 use am_lines::reply::{write_flush, write_named, write_opened, write_reply};
-use am_lines::request::{Finishing, Insertion, Noting, Opening, Reporting, Request, Silencing};
+use am_lines::request::{Finishing, Insertion, Loading, Noting, Opening, Reporting, Request, Silencing};
 use am_lines::view::{write_due, write_list, write_outlook, write_summary};
 use std::alloc::{AllocError, Global};
 use std::mem::replace;
@@ -65,6 +67,7 @@ impl Session {
             Request::Finish(finishing) => self.finish(finishing, answer),
             Request::Maintain(timed) => self.maintain(alloc, timed.now, answer),
             Request::Forget(timed) => self.forget(alloc, timed.now, answer),
+            Request::Load(loading) => self.load(alloc, loading, answer),
             Request::NextDue => Ok(write_due(self.board.next_due(), answer)?),
             Request::Outlook(timed) => Ok(self.outlook(alloc, timed.now, answer)?),
             Request::Rows => Ok(self.rows(alloc, answer)?),
@@ -87,7 +90,7 @@ impl Session {
         answer: &mut Answer,
     ) -> Result<(), LineFault>
         ensures told { OnOk result (Opens self.new asked answer.old answer.new) }
-        ensures refused { IfErr result (λ fault. fault ≢ LineFault.Untold → IsSame self.old self.new) }
+        ensures refused { IfErr result (Leaves self.old self.new) }
     {
         let Opening { config, ignored } = asked;
         let board = open_board(alloc, config)?;
@@ -135,38 +138,42 @@ impl Session {
     fn begin(&mut self, alloc: Global, now: u64, answer: &mut Answer) -> Result<(), LineFault>
         ensures told { OnOk result (Begins self.old self.new now answer.old answer.new) }
         ensures refused { IfErr result (Leaves self.old self.new) }
-        ensures kept { IfErr result (λ fault. fault ≢ LineFault.Untold → self.new.tickets.items ≡ self.old.tickets.items) }
     {
         // (the memory for a ticket comes before the ticket)
         self.tickets.reserve(1)?;
         match self.board.begin(alloc, PASS, now) {
-            Ok(Begun::Flush(ticket)) => self.keep(ticket, answer),
-            Ok(Begun::NothingDue) => self.tell(&Reply::NothingDue, answer),
-            Ok(Begun::Quiet { group, removed }) => {
-                self.tell(&Reply::Quiet { group, removed }, answer)
-            }
+            Ok(begun) => self.keep(begun, answer),
             Err(fault) => Err(LineFault::of_board("/begin", fault)),
         }
     }
 
+    /// Writes the answer to a begin, and keeps its ticket where it has one.
+    fn keep(&mut self, begun: Begun, answer: &mut Answer) -> Result<(), LineFault>
+        requires fresh { IsFresh HOME begun }
+        requires room { vec_len self.old.tickets < vec_capacity self.old.tickets }
+        ensures told { OnOk result (answer.new ≡ answer.old ++ reply_tokens self.old.board.config (reply_of begun)) }
+        ensures untold { IfErr result (λ fault. fault ≡ LineFault.Untold) }
+        ensures board { self.new.board ≡ self.old.board }
+        ensures tickets { KeepsTicket begun self.old.tickets.items self.new.tickets.items }
+    {
+        match begun {
+            Begun::NothingDue => self.tell(&Reply::NothingDue, answer),
+            Begun::Quiet { group, removed } => self.tell(&Reply::Quiet { group, removed }, answer),
+            Begun::Flush(ticket) => self.keep_ticket(ticket, answer),
+        }
+    }
+
     /// Keeps the ticket of a flush that was begun, and writes the answer.
-    fn keep(&mut self, ticket: Ticket, answer: &mut Answer) -> Result<(), LineFault>
+    fn keep_ticket(&mut self, ticket: Ticket, answer: &mut Answer) -> Result<(), LineFault>
         requires ours { ticket.desk ≡ HOME }
         requires room { vec_len self.old.tickets < vec_capacity self.old.tickets }
         ensures told { OnOk result (answer.new ≡ answer.old
             ++ flush_tokens self.old.board.config ticket.number ticket.group ticket.deadline ticket.notices) }
         ensures untold { IfErr result (λ fault. fault ≡ LineFault.Untold) }
         ensures board { self.new.board ≡ self.old.board }
-        ensures tickets { KeepsTicket (Begun.Flush ticket) self.old.tickets.items self.new.tickets.items }
+        ensures tickets { self.new.tickets.items ≡ self.old.tickets.items ++ ticket ∷ [] }
     {
-        let written = write_flush(
-            self.board.config(),
-            ticket.number(),
-            ticket.group(),
-            ticket.deadline(),
-            ticket.notices(),
-            answer,
-        );
+        let written = write_begun(self.board.config(), &ticket, answer);
         self.tickets.push_reserved(OwnTicket::new(ticket));
         told(written)
     }
@@ -174,13 +181,16 @@ impl Session {
     fn report(&mut self, reporting: Reporting, answer: &mut Answer) -> Result<(), LineFault>
         ensures told { OnOk result (Reports self.old self.new reporting answer.old answer.new) }
         ensures board { self.new.board ≡ self.old.board }
-        ensures refused { IfErr result (λ fault. fault ≢ LineFault.Untold → self.new.tickets.items ≡ self.old.tickets.items) }
+        ensures refused { IfErr result (Leaves self.old self.new) }
     {
-        let place = self.place_of(reporting.ticket);
-        let Some(own) = self.tickets.get_mut(place) else {
+        let Some(place) = find_ticket(self.tickets.as_slice(), reporting.ticket) else {
             return Err(LineFault::not_open("/report/ticket"));
         };
-        match record(own, reporting.integration, reporting.outcome) {
+        match record(
+            &mut self.tickets[place],
+            reporting.integration,
+            reporting.outcome,
+        ) {
             Ok(()) => told(write_named("reported", answer)),
             Err(fault) => Err(LineFault::of_report(fault)),
         }
@@ -191,13 +201,14 @@ impl Session {
         ensures tickets { self.new.tickets.items ≡ self.old.tickets.items }
         ensures refused { IfErr result (Leaves self.old self.new) }
     {
-        let held = self.place_of(noting.ticket);
-        let Some(own) = self.tickets.get(held) else {
+        let Some(place) = find_ticket(self.tickets.as_slice(), noting.ticket) else {
             return Err(LineFault::not_open("/note/ticket"));
         };
-        let ticket = own.ticket();
-        let place = place_of_notice(ticket.notices(), noting.integration);
-        match self.board.note(alloc, PASS, ticket, place, noting.now) {
+        let own = &self.tickets[place];
+        let Some(notice) = find_notice(own, noting.integration) else {
+            return Err(LineFault::of_note(NoteFault::NotReady));
+        };
+        match self.board.note(alloc, PASS, own.ticket(), notice, noting.now) {
             Ok(_) => self.tell(&Reply::Noted, answer),
             Err(fault) => Err(LineFault::of_note(fault)),
         }
@@ -207,14 +218,29 @@ impl Session {
         ensures told { OnOk result (Finishes self.old self.new finishing answer.old answer.new) }
         ensures refused { IfErr result (Leaves self.old self.new) }
     {
-        let place = self.place_of(finishing.ticket);
-        if place >= self.tickets.len() {
+        let Some(place) = find_ticket(self.tickets.as_slice(), finishing.ticket) else {
             return Err(LineFault::not_open("/finish/ticket"));
-        }
+        };
         let own = self.tickets.remove(place);
         match self.board.finish_own(PASS, own, finishing.now) {
             Ok(finished) => self.tell(&Reply::Finished(finished), answer),
-            Err(_not_open) => Err(LineFault::not_open("/finish/ticket")),
+            Err(_not_open) => Err(LineFault::Spent),
+        }
+    }
+
+    /// Takes over a row of another board's log.
+    fn load(&mut self, alloc: Global, loading: Loading, answer: &mut Answer) -> Result<(), LineFault>
+        ensures told { OnOk result (Loads self.old self.new loading answer.old answer.new) }
+        ensures tickets { self.new.tickets.items ≡ self.old.tickets.items }
+        ensures refused { IfErr result (Leaves self.old self.new) }
+    {
+        let Loading { now, row } = loading;
+        let Some(row) = row_of(self.board.config(), row) else {
+            return Err(LineFault::of_load(LoadFault::NoIntegration));
+        };
+        match self.board.load(alloc, PASS, row, now) {
+            Ok(loaded) => self.tell(&Reply::Loaded(loaded), answer),
+            Err(fault) => Err(LineFault::of_load(fault)),
         }
     }
 
@@ -259,18 +285,24 @@ impl Session {
         }
     }
 
-    /// The line that has the records that the board keeps.
+    /// The line that has the records that the board keeps. They follow those that were handed out before.
     fn history_line(&self, alloc: Global) -> Result<Vec<u8>, AllocError>
-        ensures { IfOk result (λ text. text.items ≡ print (taken_tokens self.now.board) ++ 10 ∷ []) }
+        ensures line { IfOk result (λ text. text.items ≡ print (taken_tokens self.now.board) ++ 10 ∷ []) }
+        ensures follow { self.now.board.history ≡ self.now.board.handed ++ kept_of self.now.board }
+        ensures legal { IsLegal self.now.board.config self.now.board.id self.now.board.history }
     {
         let mut answer = Answer::new(alloc);
-        write_list(
-            self.board.config(),
-            "taken",
-            self.board.history(),
-            &mut answer,
-        )?;
+        write_list(self.board.config(), "taken", self.kept(), &mut answer)?;
         answer.into_line()
+    }
+
+    /// The records that the board keeps.
+    fn kept(&self) -> &[Record]
+        ensures records { result.now ≡ kept_of self.now.board }
+        ensures follow { self.now.board.history ≡ self.now.board.handed ++ kept_of self.now.board }
+        ensures legal { IsLegal self.now.board.config self.now.board.id self.now.board.history }
+    {
+        self.board.history()
     }
 
     fn outlook(&self, alloc: Global, now: u64, answer: &mut Answer) -> Result<(), AllocError>
@@ -305,21 +337,26 @@ impl Session {
         told(write_reply(self.board.config(), reply, answer))
     }
 
-    /// The place of the ticket of this number. Where there is none it is behind all.
-    fn place_of(&self, number: u64) -> usize
-        ensures { result ≡ place_of number self.now.tickets.items }
-    {
-        self.tickets
-            .iter()
-            .position(|own| own.ticket().number() == number)
-            .unwrap_or(self.tickets.len())
-    }
-
     /// Ends the session: the flushes that are open are finished with what was reported.
     pub fn close(self) {
         let Session { mut board, tickets } = self;
         finish_all(&mut board, tickets);
     }
+}
+
+/// Writes the flush of a ticket that was begun.
+fn write_begun(config: &Config, ticket: &Ticket, answer: &mut Answer) -> Result<(), AllocError>
+    ensures { OnOk result (answer.new ≡ answer.old
+        ++ flush_tokens config.now ticket.now.number ticket.now.group ticket.now.deadline ticket.now.notices) }
+{
+    write_flush(
+        config,
+        ticket.number(),
+        ticket.group(),
+        ticket.deadline(),
+        ticket.notices(),
+        answer,
+    )
 }
 
 /// An empty board of the program.

@@ -1,11 +1,8 @@
-use Rattle.am_dispatch.proofs.Making.{both, keeps_board, unless_untold}
+use Rattle.am_dispatch.proofs.Making.{both}
 use Rattle.am_dispatch.proofs.session.Session.answer.Goals as goal
 
 pub returns-in-Open-clause-told : goal.returns-in-Open-clause-told
 returns-in-Open-clause-told c = rw c.in-Open.is c.reopen.ensures.told
-
-pub returns-in-Open-clause-refused : goal.returns-in-Open-clause-refused
-returns-in-Open-clause-refused c = unless_untold _ _ _ _ c.reopen.ensures.refused
 
 pub returns-in-Insert-clause-told : goal.returns-in-Insert-clause-told
 returns-in-Insert-clause-told c = rw c.in-Insert.is (both _ _ _ c.insert.ensures.told c.insert.ensures.tickets)
@@ -13,23 +10,23 @@ returns-in-Insert-clause-told c = rw c.in-Insert.is (both _ _ _ c.insert.ensures
 pub returns-in-Silence-clause-told : goal.returns-in-Silence-clause-told
 returns-in-Silence-clause-told c = rw c.in-Silence.is (both _ _ _ c.silence.ensures.told c.silence.ensures.tickets)
 
+pub returns-in-Begin-clause-told : goal.returns-in-Begin-clause-told
+returns-in-Begin-clause-told c = rw c.in-Begin.is c.begin.ensures.told
+
+pub returns-in-Report-clause-told : goal.returns-in-Report-clause-told
+returns-in-Report-clause-told c = rw c.in-Report.is (both _ _ _ c.report.ensures.told c.report.ensures.board)
+
+pub returns-in-Note-clause-told : goal.returns-in-Note-clause-told
+returns-in-Note-clause-told c = rw c.in-Note.is (both _ _ _ c.note.ensures.told c.note.ensures.tickets)
+
+pub returns-in-Finish-clause-told : goal.returns-in-Finish-clause-told
+returns-in-Finish-clause-told c = rw c.in-Finish.is c.finish.ensures.told
+
 pub returns-in-Maintain-clause-told : goal.returns-in-Maintain-clause-told
 returns-in-Maintain-clause-told c = rw c.in-Maintain.is (both _ _ _ c.maintain.ensures.told c.maintain.ensures.tickets)
 
 pub returns-in-Forget-clause-told : goal.returns-in-Forget-clause-told
 returns-in-Forget-clause-told c = rw c.in-Forget.is (both _ _ _ c.forget.ensures.told c.forget.ensures.tickets)
 
-pub returns-in-Note-clause-told : goal.returns-in-Note-clause-told
-returns-in-Note-clause-told c = rw c.in-Note.is (both _ _ _ c.note.ensures.told c.note.ensures.tickets)
-
-pub returns-in-Report-clause-told : goal.returns-in-Report-clause-told
-returns-in-Report-clause-told c = rw c.in-Report.is (both _ _ _ c.report.ensures.told c.report.ensures.board)
-
-pub returns-in-Report-clause-refused : goal.returns-in-Report-clause-refused
-returns-in-Report-clause-refused c = keeps_board _ _ _ c.report.ensures.board
-
-pub returns-in-Begin-clause-told : goal.returns-in-Begin-clause-told
-returns-in-Begin-clause-told c = rw c.in-Begin.is c.begin.ensures.told
-
-pub returns-in-Finish-clause-told : goal.returns-in-Finish-clause-told
-returns-in-Finish-clause-told c = rw c.in-Finish.is c.finish.ensures.told
+pub returns-in-Load-clause-told : goal.returns-in-Load-clause-told
+returns-in-Load-clause-told c = rw c.in-Load.is (both _ _ _ c.load.ensures.told c.load.ensures.tickets)

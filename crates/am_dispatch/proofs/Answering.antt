@@ -1,0 +1,47 @@
+-- What a line is answered by.
+use Rattle.std.proofs.Common.{◌≡◌, ◌++◌, ◌∷◌, [], List, ℕ, Result, Ok, Err, IfOk, Some, refl, subst, sym}
+use Rattle.json.specs.Print.{print}
+use Rattle.json.specs.Token.{Token}
+use Rattle.serde_json.specs.Data.{Data}
+use Rattle.serde_json.specs.Read.{read}
+use Rattle.am_cli.specs.declared.reader.Dialect.{Dialect}
+use Rattle.am_cli.specs.declared.reader.Dialect.TheVariants.{Strict}
+use Rattle.am_lines.specs.declared.request.Request.{Request}
+use Rattle.am_lines.specs.declared.request.Request.TheVariants.{TakeHistory}
+use Rattle.am_lines.specs.Request.{IsRequestIn}
+use Rattle.am_dispatch.specs.Session.{Does, IsAnswered, IsAsked, Takes, taken_tokens}
+use Rattle.am_dispatch.specs.declared.session.Session.{Session}
+
+-- the line asks what its value does
+pub asked : (line : List ℕ) (request : Request) (value data : Data) (dialect : Dialect)
+    → read line ≡ Some value → data ≡ value → dialect ≡ Strict → IsRequestIn dialect data request → IsAsked line request
+asked line request value data dialect is_read same is_strict asks = (
+  value,
+  is_read,
+  subst (λ (d : Dialect). IsRequestIn d value request) is_strict (subst (λ (v : Data). IsRequestIn dialect v request) same asks),
+)
+
+-- a line that was answered by what it asks
+pub answered : (old new : Session) (line text : List ℕ) (request : Request) (before after : List Token)
+    → IsAsked line request → before ≡ [] → Does old request new before after → text ≡ print after ++ 10 ∷ [] → IsAnswered old line text new
+answered old new line text request before after asks empty does text_is =
+    record {
+      request = request;
+      asks = asks;
+      tokens = after;
+      does = subst (λ (b : List Token). Does old request new b after) empty does;
+      text_is = text_is;
+    }
+
+-- a line that asks for the history
+pub answered_take : {T E : Type 0} (r : Result T E) (items : T → List ℕ) (old new : Session) (line : List ℕ) (request : Request)
+    → IsAsked line request → request ≡ TakeHistory → IfOk r (λ text. Takes old new (items text)) → IfOk r (λ text. IsAnswered old line (items text) new)
+answered_take (Ok text) items old new line request asks is told =
+    record {
+      request = request;
+      asks = asks;
+      tokens = taken_tokens old.board;
+      does = subst (λ (q : Request). Does old q new [] (taken_tokens old.board)) (sym is) (told.0, refl);
+      text_is = told.1;
+    }
+answered_take (Err f) items old new line request asks is told = tt

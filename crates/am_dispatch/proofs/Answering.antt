@@ -9,7 +9,7 @@ use Rattle.am_cli.specs.declared.reader.Dialect.TheVariants.{Strict}
 use Rattle.am_lines.specs.declared.request.Request.{Request}
 use Rattle.am_lines.specs.declared.request.Request.TheVariants.{TakeHistory}
 use Rattle.am_lines.specs.Request.{IsRequestIn}
-use Rattle.am_dispatch.specs.Session.{Does, IsAnswered, IsAsked, Takes, taken_tokens}
+use Rattle.am_dispatch.specs.Session.{Does, IsAnswered, IsAsked, IsTold, Takes, taken_tokens}
 use Rattle.am_dispatch.specs.declared.session.Session.{Session}
 
 -- the line asks what its value does
@@ -21,27 +21,25 @@ asked line request value data dialect is_read same is_strict asks = (
   subst (λ (d : Dialect). IsRequestIn d value request) is_strict (subst (λ (v : Data). IsRequestIn dialect v request) same asks),
 )
 
--- a line that was answered by what it asks
-pub answered : (old new : Session) (line text : List ℕ) (request : Request) (before after : List Token)
-    → IsAsked line request → before ≡ [] → Does old request new before after → text ≡ print after ++ 10 ∷ [] → IsAnswered old line text new
-answered old new line text request before after asks empty does text_is =
-    record {
-      request = request;
-      asks = asks;
-      tokens = after;
-      does = subst (λ (b : List Token). Does old request new b after) empty does;
-      text_is = text_is;
-    }
+-- what is told, where the answer began with nothing
+pub told_line : (old new : Session) (text : List ℕ) (request : Request) (before after : List Token)
+    → before ≡ [] → Does old request new before after → text ≡ print after ++ 10 ∷ [] → IsTold old request text new
+told_line old new text request before after empty does text_is =
+    record { tokens = after; does = subst (λ (b : List Token). Does old request new b after) empty does; text_is = text_is }
 
--- a line that asks for the history
-pub answered_take : {T E : Type 0} (r : Result T E) (items : T → List ℕ) (old new : Session) (line : List ℕ) (request : Request)
-    → IsAsked line request → request ≡ TakeHistory → IfOk r (λ text. Takes old new (items text)) → IfOk r (λ text. IsAnswered old line (items text) new)
-answered_take (Ok text) items old new line request asks is told =
+-- what is told of the history
+pub told_take : {T E : Type 0} (r : Result T E) (items : T → List ℕ) (old new : Session) (request : Request)
+    → request ≡ TakeHistory → IfOk r (λ text. Takes old new (items text)) → IfOk r (λ text. IsTold old request (items text) new)
+told_take (Ok text) items old new request is takes =
     record {
-      request = request;
-      asks = asks;
       tokens = taken_tokens old.board;
-      does = subst (λ (q : Request). Does old q new [] (taken_tokens old.board)) (sym is) (told.0, refl);
-      text_is = told.1;
+      does = subst (λ (q : Request). Does old q new [] (taken_tokens old.board)) (sym is) (takes.0, refl);
+      text_is = takes.1;
     }
-answered_take (Err f) items old new line request asks is told = tt
+told_take (Err f) items old new request is takes = tt
+
+-- a line that is answered by what it asks
+pub answered : {T E : Type 0} (r : Result T E) (items : T → List ℕ) (old new : Session) (line : List ℕ) (request : Request)
+    → IsAsked line request → IfOk r (λ text. IsTold old request (items text) new) → IfOk r (λ text. IsAnswered old line (items text) new)
+answered (Ok text) items old new line request asks told = (request, asks, told)
+answered (Err f) items old new line request asks told = tt

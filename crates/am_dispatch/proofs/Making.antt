@@ -1,8 +1,8 @@
 -- What calls of the board leave, and what their answers tell.
-use Rattle.std.proofs.Common.{◌≡◌, ◌≢◌, ◌∙◌, ◌<◌, ◌==◌, ◌++◌, ℕ, List, [], Option, Some, Result, Ok, Err, ap, codes, drop, length, remove, slice_index_or, slice_set, subst, sym}
+use Rattle.std.proofs.Common.{◌≡◌, ◌≢◌, ◌∙◌, ◌<◌, ◌==◌, ◌++◌, ℕ, List, [], Some, Result, Ok, Err, ap, codes, drop, length, remove, slice_get, slice_index_or, subst, sym}
 use Rattle.std.proofs.Math.Seq.{drop-append_seam}
 use Rattle.std.specs.List.{position}
-use Rattle.std.specs.Result.{OnOk, IfErr}
+use Rattle.std.specs.Result.{IsOk, OnOk, IfErr}
 use Rattle.std.proofs.lemmas.Option.{slice_get_read}
 use Rattle.std.proofs.lemmas.Result.{on_ok_weaker}
 use Rattle.json.specs.Token.{Token}
@@ -15,7 +15,7 @@ use Rattle.am_model.specs.declared.views.RowView.{RowView}
 use Rattle.am_model.specs.declared.record.Reply.TheVariants as reply
 use Rattle.am_model.specs.Records.{IsNoteOf, entry}
 use Rattle.am_model.specs.Replay.{IsLegal}
-use Rattle.am_model.specs.Ticket.{TicketData, recorded}
+use Rattle.am_model.specs.Ticket.{TicketData}
 use Rattle.am_board.specs.declared.begin.Begun.{Begun}
 use Rattle.am_board.specs.History.{BoardData, IsFresh, IsReplyAt, handed_out, kept_of, reply_of, with_record}
 use Rattle.am_lines.specs.declared.fault.LineFault.{LineFault}
@@ -29,7 +29,7 @@ use Rattle.am_lines.specs.Record.{record_tokens}
 use Rattle.am_lines.specs.View.{listed}
 use Rattle.am_dispatch.specs.Row.{IsRowOf}
 use Rattle.am_dispatch.specs.Session.{Begins, Finishes, KeepsTicket, Loads, Makes, Notes, Reports, taken_tokens}
-use Rattle.am_dispatch.specs.Ticket.{IsFirst, report_on}
+use Rattle.am_dispatch.specs.Ticket.{IsFirst, IsRecordedAt}
 use Rattle.am_dispatch.specs.declared.session.Session.{Session}
 use Rattle.am_dispatch.specs.declared.ticket.TheConstants.{HOME}
 
@@ -81,42 +81,52 @@ pub fresh_here : (id : ℕ) (b : Begun) → id ≡ HOME → IsFresh id b → IsF
 fresh_here id b is fresh = subst (λ (n : ℕ). IsFresh n b) is fresh
 
 -- the ticket at the place that was found
-pub first_ticket : (number : ℕ) (tickets seen : List TicketData) (found : Option ℕ) (place : ℕ) (ticket : TicketData)
-    → seen ≡ tickets → found ≡ position (λ t. t.number == number) seen → found ≡ Some place → place < length seen
-    → ticket ≡ slice_index_or tickets place ticket → IsFirst number tickets place ticket
-first_ticket number tickets seen found place ticket same is_found is within held =
+pub first_ticket : (number : ℕ) (tickets seen : List TicketData) (place : ℕ) (ticket : TicketData)
+    → seen ≡ tickets → Some place ≡ position (λ t. t.number == number) seen → slice_get tickets place ≡ Some ticket
+    → IsFirst number tickets place ticket
+first_ticket number tickets seen place ticket same first held =
     record {
-      first = ap (λ (ts : List TicketData). position (λ t. t.number == number) ts) (sym same) ∙ sym is_found ∙ is;
-      held = slice_get_read tickets (length seen) place ticket (ap length same) within held;
+      first = ap (λ (ts : List TicketData). position (λ t. t.number == number) ts) (sym same) ∙ sym first;
+      held = held;
     }
 
+-- the ticket that stands there
+pub held_there : (tickets seen : List TicketData) (place : ℕ) (ticket : TicketData)
+    → seen ≡ tickets → place < length seen → ticket ≡ slice_index_or tickets place ticket → slice_get tickets place ≡ Some ticket
+held_there tickets seen place ticket same within = slice_get_read tickets (length seen) place ticket (ap length same) within
+
 -- a report that was recorded in the ticket that was found
-pub reports : {T E : Type 0} (r : Result T E) (old new : Session) (x : Reporting) (before after : List Token) (place : ℕ) (ticket : TicketData)
-    → IsFirst x.ticket old.tickets.items place ticket
-    → new.tickets.items ≡ slice_set old.tickets.items place (recorded ticket (report_on ticket x.integration x.outcome))
+pub reports : {T E : Type 0} (r : Result T E) (old new : Session) (x : Reporting) (before after : List Token) (seen : List TicketData) (place : ℕ)
+    → seen ≡ old.tickets.items → Some place ≡ position (λ t. t.number == x.ticket) seen
+    → IsRecordedAt old.tickets.items place x.integration x.outcome new.tickets.items
     → OnOk r (after ≡ before ++ named (codes "reported") []) → OnOk r (Reports old new x before after)
-reports r old new x before after place ticket at tickets =
+reports r old new x before after seen place same first at =
     on_ok_weaker {Q = Reports old new x before after} r (λ (told : after ≡ before ++ named (codes "reported") []). record {
       place = place;
-      ticket = ticket;
-      at = at;
-      tickets = tickets;
+      first = ap (λ (ts : List TicketData). position (λ t. t.number == x.ticket) ts) (sym same) ∙ sym first;
+      recorded = at;
       told = told;
     })
 
+-- what a text says that was written, where it was
+pub told_ok : {T E S F : Type 0} (r : Result T E) (written : Result S F) (A : Type 0) → OnOk r (IsOk written) → OnOk written A → OnOk r A
+told_ok (Ok x) (Ok y) A ok a = a
+told_ok (Ok x) (Err f) A ok a = absurd ok
+told_ok (Err e) written A ok a = tt
+
 -- a note of the notice that was found
-pub notes : {T E : Type 0} (r : Result T E) (old new : Session) (n : Noting) (before after : List Token) (place : ℕ) (ticket noted : TicketData) (found : Option ℕ) (notice : ℕ)
-    → IsFirst n.ticket old.tickets.items place ticket → found ≡ position (λ x. x.integration == n.integration) ticket.notices → found ≡ Some notice
+pub notes : {T E : Type 0} (r : Result T E) (old new : Session) (n : Noting) (before after : List Token) (place : ℕ) (ticket noted : TicketData) (notice : ℕ)
+    → IsFirst n.ticket old.tickets.items place ticket → Some notice ≡ position (λ x. x.integration == n.integration) ticket.notices
     → noted ≡ ticket
     → ((x : Record) × IsNoteOf 0 n.now noted notice x × (new.board ≡ with_record old.board x) × IsReplyAt old.board x.call x.reply)
     → OnOk r (after ≡ before ++ reply_tokens new.board.config reply.Noted) → OnOk r (Notes old new n before after)
-notes r old new n before after place ticket noted found notice at is_found is same made =
+notes r old new n before after place ticket noted notice at noticed same made =
     on_ok_weaker {Q = Notes old new n before after} r (λ (told : after ≡ before ++ reply_tokens new.board.config reply.Noted). record {
       place = place;
       ticket = ticket;
       at = at;
       notice = notice;
-      noticed = sym is_found ∙ is;
+      noticed = sym noticed;
       r = made.0;
       note = subst (λ (t : TicketData). IsNoteOf 0 n.now t notice made.0) same made.1;
       due = made.3;

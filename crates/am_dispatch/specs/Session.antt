@@ -1,5 +1,6 @@
 -- Session: what a session does with what a line asks, and what the answer tells.
-use Rattle.std.specs.Prelude.{◌≡◌, ◌≢◌, ℕ, List, [], ◌∷◌, ◌++◌, Some, codes, remove, slice_set}
+use Rattle.std.specs.Prelude.{◌≡◌, ◌≢◌, ◌==◌, ℕ, List, [], ◌∷◌, ◌++◌, Some, codes, remove}
+use Rattle.std.specs.List.{position}
 use Rattle.json.specs.Print.{print}
 use Rattle.json.specs.Token.{Token}
 use Rattle.serde_json.specs.Data.{Data}
@@ -15,7 +16,7 @@ use Rattle.am_model.specs.Begin.{next_due}
 use Rattle.am_model.specs.declared.views.RowView.{RowView}
 use Rattle.am_model.specs.Records.{call_of_silence, entry, IsNoteOf}
 use Rattle.am_model.specs.Replay.{IsLegal}
-use Rattle.am_model.specs.Ticket.{TicketData, recorded as with_report}
+use Rattle.am_model.specs.Ticket.{TicketData}
 use Rattle.am_model.specs.Views.{group_views, row_views, summary, summary_data}
 use Rattle.am_model.specs.look_back.Preview.{preview}
 use Rattle.am_board.specs.declared.begin.Begun.{Begun}
@@ -35,7 +36,7 @@ use Rattle.am_lines.specs.Reply.{named, opened_tokens, reply_tokens}
 use Rattle.am_lines.specs.Request.{IsRequestIn}
 use Rattle.am_lines.specs.View.{due_tokens, group_view_tokens, listed, outlook_tokens, row_tokens, summary_tokens}
 use Rattle.am_dispatch.specs.Row.{IsRowOf}
-use Rattle.am_dispatch.specs.Ticket.{IsFirst, IsNoticeAt, report_on, ticket_tokens}
+use Rattle.am_dispatch.specs.Ticket.{IsFirst, IsNoticeAt, IsRecordedAt, ticket_tokens}
 use Rattle.am_dispatch.specs.declared.session.Session.{Session}
 use Rattle.am_dispatch.specs.declared.ticket.TheConstants.{HOME}
 
@@ -74,9 +75,8 @@ Begins old new now before after = (b : Begun) × BeginsWith old new now b before
 -- a report is recorded in its ticket
 pub record Reports (old new : Session) (r : Reporting) (before after : List Token) : Type 0 where
   pub place : ℕ
-  pub ticket : TicketData
-  pub at : IsFirst r.ticket old.tickets.items place ticket
-  pub tickets : new.tickets.items ≡ slice_set old.tickets.items place (with_report ticket (report_on ticket r.integration r.outcome))
+  pub first : position (λ t. t.number == r.ticket) old.tickets.items ≡ Some place
+  pub recorded : IsRecordedAt old.tickets.items place r.integration r.outcome new.tickets.items
   pub told : after ≡ before ++ named (codes "reported") []
 
 -- a note of the notice of an integration of a ticket
@@ -167,10 +167,12 @@ Does old request.TakeHistory new before after = HandsOut old new × (after ≡ b
 abbrev pub IsAsked : List ℕ → Request → Type 0
 IsAsked line request = (value : Data) × (read line ≡ Some value) × IsRequestIn Strict value request
 
--- the line asks something of the session, and the text tells what it did: its tokens, and a line feed
-pub record IsAnswered (old : Session) (line text : List ℕ) (new : Session) : Type 0 where
-  pub request : Request
-  pub asks : IsAsked line request
+-- the session does what is asked, and the text tells it: its tokens, and a line feed
+pub record IsTold (old : Session) (request : Request) (text : List ℕ) (new : Session) : Type 0 where
   pub tokens : List Token
   pub does : Does old request new [] tokens
   pub text_is : text ≡ print tokens ++ 10 ∷ []
+
+-- the line asks something of the session, and the text tells what it did
+abbrev pub IsAnswered : Session → List ℕ → List ℕ → Session → Type 0
+IsAnswered old line text new = (request : Request) × IsAsked line request × IsTold old request text new

@@ -1,6 +1,6 @@
 //! Reading lines and writing answers, until the input ends. `main` calls it.
-ghost use Rattle.std.specs.Prelude.{IfErr, IfOk};
-ghost use Rattle.am_dispatch.specs.Session.{IsAnswered, IsAsked, Leaves};
+ghost use Rattle.std.specs.Prelude.{◌≢◌, IfErr, IfOk};
+ghost use Rattle.am_dispatch.specs.Session.{IsAnswered, IsAsked, IsTold, Leaves};
 
 use crate::fault::ServeFault;
 use crate::session::Session;
@@ -137,8 +137,22 @@ pub fn respond(
 {
     let request = request_of(alloc, read, line)?;
     if matches!(request, Request::TakeHistory) {
-        return session.take_history(alloc);
+        session.take_history(alloc)
+    } else {
+        make_line(alloc, session, request)
     }
+}
+
+/// Does what is asked of a session, but for its history, and makes the line that answers it.
+fn make_line(
+    alloc: Global,
+    session: &mut Session,
+    request: Request,
+) -> Result<Vec<u8>, LineFault>
+    requires { request ≢ Request.TakeHistory }
+    ensures told { IfOk result (λ text. IsTold session.old request text.items session.new) }
+    ensures refused { IfErr result (Leaves session.old session.new) }
+{
     let mut answer = Answer::new(alloc);
     session.answer(alloc, request, &mut answer)?;
     match answer.into_line() {

@@ -1,11 +1,11 @@
 //! The tickets of the flushes that are open, and what is told of them. `session` has them.
-ghost use Rattle.std.specs.Prelude.{◌≡◌, ◌<◌, ◌++◌, ◌∷◌, ◌==◌, IfSome, OnErr, OnOk, Some, codes, length, slice_get};
+ghost use Rattle.std.specs.Prelude.{◌≡◌, ◌<◌, ◌++◌, ◌∷◌, ◌==◌, IfSome, OnErr, OnOk, Some, codes, length, slice_get, vec_len};
 ghost use Rattle.std.specs.List.{flat_map, position};
 ghost use Rattle.json.specs.Token.{key};
 ghost use Rattle.am_lines.specs.Record.{report_tokens};
 ghost use Rattle.am_lines.specs.View.{listed};
 ghost use Rattle.am_model.specs.Ticket.{outcome_of, recorded};
-ghost use Rattle.am_dispatch.specs.Ticket.{report_on, reports_tokens, ticket_tokens};
+ghost use Rattle.am_dispatch.specs.Ticket.{IsRecordedAt, report_on, reports_tokens, ticket_tokens};
 
 use am_board::fault::ReportFault;
 use am_board::notice::{Notice, Report};
@@ -22,8 +22,22 @@ use std::alloc::AllocError;
 /// before the next.
 pub const HOME: u64 = 1;
 
+/// Records how the sending to an integration ended, in the ticket at a place.
+pub fn record_at(
+    tickets: &mut Vec<OwnTicket<HOME>>,
+    place: usize,
+    integration: u32,
+    outcome: Outcome,
+) -> Result<(), ReportFault>
+    requires { place < vec_len tickets.old }
+    ensures ok { OnOk result (IsRecordedAt tickets.old.items place integration outcome tickets.new.items) }
+    ensures err { OnErr result (tickets.new.items ≡ tickets.old.items) }
+{
+    record(&mut tickets[place], integration, outcome)
+}
+
 /// Records how the sending to an integration ended.
-pub fn record(
+fn record(
     own: &mut OwnTicket<HOME>,
     integration: u32,
     outcome: Outcome,

@@ -14,7 +14,7 @@ ghost use Rattle.am_dispatch.specs.declared.ticket.TheConstants.{HOME};
 
 use crate::row::row_of;
 use crate::session::Session;
-use crate::ticket::{HOME, find_notice, find_ticket, record, write_tickets};
+use crate::ticket::{HOME, find_notice, find_ticket, record_at, write_tickets};
 use am_board::begin::Begun;
 use am_board::board::Board;
 use am_board::config::Config;
@@ -186,8 +186,9 @@ impl Session {
         let Some(place) = find_ticket(self.tickets.as_slice(), reporting.ticket) else {
             return Err(LineFault::not_open("/report/ticket"));
         };
-        match record(
-            &mut self.tickets[place],
+        match record_at(
+            &mut self.tickets,
+            place,
             reporting.integration,
             reporting.outcome,
         ) {

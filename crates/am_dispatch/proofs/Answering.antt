@@ -13,9 +13,9 @@ use Rattle.am_dispatch.specs.Session.{Does, IsAnswered, IsAsked, IsTold, Takes, 
 use Rattle.am_dispatch.specs.declared.session.Session.{Session}
 
 -- the line asks what its value does
-pub asked : (line : List ℕ) (request : Request) (value data : Data) (dialect : Dialect)
-    → read line ≡ Some value → data ≡ value → dialect ≡ Strict → IsRequestIn dialect data request → IsAsked line request
-asked line request value data dialect is_read same is_strict asks = (
+pub asked : (line : List ℕ) (request : Request) (value seen : Data) (dialect : Dialect)
+    → read line ≡ Some value → seen ≡ value → dialect ≡ Strict → IsRequestIn dialect seen request → IsAsked line request
+asked line request value seen dialect is_read same is_strict asks = (
   value,
   is_read,
   subst (λ (d : Dialect). IsRequestIn d value request) is_strict (subst (λ (v : Data). IsRequestIn dialect v request) same asks),

@@ -17,7 +17,10 @@ pub fn row_of(config: &Config, named: NamedRow) -> Option<RowView>
     ensures { IfSome result (IsRowOf config.now named) }
 {
     let NamedRow {
-        group: NamedGroup { route: name, labels },
+        group: NamedGroup {
+            route: name,
+            labels,
+        },
         integration,
         kind,
         moment,
@@ -57,8 +60,5 @@ fn find_route(routes: &Routes, name: &str) -> Option<u32>
 fn has_kind(config: &Config, row: &RowView, kind: &str) -> bool
     ensures { result ≡ bytes_eq (kind_of config.now row.now) kind.now }
 {
-    kind_at(
-        config.integrations_of(&row.group),
-        row.integration as usize,
-    ) == kind
+    kind_at(config.integrations_of(&row.group), row.integration as usize) == kind
 }

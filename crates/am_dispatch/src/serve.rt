@@ -144,11 +144,7 @@ pub fn respond(
 }
 
 /// Does what is asked of a session, but for its history, and makes the line that answers it.
-fn make_line(
-    alloc: Global,
-    session: &mut Session,
-    request: Request,
-) -> Result<Vec<u8>, LineFault>
+fn make_line(alloc: Global, session: &mut Session, request: Request) -> Result<Vec<u8>, LineFault>
     requires { request ≢ Request.TakeHistory }
     ensures told { IfOk result (λ text. IsTold session.old request text.items session.new) }
     ensures refused { IfErr result (Leaves session.old session.new) }

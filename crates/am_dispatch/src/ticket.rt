@@ -37,11 +37,7 @@ pub fn record_at(
 }
 
 /// Records how the sending to an integration ended.
-fn record(
-    own: &mut OwnTicket<HOME>,
-    integration: u32,
-    outcome: Outcome,
-) -> Result<(), ReportFault>
+fn record(own: &mut OwnTicket<HOME>, integration: u32, outcome: Outcome) -> Result<(), ReportFault>
     ensures ok { OnOk result (own.new ≡ recorded own.old (report_on own.old integration outcome)) }
     ensures err { OnErr result (own.new ≡ own.old) }
 {

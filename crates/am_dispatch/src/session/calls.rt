@@ -25,7 +25,9 @@ use am_board::ticket::Ticket;
 use am_lines::answer::Answer;
 use am_lines::fault::LineFault;
 use am_lines::reply::{write_flush, write_named, write_opened, write_reply};
-use am_lines::request::{Finishing, Insertion, Loading, Noting, Opening, Reporting, Request, Silencing};
+use am_lines::request::{
+    Finishing, Insertion, Loading, Noting, Opening, Reporting, Request, Silencing,
+};
 use am_lines::view::{write_due, write_list, write_outlook, write_summary};
 use std::alloc::{AllocError, Global};
 use std::mem::replace;
@@ -209,7 +211,10 @@ impl Session {
         let Some(notice) = find_notice(own, noting.integration) else {
             return Err(LineFault::of_note(NoteFault::NotReady));
         };
-        match self.board.note(alloc, PASS, own.ticket(), notice, noting.now) {
+        match self
+            .board
+            .note(alloc, PASS, own.ticket(), notice, noting.now)
+        {
             Ok(_) => self.tell(&Reply::Noted, answer),
             Err(fault) => Err(LineFault::of_note(fault)),
         }
@@ -230,7 +235,12 @@ impl Session {
     }
 
     /// Takes over a row of another board's log.
-    fn load(&mut self, alloc: Global, loading: Loading, answer: &mut Answer) -> Result<(), LineFault>
+    fn load(
+        &mut self,
+        alloc: Global,
+        loading: Loading,
+        answer: &mut Answer,
+    ) -> Result<(), LineFault>
         ensures told { OnOk result (Loads self.old self.new loading answer.old answer.new) }
         ensures tickets { self.new.tickets.items ≡ self.old.tickets.items }
         ensures refused { IfErr result (Leaves self.old self.new) }

@@ -11,4 +11,4 @@ returns-clause-ok c =
     let own : TicketData = c.index_mut.result.now in
     on_ok_weaker {Q = IsRecordedAt was c.args.place c.args.integration c.args.outcome (slice_set was c.args.place c.record.new.own)} c.record.result
     (λ (is : c.record.new.own ≡ recorded own (report_on own c.args.integration c.args.outcome)).
-      (own, slice_get_read was _ c.args.place own c.args.tickets.now.ok.0 c.requires c.index_mut.ensures.value, ap (slice_set was c.args.place) is)) c.record.ensures.ok
+    (own, slice_get_read was _ c.args.place own c.args.tickets.now.ok.0 c.requires c.index_mut.ensures.value, ap (slice_set was c.args.place) is)) c.record.ensures.ok

@@ -1,5 +1,5 @@
 -- What calls of the board leave, and what their answers tell.
-use Rattle.std.proofs.Common.{◌≡◌, ◌≢◌, ◌∙◌, ◌<◌, ◌==◌, ◌++◌, ℕ, List, [], Some, Result, Ok, Err, ap, codes, drop, length, remove, slice_get, slice_index_or, subst, sym}
+use Rattle.std.proofs.Common.{◌≡◌, ◌≢◌, ◌∙◌, ◌<◌, ◌==◌, ◌++◌, ℕ, List, [], Some, Result, Ok, Err, ap, codes, drop, length, refl, remove, slice_get, slice_index_or, subst, sym}
 use Rattle.std.proofs.Math.Seq.{drop-append_seam}
 use Rattle.std.specs.List.{position}
 use Rattle.std.specs.Result.{IsOk, OnOk, IfErr}
@@ -17,18 +17,19 @@ use Rattle.am_model.specs.Records.{IsNoteOf, entry}
 use Rattle.am_model.specs.Replay.{IsLegal}
 use Rattle.am_model.specs.Ticket.{TicketData}
 use Rattle.am_board.specs.declared.begin.Begun.{Begun}
-use Rattle.am_board.specs.History.{BoardData, IsFresh, IsReplyAt, handed_out, kept_of, reply_of, with_record}
+use Rattle.am_board.specs.History.{BoardData, IsFresh, IsReplyAt, handed_out, kept_of, opening, reply_of, with_record}
 use Rattle.am_lines.specs.declared.fault.LineFault.{LineFault}
 use Rattle.am_lines.specs.declared.fault.LineFault.TheVariants.{Spent, Untold}
 use Rattle.am_lines.specs.declared.request.Finishing.{Finishing}
 use Rattle.am_lines.specs.declared.request.Loading.{Loading}
 use Rattle.am_lines.specs.declared.request.Noting.{Noting}
+use Rattle.am_lines.specs.declared.request.Opening.{Opening}
 use Rattle.am_lines.specs.declared.request.Reporting.{Reporting}
-use Rattle.am_lines.specs.Reply.{named, reply_tokens}
+use Rattle.am_lines.specs.Reply.{named, opened_tokens, reply_tokens}
 use Rattle.am_lines.specs.Record.{record_tokens}
 use Rattle.am_lines.specs.View.{listed}
 use Rattle.am_dispatch.specs.Row.{IsRowOf}
-use Rattle.am_dispatch.specs.Session.{Begins, Finishes, KeepsTicket, Loads, Makes, Notes, Reports, taken_tokens}
+use Rattle.am_dispatch.specs.Session.{Begins, Finishes, KeepsTicket, Loads, Makes, Notes, Opens, Reports, taken_tokens}
 use Rattle.am_dispatch.specs.Ticket.{IsFirst, IsRecordedAt}
 use Rattle.am_dispatch.specs.declared.session.Session.{Session}
 use Rattle.am_dispatch.specs.declared.ticket.TheConstants.{HOME}
@@ -50,6 +51,16 @@ made r old new call reply before after due recorded =
 -- what holds anyhow, beside what is so of an Ok
 pub both : {T E : Type 0} (A B : Type 0) (r : Result T E) → OnOk r A → B → OnOk r (A × B)
 both A B r told b = on_ok_weaker {Q = A × B} r (λ (a : A). (a, b)) told
+
+-- a view, which changes nothing
+pub shown : {T E : Type 0} (board : BoardData) (tickets : List TicketData) (A : Type 0) (r : Result T E)
+    → OnOk r A → OnOk r (((board ≡ board) × (tickets ≡ tickets)) × A)
+shown board tickets A r = on_ok_weaker {Q = ((board ≡ board) × (tickets ≡ tickets)) × A} r (λ (a : A). ((refl, refl), a))
+
+pub leaves_all : {T : Type 0} (r : Result T LineFault) (board : BoardData) (tickets : List TicketData)
+    → IfErr r (λ f. f ≢ Untold → f ≢ Spent → (board ≡ board) × (tickets ≡ tickets))
+leaves_all (Ok x) board tickets = tt
+leaves_all (Err f) board tickets = λ _ _. (refl, refl)
 
 -- where only the answer can't be told, the call was made
 pub untold_leaves : {T : Type 0} (r : Result T LineFault) (old new : BoardData) (olds news : List TicketData)
@@ -113,6 +124,14 @@ pub told_ok : {T E S F : Type 0} (r : Result T E) (written : Result S F) (A : Ty
 told_ok (Ok x) (Ok y) A ok a = a
 told_ok (Ok x) (Err f) A ok a = absurd ok
 told_ok (Err e) written A ok a = tt
+
+-- a new board, whose opening was told
+pub opens : {T E S F : Type 0} (r : Result T E) (written : Result S F) (new : Session) (x : Opening) (before after : List Token)
+    → OnOk r (IsOk written) → new.board ≡ opening x.config HOME → new.tickets.items ≡ []
+    → OnOk written (after ≡ before ++ opened_tokens x.ignored) → OnOk r (Opens new x before after)
+opens r written new x before after ok board tickets told =
+    on_ok_weaker {Q = Opens new x before after} r (λ (is : after ≡ before ++ opened_tokens x.ignored). (board, tickets, is))
+    (told_ok r written (after ≡ before ++ opened_tokens x.ignored) ok told)
 
 -- a note of the notice that was found
 pub notes : {T E : Type 0} (r : Result T E) (old new : Session) (n : Noting) (before after : List Token) (place : ℕ) (ticket noted : TicketData) (notice : ℕ)

@@ -110,10 +110,10 @@ pub record Loads (old new : Session) (l : Loading) (before after : List Token) :
 abbrev pub Shows : Session → Session → List Token → List Token → List Token → Type 0
 Shows old new tokens before after = IsSame old new × (after ≡ before ++ tokens)
 
--- what a board has in all
-abbrev pub ShowsSummary : Session → Session → List Token → List Token → Type 0
-ShowsSummary old new before after =
-    (s : Summary) × (summary_data s ≡ summary old.board.config old.board.history) × Shows old new (summary_tokens s) before after
+-- the answer tells what a board has in all
+abbrev pub TellsSummary : BoardData → List Token → List Token → Type 0
+TellsSummary board before after =
+    (s : Summary) × (summary_data s ≡ summary board.config board.history) × (after ≡ before ++ summary_tokens s)
 
 -- the records that a board keeps
 abbrev pub taken_tokens : BoardData → List Token
@@ -158,7 +158,7 @@ Does old request.Rows new before after =
     Shows old new (listed (codes "rows") (row_tokens old.board.config) (row_views (state_at old.board))) before after
 Does old request.Groups new before after =
     Shows old new (listed (codes "groups") (group_view_tokens old.board.config) (group_views (state_at old.board))) before after
-Does old request.Summary new before after = ShowsSummary old new before after
+Does old request.Summary new before after = IsSame old new × TellsSummary old.board before after
 Does old request.Tickets new before after =
     Shows old new (listed (codes "tickets") (ticket_tokens old.board.config) old.tickets.items) before after
 Does old request.TakeHistory new before after = HandsOut old new × (after ≡ before ++ taken_tokens old.board)

@@ -1,15 +1,17 @@
 //! What a session does with what a line asks: the calls of its board, and the answers. `serve` calls `open`, `answer` and `close`.
 ghost use Rattle.std.specs.Prelude.{◌≡◌, ◌≢◌, ◌<◌, ◌++◌, [], ◌∷◌, codes, IfErr, IfOk, IsOk, OnOk, vec_capacity, vec_len};
 ghost use Rattle.json.specs.Print.{print};
+ghost use Rattle.am_model.specs.Begin.{next_due};
 ghost use Rattle.am_model.specs.Records.{call_of_silence};
 ghost use Rattle.am_model.specs.Replay.{IsLegal};
 ghost use Rattle.am_model.specs.Views.{group_views, row_views};
 ghost use Rattle.am_model.specs.look_back.Preview.{preview};
 ghost use Rattle.am_board.specs.History.{IsFresh, kept_of, opening, reply_of, state_at};
 ghost use Rattle.am_lines.specs.Reply.{flush_tokens, reply_tokens};
-ghost use Rattle.am_lines.specs.View.{group_view_tokens, listed, outlook_tokens, row_tokens};
+ghost use Rattle.am_lines.specs.View.{due_tokens, group_view_tokens, listed, outlook_tokens, row_tokens};
 ghost use Rattle.am_dispatch.specs.Session.{Begins, Does, Finishes, IsSame, KeepsTicket, Leaves, Loads, Makes, Notes, Opens, Reports, Takes};
-ghost use Rattle.am_dispatch.specs.Session.{taken_tokens};
+ghost use Rattle.am_dispatch.specs.Session.{TellsSummary, taken_tokens};
+ghost use Rattle.am_dispatch.specs.Ticket.{ticket_tokens};
 ghost use Rattle.am_dispatch.specs.declared.ticket.TheConstants.{HOME};
 
 use crate::row::row_of;
@@ -70,16 +72,12 @@ impl Session {
             Request::Maintain(timed) => self.maintain(alloc, timed.now, answer),
             Request::Forget(timed) => self.forget(alloc, timed.now, answer),
             Request::Load(loading) => self.load(alloc, loading, answer),
-            Request::NextDue => Ok(write_due(self.board.next_due(), answer)?),
-            Request::Outlook(timed) => Ok(self.outlook(alloc, timed.now, answer)?),
-            Request::Rows => Ok(self.rows(alloc, answer)?),
-            Request::Groups => Ok(self.groups(alloc, answer)?),
-            Request::Summary => Ok(write_summary(&self.board.summary(), answer)?),
-            Request::Tickets => Ok(write_tickets(
-                self.board.config(),
-                self.tickets.as_slice(),
-                answer,
-            )?),
+            Request::NextDue => self.show_due(answer),
+            Request::Outlook(timed) => self.show_outlook(alloc, timed.now, answer),
+            Request::Rows => self.show_rows(alloc, answer),
+            Request::Groups => self.show_groups(alloc, answer),
+            Request::Summary => self.show_summary(answer),
+            Request::Tickets => self.show_tickets(answer),
             Request::TakeHistory => unreachable!(),
         }
     }
@@ -316,28 +314,47 @@ impl Session {
         self.board.history()
     }
 
-    fn outlook(&self, alloc: Global, now: u64, answer: &mut Answer) -> Result<(), AllocError>
+    fn show_due(&self, answer: &mut Answer) -> Result<(), LineFault>
+        ensures { OnOk result (answer.new ≡ answer.old ++ due_tokens (next_due (state_at self.now.board))) }
+    {
+        Ok(write_due(self.board.next_due(), answer)?)
+    }
+
+    fn show_summary(&self, answer: &mut Answer) -> Result<(), LineFault>
+        ensures { OnOk result (TellsSummary self.now.board answer.old answer.new) }
+    {
+        Ok(write_summary(&self.board.summary(), answer)?)
+    }
+
+    fn show_tickets(&self, answer: &mut Answer) -> Result<(), LineFault>
+        ensures { OnOk result (answer.new ≡ answer.old
+            ++ listed (codes "tickets") (ticket_tokens self.now.board.config) self.now.tickets.items) }
+    {
+        Ok(write_tickets(self.board.config(), self.tickets.as_slice(), answer)?)
+    }
+
+    fn show_outlook(&self, alloc: Global, now: u64, answer: &mut Answer) -> Result<(), LineFault>
         ensures { OnOk result (answer.new ≡ answer.old
             ++ outlook_tokens self.now.board.config (preview self.now.board.config self.now.board.history now)) }
     {
         let preview = self.board.preview(alloc, now)?;
-        write_outlook(self.board.config(), preview.as_ref(), answer)
+        Ok(write_outlook(self.board.config(), preview.as_ref(), answer)?)
     }
 
-    fn rows(&self, alloc: Global, answer: &mut Answer) -> Result<(), AllocError>
+    fn show_rows(&self, alloc: Global, answer: &mut Answer) -> Result<(), LineFault>
         ensures { OnOk result (answer.new ≡ answer.old
             ++ listed (codes "rows") (row_tokens self.now.board.config) (row_views (state_at self.now.board))) }
     {
         let rows = self.board.rows(alloc)?;
-        write_list(self.board.config(), "rows", rows.as_slice(), answer)
+        Ok(write_list(self.board.config(), "rows", rows.as_slice(), answer)?)
     }
 
-    fn groups(&self, alloc: Global, answer: &mut Answer) -> Result<(), AllocError>
+    fn show_groups(&self, alloc: Global, answer: &mut Answer) -> Result<(), LineFault>
         ensures { OnOk result (answer.new ≡ answer.old
             ++ listed (codes "groups") (group_view_tokens self.now.board.config) (group_views (state_at self.now.board))) }
     {
         let groups = self.board.groups(alloc)?;
-        write_list(self.board.config(), "groups", groups.as_slice(), answer)
+        Ok(write_list(self.board.config(), "groups", groups.as_slice(), answer)?)
     }
 
     /// Writes the reply to a call that was made.

@@ -1,4 +1,4 @@
-use Rattle.am_dispatch.proofs.Making.{both}
+use Rattle.am_dispatch.proofs.Making.{both, leaves_all, shown}
 use Rattle.am_dispatch.proofs.session.Session.answer.Goals as goal
 
 pub returns-in-Open-clause-told : goal.returns-in-Open-clause-told
@@ -30,3 +30,39 @@ returns-in-Forget-clause-told c = rw c.in-Forget.is (both _ _ _ c.forget.ensures
 
 pub returns-in-Load-clause-told : goal.returns-in-Load-clause-told
 returns-in-Load-clause-told c = rw c.in-Load.is (both _ _ _ c.load.ensures.told c.load.ensures.tickets)
+
+pub returns-in-NextDue-clause-told : goal.returns-in-NextDue-clause-told
+returns-in-NextDue-clause-told c = rw c.in-NextDue.is (shown _ _ _ _ c.show_due.ensures)
+
+pub returns-in-NextDue-clause-refused : goal.returns-in-NextDue-clause-refused
+returns-in-NextDue-clause-refused c = leaves_all _ _ _
+
+pub returns-in-Outlook-clause-told : goal.returns-in-Outlook-clause-told
+returns-in-Outlook-clause-told c = rw c.in-Outlook.is (shown _ _ _ _ c.show_outlook.ensures)
+
+pub returns-in-Outlook-clause-refused : goal.returns-in-Outlook-clause-refused
+returns-in-Outlook-clause-refused c = leaves_all _ _ _
+
+pub returns-in-Rows-clause-told : goal.returns-in-Rows-clause-told
+returns-in-Rows-clause-told c = rw c.in-Rows.is (shown _ _ _ _ c.show_rows.ensures)
+
+pub returns-in-Rows-clause-refused : goal.returns-in-Rows-clause-refused
+returns-in-Rows-clause-refused c = leaves_all _ _ _
+
+pub returns-in-Groups-clause-told : goal.returns-in-Groups-clause-told
+returns-in-Groups-clause-told c = rw c.in-Groups.is (shown _ _ _ _ c.show_groups.ensures)
+
+pub returns-in-Groups-clause-refused : goal.returns-in-Groups-clause-refused
+returns-in-Groups-clause-refused c = leaves_all _ _ _
+
+pub returns-in-Summary-clause-told : goal.returns-in-Summary-clause-told
+returns-in-Summary-clause-told c = rw c.in-Summary.is (shown _ _ _ _ c.show_summary.ensures)
+
+pub returns-in-Summary-clause-refused : goal.returns-in-Summary-clause-refused
+returns-in-Summary-clause-refused c = leaves_all _ _ _
+
+pub returns-in-Tickets-clause-told : goal.returns-in-Tickets-clause-told
+returns-in-Tickets-clause-told c = rw c.in-Tickets.is (shown _ _ _ _ c.show_tickets.ensures)
+
+pub returns-in-Tickets-clause-refused : goal.returns-in-Tickets-clause-refused
+returns-in-Tickets-clause-refused c = leaves_all _ _ _

@@ -1,5 +1,5 @@
 -- What calls of the board leave, and what their answers tell.
-use Rattle.std.proofs.Common.{◌≡◌, ◌≢◌, ◌∙◌, ◌<◌, ◌==◌, ◌++◌, ℕ, List, [], Some, Result, Ok, Err, ap, codes, drop, length, refl, remove, slice_get, slice_index_or, subst, sym}
+use Rattle.std.proofs.Common.{◌≡◌, ◌≢◌, ◌∙◌, ◌<◌, ◌==◌, ◌++◌, ℕ, List, [], Some, Result, Ok, Err, ap, codes, drop, length, refl, remove, slice_get, slice_index_or, subst, sym, true≢false}
 use Rattle.std.proofs.Math.Seq.{drop-append_seam}
 use Rattle.std.specs.List.{position}
 use Rattle.std.specs.Result.{IsOk, OnOk, IfErr}
@@ -122,7 +122,7 @@ reports r old new x before after seen place same first at =
 -- what a text says that was written, where it was
 pub told_ok : {T E S F : Type 0} (r : Result T E) (written : Result S F) (A : Type 0) → OnOk r (IsOk written) → OnOk written A → OnOk r A
 told_ok (Ok x) (Ok y) A ok a = a
-told_ok (Ok x) (Err f) A ok a = absurd ok
+told_ok (Ok x) (Err f) A ok a = absurd (true≢false (sym ok))
 told_ok (Err e) written A ok a = tt
 
 -- a new board, whose opening was told

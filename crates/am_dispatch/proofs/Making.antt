@@ -1,0 +1,204 @@
+-- What calls of the board leave, and what their answers tell.
+use Rattle.std.proofs.Common.{◌≡◌, ◌≢◌, ◌∙◌, ◌<◌, ◌==◌, ◌++◌, ℕ, List, [], Some, Result, Ok, Err, ap, codes, drop, length, refl, remove, slice_get, slice_index_or, subst, sym, true≢false}
+use Rattle.std.proofs.Math.Seq.{drop-append_seam}
+use Rattle.std.specs.List.{position}
+use Rattle.std.specs.Result.{IsOk, OnOk, IfErr}
+use Rattle.std.proofs.lemmas.Option.{slice_get_read}
+use Rattle.std.proofs.lemmas.Result.{on_ok_weaker}
+use Rattle.json.specs.Token.{Token}
+use Rattle.am_model.specs.declared.config.Config.{Config}
+use Rattle.am_model.specs.declared.record.Call.{Call}
+use Rattle.am_model.specs.declared.record.Call.TheVariants as call
+use Rattle.am_model.specs.declared.record.Record.{Record}
+use Rattle.am_model.specs.declared.record.Reply.{Reply}
+use Rattle.am_model.specs.declared.views.RowView.{RowView}
+use Rattle.am_model.specs.declared.record.Reply.TheVariants as reply
+use Rattle.am_model.specs.Records.{IsNoteOf, entry}
+use Rattle.am_model.specs.Replay.{IsLegal}
+use Rattle.am_model.specs.Ticket.{TicketData}
+use Rattle.am_board.specs.declared.begin.Begun.{Begun}
+use Rattle.am_board.specs.History.{BoardData, IsFresh, IsReplyAt, handed_out, kept_of, opening, reply_of, with_record}
+use Rattle.am_lines.specs.declared.fault.LineFault.{LineFault}
+use Rattle.am_lines.specs.declared.fault.LineFault.TheVariants.{Spent, Untold}
+use Rattle.am_lines.specs.declared.request.Finishing.{Finishing}
+use Rattle.am_lines.specs.declared.request.Loading.{Loading}
+use Rattle.am_lines.specs.declared.request.Noting.{Noting}
+use Rattle.am_lines.specs.declared.request.Opening.{Opening}
+use Rattle.am_lines.specs.declared.request.Reporting.{Reporting}
+use Rattle.am_lines.specs.Reply.{named, opened_tokens, reply_tokens}
+use Rattle.am_lines.specs.Record.{record_tokens}
+use Rattle.am_lines.specs.View.{listed}
+use Rattle.am_dispatch.specs.Row.{IsRowOf}
+use Rattle.am_dispatch.specs.Session.{Begins, Finishes, KeepsTicket, Loads, Makes, Notes, Opens, Reports, taken_tokens}
+use Rattle.am_dispatch.specs.Ticket.{IsFirst, IsRecordedAt}
+use Rattle.am_dispatch.specs.declared.session.Session.{Session}
+use Rattle.am_dispatch.specs.declared.ticket.TheConstants.{HOME}
+
+-- a call that was made, and told by the reply under the configuration that the board has afterwards
+pub made : {T E : Type 0} (r : Result T E) (old new : Session) (call : Call) (reply : Reply) (before after : List Token)
+    → IsReplyAt old.board call reply → new.board ≡ with_record old.board (entry 0 call reply)
+    → OnOk r (after ≡ before ++ reply_tokens new.board.config reply) → OnOk r (Makes old new call before after)
+made r old new call reply before after due recorded =
+    on_ok_weaker {Q = Makes old new call before after} r (λ (told : after ≡ before ++ reply_tokens new.board.config reply). (
+      reply,
+      record {
+        due = due;
+        recorded = recorded;
+        told = told ∙ ap (λ (b : BoardData). before ++ reply_tokens b.config reply) recorded;
+      },
+    ))
+
+-- what holds anyhow, beside what is so of an Ok
+pub both : {T E : Type 0} (A B : Type 0) (r : Result T E) → OnOk r A → B → OnOk r (A × B)
+both A B r told b = on_ok_weaker {Q = A × B} r (λ (a : A). (a, b)) told
+
+-- a view, which changes nothing
+pub shown : {T E : Type 0} (board : BoardData) (tickets : List TicketData) (A : Type 0) (r : Result T E)
+    → OnOk r A → OnOk r (((board ≡ board) × (tickets ≡ tickets)) × A)
+shown board tickets A r = on_ok_weaker {Q = ((board ≡ board) × (tickets ≡ tickets)) × A} r (λ (a : A). ((refl, refl), a))
+
+pub leaves_all : {T : Type 0} (r : Result T LineFault) (board : BoardData) (tickets : List TicketData)
+    → IfErr r (λ f. f ≢ Untold → f ≢ Spent → (board ≡ board) × (tickets ≡ tickets))
+leaves_all (Ok x) board tickets = tt
+leaves_all (Err f) board tickets = λ _ _. (refl, refl)
+
+-- where only the answer can't be told, the call was made
+pub untold_leaves : {T : Type 0} (r : Result T LineFault) (old new : BoardData) (olds news : List TicketData)
+    → IfErr r (λ f. f ≡ Untold) → IfErr r (λ f. f ≢ Untold → f ≢ Spent → (new ≡ old) × (news ≡ olds))
+untold_leaves (Ok x) old new olds news is = tt
+untold_leaves (Err f) old new olds news is = λ differs _. absurd (differs is)
+
+-- a begin that was made, and told by the reply under the configuration that the board has afterwards
+pub begins : {T E : Type 0} (r : Result T E) (old new : Session) (now : ℕ) (b : Begun) (before after : List Token) (mid : BoardData) (mids : List TicketData)
+    → IsReplyAt old.board (call.Begin now) (reply_of b) → mid ≡ with_record old.board (entry 0 (call.Begin now) (reply_of b))
+    → IsFresh HOME b → mids ≡ old.tickets.items → new.board ≡ mid → KeepsTicket b mids new.tickets.items
+    → OnOk r (after ≡ before ++ reply_tokens mid.config (reply_of b)) → OnOk r (Begins old new now before after)
+begins r old new now b before after mid mids due recorded fresh same board tickets =
+    on_ok_weaker {Q = Begins old new now before after} r (λ (told : after ≡ before ++ reply_tokens mid.config (reply_of b)). (
+      b,
+      record {
+        makes = record {
+          due = due;
+          recorded = board ∙ recorded;
+          told = told ∙ ap (λ (d : BoardData). before ++ reply_tokens d.config (reply_of b)) recorded;
+        };
+        fresh = fresh;
+        tickets = subst (λ (ts : List TicketData). KeepsTicket b ts new.tickets.items) same tickets;
+      },
+    ))
+
+-- a ticket of the program's board is fresh there
+pub fresh_here : (id : ℕ) (b : Begun) → id ≡ HOME → IsFresh id b → IsFresh HOME b
+fresh_here id b is fresh = subst (λ (n : ℕ). IsFresh n b) is fresh
+
+-- the ticket at the place that was found
+pub first_ticket : (number : ℕ) (tickets seen : List TicketData) (place : ℕ) (ticket : TicketData)
+    → seen ≡ tickets → Some place ≡ position (λ t. t.number == number) seen → slice_get tickets place ≡ Some ticket
+    → IsFirst number tickets place ticket
+first_ticket number tickets seen place ticket same first held =
+    record {
+      first = ap (λ (ts : List TicketData). position (λ t. t.number == number) ts) (sym same) ∙ sym first;
+      held = held;
+    }
+
+-- the ticket that stands there
+pub held_there : (tickets seen : List TicketData) (place : ℕ) (ticket : TicketData)
+    → seen ≡ tickets → place < length seen → ticket ≡ slice_index_or tickets place ticket → slice_get tickets place ≡ Some ticket
+held_there tickets seen place ticket same within = slice_get_read tickets (length seen) place ticket (ap length same) within
+
+-- a report that was recorded in the ticket that was found
+pub reports : {T E : Type 0} (r : Result T E) (old new : Session) (x : Reporting) (before after : List Token) (seen : List TicketData) (place : ℕ)
+    → seen ≡ old.tickets.items → Some place ≡ position (λ t. t.number == x.ticket) seen
+    → IsRecordedAt old.tickets.items place x.integration x.outcome new.tickets.items
+    → OnOk r (after ≡ before ++ named (codes "reported") []) → OnOk r (Reports old new x before after)
+reports r old new x before after seen place same first at =
+    on_ok_weaker {Q = Reports old new x before after} r (λ (told : after ≡ before ++ named (codes "reported") []). record {
+      place = place;
+      first = ap (λ (ts : List TicketData). position (λ t. t.number == x.ticket) ts) (sym same) ∙ sym first;
+      recorded = at;
+      told = told;
+    })
+
+-- what a text says that was written, where it was
+pub told_ok : {T E S F : Type 0} (r : Result T E) (written : Result S F) (A : Type 0) → OnOk r (IsOk written) → OnOk written A → OnOk r A
+told_ok (Ok x) (Ok y) A ok a = a
+told_ok (Ok x) (Err f) A ok a = absurd (true≢false (sym ok))
+told_ok (Err e) written A ok a = tt
+
+-- a new board, whose opening was told
+pub opens : {T E S F : Type 0} (r : Result T E) (written : Result S F) (new : Session) (x : Opening) (before after : List Token)
+    → OnOk r (IsOk written) → new.board ≡ opening x.config HOME → new.tickets.items ≡ []
+    → OnOk written (after ≡ before ++ opened_tokens x.ignored) → OnOk r (Opens new x before after)
+opens r written new x before after ok board tickets told =
+    on_ok_weaker {Q = Opens new x before after} r (λ (is : after ≡ before ++ opened_tokens x.ignored). (board, tickets, is))
+    (told_ok r written (after ≡ before ++ opened_tokens x.ignored) ok told)
+
+-- a note of the notice that was found
+pub notes : {T E : Type 0} (r : Result T E) (old new : Session) (n : Noting) (before after : List Token) (place : ℕ) (ticket noted : TicketData) (notice : ℕ)
+    → IsFirst n.ticket old.tickets.items place ticket → Some notice ≡ position (λ x. x.integration == n.integration) ticket.notices
+    → noted ≡ ticket
+    → ((x : Record) × IsNoteOf 0 n.now noted notice x × (new.board ≡ with_record old.board x) × IsReplyAt old.board x.call x.reply)
+    → OnOk r (after ≡ before ++ reply_tokens new.board.config reply.Noted) → OnOk r (Notes old new n before after)
+notes r old new n before after place ticket noted notice at noticed same made =
+    on_ok_weaker {Q = Notes old new n before after} r (λ (told : after ≡ before ++ reply_tokens new.board.config reply.Noted). record {
+      place = place;
+      ticket = ticket;
+      at = at;
+      notice = notice;
+      noticed = sym noticed;
+      r = made.0;
+      note = subst (λ (t : TicketData). IsNoteOf 0 n.now t notice made.0) same made.1;
+      due = made.3;
+      recorded = made.2;
+      told = told ∙ ap (λ (b : BoardData). before ++ reply_tokens b.config reply.Noted) made.2;
+    })
+
+-- a finish of the ticket that was found
+pub finishes : {T E : Type 0} (r : Result T E) (old new : Session) (f : Finishing) (before after : List Token) (place : ℕ) (ticket : TicketData)
+    → IsFirst f.ticket old.tickets.items place ticket → new.tickets.items ≡ remove old.tickets.items place
+    → OnOk r (Makes old new (call.Finish f.now ticket.number ticket.outcomes) before after) → OnOk r (Finishes old new f before after)
+finishes r old new f before after place ticket at tickets =
+    on_ok_weaker {Q = Finishes old new f before after} r
+    (λ (makes : Makes old new (call.Finish f.now ticket.number ticket.outcomes) before after). record {
+      place = place;
+      ticket = ticket;
+      at = at;
+      makes = makes;
+      tickets = tickets;
+    })
+
+-- a load of the row that is named
+pub loads : {T E : Type 0} (r : Result T E) (old new : Session) (l : Loading) (row : RowView) (config : Config) (before after : List Token)
+    → config ≡ old.board.config → IsRowOf config l.row row → OnOk r (Makes old new (call.Load l.now row) before after)
+    → OnOk r (Loads old new l before after)
+loads r old new l row config before after is_config is =
+    on_ok_weaker {Q = Loads old new l before after} r (λ (makes : Makes old new (call.Load l.now row) before after). record {
+      row = row;
+      is = subst (λ (c : Config). IsRowOf c l.row row) is_config is;
+      makes = makes;
+    })
+
+-- the records that follow those that were handed out are those that are kept
+pub kept : (board : BoardData) (records : List Record) → board.handed ++ records ≡ board.history → records ≡ kept_of board
+kept board records is = sym (drop-append_seam board.handed records) ∙ ap (drop (length board.handed)) is
+
+-- they follow them
+pub follow : (board : BoardData) (records : List Record) → board.handed ++ records ≡ board.history → board.history ≡ board.handed ++ kept_of board
+follow board records is = sym is ∙ ap (λ (rs : List Record). board.handed ++ rs) (kept board records is)
+
+-- what was handed out after a taking: these too
+pub handed_follow : (old new : BoardData) → new ≡ handed_out old → old.history ≡ old.handed ++ kept_of old → new.handed ≡ old.handed ++ kept_of old
+handed_follow old new after follow = ap (λ (b : BoardData). b.handed) after ∙ follow
+
+-- it is the whole history
+pub handed_legal : (old new : BoardData) → new ≡ handed_out old → IsLegal old.config old.id old.history → IsLegal new.config new.id new.handed
+handed_legal old new after legal = subst (λ (b : BoardData). IsLegal b.config b.id b.handed) (sym after) legal
+
+-- what is told of the records that are kept
+pub told_taken : (board : BoardData) (config : Config) (records : List Record) (fresh after : List Token)
+    → config ≡ board.config → records ≡ kept_of board → fresh ≡ []
+    → after ≡ fresh ++ listed (codes "taken") (record_tokens config) records → after ≡ taken_tokens board
+told_taken board config records fresh after is_config are is_fresh told =
+    told ∙ ap (λ (t : List Token). t ++ listed (codes "taken") (record_tokens config) records) is_fresh
+    ∙ ap (λ (c : Config). listed (codes "taken") (record_tokens c) records) is_config
+    ∙ ap (λ (rs : List Record). listed (codes "taken") (record_tokens board.config) rs) are

@@ -1,0 +1,8 @@
+use Rattle.am_dispatch.proofs.Making.{follow, kept}
+use Rattle.am_dispatch.proofs.session.Session.kept.Goals as goal
+
+pub returns-clause-records : goal.returns-clause-records
+returns-clause-records c = kept _ _ c.history.ensures.history
+
+pub returns-clause-follow : goal.returns-clause-follow
+returns-clause-follow c = follow _ _ c.history.ensures.history

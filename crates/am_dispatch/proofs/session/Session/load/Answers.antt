@@ -1,0 +1,9 @@
+use Rattle.am_dispatch.proofs.Making.{loads, made, untold_leaves}
+use Rattle.am_dispatch.proofs.session.Session.load.Goals as goal
+
+pub returns-in-Ok-clause-told : goal.returns-in-Ok-clause-told
+returns-in-Ok-clause-told c =
+    loads _ _ _ _ _ _ _ _ c.config.ensures.config c.in-Some.ensures (made _ _ _ _ _ _ _ c.in-Ok.ensures.reply c.in-Ok.ensures.recorded c.tell.ensures.told)
+
+pub returns-in-Ok-clause-refused : goal.returns-in-Ok-clause-refused
+returns-in-Ok-clause-refused c = untold_leaves _ _ _ _ _ c.tell.ensures.untold

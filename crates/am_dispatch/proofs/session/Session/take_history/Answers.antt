@@ -1,0 +1,14 @@
+use Rattle.std.proofs.Common.{refl}
+use Rattle.am_dispatch.proofs.Making.{handed_follow, handed_legal}
+use Rattle.am_dispatch.proofs.session.Session.take_history.Goals as goal
+
+pub returns-in-Ok-clause-told : goal.returns-in-Ok-clause-told
+returns-in-Ok-clause-told c = (
+  record {
+    board = c.in-Ok.ensures.after;
+    follow = handed_follow _ _ c.in-Ok.ensures.after c.in_ok-line.ensures.follow;
+    legal = handed_legal _ _ c.in-Ok.ensures.after c.in_ok-line.ensures.legal;
+    tickets = refl;
+  },
+  c.in_ok-line.ensures.line,
+)

@@ -1,0 +1,11 @@
+use Rattle.std.proofs.Common.{◌≡◌, ◌++◌, take}
+use Rattle.std.specs.List.{flat_map}
+use Rattle.am_model.specs.Ticket.{outcome_of}
+use Rattle.am_lines.specs.Record.{report_tokens}
+use Rattle.am_dispatch.proofs.ticket.add_reports.Given as goal
+
+-- the reports so far were added
+abbrev pub invariant-loop-place : goal.invariant-loop-place
+invariant-loop-place l =
+    l.answer
+    ≡ l.fn.answer ++ flat_map (λ n. report_tokens n.integration (outcome_of l.ticket.outcomes n.integration)) (take l.place l.ticket.notices)

@@ -1,0 +1,178 @@
+-- Session: what a session does with what a line asks, and what the answer tells.
+use Rattle.std.specs.Prelude.{◌≡◌, ◌≢◌, ◌==◌, ℕ, List, [], ◌∷◌, ◌++◌, Some, codes, remove}
+use Rattle.std.specs.List.{position}
+use Rattle.json.specs.Print.{print}
+use Rattle.json.specs.Token.{Token}
+use Rattle.serde_json.specs.Data.{Data}
+use Rattle.serde_json.specs.Read.{read}
+use Rattle.am_cli.specs.declared.reader.Dialect.TheVariants.{Strict}
+use Rattle.am_model.specs.declared.views.Summary.{Summary}
+use Rattle.am_model.specs.declared.record.Call.{Call}
+use Rattle.am_model.specs.declared.record.Call.TheVariants as call
+use Rattle.am_model.specs.declared.record.Record.{Record}
+use Rattle.am_model.specs.declared.record.Reply.{Reply}
+use Rattle.am_model.specs.declared.record.Reply.TheVariants as reply
+use Rattle.am_model.specs.Begin.{next_due}
+use Rattle.am_model.specs.declared.views.RowView.{RowView}
+use Rattle.am_model.specs.Records.{call_of_silence, entry, IsNoteOf}
+use Rattle.am_model.specs.Replay.{IsLegal}
+use Rattle.am_model.specs.Ticket.{TicketData}
+use Rattle.am_model.specs.Views.{group_views, row_views, summary, summary_data}
+use Rattle.am_model.specs.look_back.Preview.{preview}
+use Rattle.am_board.specs.declared.begin.Begun.{Begun}
+use Rattle.am_board.specs.declared.begin.Begun.TheVariants as begun
+use Rattle.am_board.specs.History.{BoardData, IsFresh, IsReplyAt, handed_out, kept_of, opening as opening_board, reply_of, state_at, with_record}
+use Rattle.am_lines.specs.declared.fault.LineFault.{LineFault}
+use Rattle.am_lines.specs.declared.fault.LineFault.TheVariants as fault
+use Rattle.am_lines.specs.declared.request.Finishing.{Finishing}
+use Rattle.am_lines.specs.declared.request.Loading.{Loading}
+use Rattle.am_lines.specs.declared.request.Noting.{Noting}
+use Rattle.am_lines.specs.declared.request.Reporting.{Reporting}
+use Rattle.am_lines.specs.declared.request.Opening.{Opening}
+use Rattle.am_lines.specs.declared.request.Request.{Request}
+use Rattle.am_lines.specs.declared.request.Request.TheVariants as request
+use Rattle.am_lines.specs.Record.{record_tokens}
+use Rattle.am_lines.specs.Reply.{named, opened_tokens, reply_tokens}
+use Rattle.am_lines.specs.Request.{IsRequestIn}
+use Rattle.am_lines.specs.View.{due_tokens, group_view_tokens, listed, outlook_tokens, row_tokens, summary_tokens}
+use Rattle.am_dispatch.specs.Row.{IsRowOf}
+use Rattle.am_dispatch.specs.Ticket.{IsFirst, IsNoticeAt, IsRecordedAt, ticket_tokens}
+use Rattle.am_dispatch.specs.declared.session.Session.{Session}
+use Rattle.am_dispatch.specs.declared.ticket.TheConstants.{HOME}
+
+-- the board and the tickets are as they were
+abbrev pub IsSame : Session → Session → Type 0
+IsSame old new = (new.board ≡ old.board) × (new.tickets.items ≡ old.tickets.items)
+
+-- what a fault leaves: all as it was, unless the call was made and its answer can't be told, or the ticket of a finish was spent
+abbrev pub Leaves : Session → Session → LineFault → Type 0
+Leaves old new f = f ≢ fault.Untold → f ≢ fault.Spent → IsSame old new
+
+-- the board makes this call: it records it with the reply that the definitions give, and the answer tells that reply
+pub record MakesWith (old new : Session) (made : Call) (reply : Reply) (before after : List Token) : Type 0 where
+  pub due : IsReplyAt old.board made reply
+  pub recorded : new.board ≡ with_record old.board (entry 0 made reply)
+  pub told : after ≡ before ++ reply_tokens old.board.config reply
+
+abbrev pub Makes : Session → Session → Call → List Token → List Token → Type 0
+Makes old new made before after = (reply : Reply) × MakesWith old new made reply before after
+
+-- the tickets after a begin: one more where a flush was opened
+abbrev pub KeepsTicket : Begun → List TicketData → List TicketData → Type 0
+KeepsTicket begun.NothingDue old new = new ≡ old
+KeepsTicket (begun.Quiet group removed) old new = new ≡ old
+KeepsTicket (begun.Flush ticket) old new = new ≡ old ++ ticket ∷ []
+
+-- a begin, whose ticket is kept
+pub record BeginsWith (old new : Session) (now : ℕ) (b : Begun) (before after : List Token) : Type 0 where
+  pub makes : MakesWith old new (call.Begin now) (reply_of b) before after
+  pub fresh : IsFresh HOME b
+  pub tickets : KeepsTicket b old.tickets.items new.tickets.items
+
+abbrev pub Begins : Session → Session → ℕ → List Token → List Token → Type 0
+Begins old new now before after = (b : Begun) × BeginsWith old new now b before after
+
+-- a report is recorded in its ticket
+pub record Reports (old new : Session) (r : Reporting) (before after : List Token) : Type 0 where
+  pub place : ℕ
+  pub first : position (λ t. t.number == r.ticket) old.tickets.items ≡ Some place
+  pub recorded : IsRecordedAt old.tickets.items place r.integration r.outcome new.tickets.items
+  pub told : after ≡ before ++ named (codes "reported") []
+
+-- a note of the notice of an integration of a ticket
+pub record Notes (old new : Session) (n : Noting) (before after : List Token) : Type 0 where
+  pub place : ℕ
+  pub ticket : TicketData
+  pub at : IsFirst n.ticket old.tickets.items place ticket
+  pub notice : ℕ
+  pub noticed : IsNoticeAt n.integration ticket.notices notice
+  pub r : Record
+  pub note : IsNoteOf 0 n.now ticket notice r
+  pub due : IsReplyAt old.board r.call r.reply
+  pub recorded : new.board ≡ with_record old.board r
+  pub told : after ≡ before ++ reply_tokens old.board.config reply.Noted
+
+-- a finish, which takes the ticket
+pub record Finishes (old new : Session) (f : Finishing) (before after : List Token) : Type 0 where
+  pub place : ℕ
+  pub ticket : TicketData
+  pub at : IsFirst f.ticket old.tickets.items place ticket
+  pub makes : Makes old new (call.Finish f.now ticket.number ticket.outcomes) before after
+  pub tickets : new.tickets.items ≡ remove old.tickets.items place
+
+-- a load of the row that is named
+pub record Loads (old new : Session) (l : Loading) (before after : List Token) : Type 0 where
+  pub row : RowView
+  pub is : IsRowOf old.board.config l.row row
+  pub makes : Makes old new (call.Load l.now row) before after
+
+-- a view changes nothing, and the answer tells these
+abbrev pub Shows : Session → Session → List Token → List Token → List Token → Type 0
+Shows old new tokens before after = IsSame old new × (after ≡ before ++ tokens)
+
+-- the answer tells what a board has in all
+abbrev pub TellsSummary : BoardData → List Token → List Token → Type 0
+TellsSummary board before after =
+    (s : Summary) × (summary_data s ≡ summary board.config board.history) × (after ≡ before ++ summary_tokens s)
+
+-- the records that a board keeps
+abbrev pub taken_tokens : BoardData → List Token
+taken_tokens board = listed (codes "taken") (record_tokens board.config) (kept_of board)
+
+-- the board has handed out the records that it kept behind those before, all of them one legal history, and nothing else changed
+pub record HandsOut (old new : Session) : Type 0 where
+  pub board : new.board ≡ handed_out old.board
+  pub follow : new.board.handed ≡ old.board.handed ++ kept_of old.board
+  pub legal : IsLegal new.board.config new.board.id new.board.handed
+  pub tickets : new.tickets.items ≡ old.tickets.items
+
+-- it has, and the line has these records
+abbrev pub Takes : Session → Session → List ℕ → Type 0
+Takes old new text = HandsOut old new × (text ≡ print (taken_tokens old.board) ++ 10 ∷ [])
+
+-- a new board in the place of the old one
+abbrev pub Opens : Session → Opening → List Token → List Token → Type 0
+Opens new opening before after =
+    (new.board ≡ opening_board opening.config HOME) × (new.tickets.items ≡ []) × (after ≡ before ++ opened_tokens opening.ignored)
+
+-- the session does what is asked, and the answer tells it
+abbrev pub Does : Session → Request → Session → List Token → List Token → Type 0
+Does old (request.Open opening) new before after = Opens new opening before after
+Does old (request.Insert x) new before after =
+    Makes old new (call.Insert x.now x.alert) before after × (new.tickets.items ≡ old.tickets.items)
+Does old (request.Silence x) new before after =
+    Makes old new (call_of_silence x.now x.silence) before after × (new.tickets.items ≡ old.tickets.items)
+Does old (request.Begin x) new before after = Begins old new x.now before after
+Does old (request.Report x) new before after = Reports old new x before after × (new.board ≡ old.board)
+Does old (request.Note x) new before after = Notes old new x before after × (new.tickets.items ≡ old.tickets.items)
+Does old (request.Finish x) new before after = Finishes old new x before after
+Does old (request.Maintain x) new before after =
+    Makes old new (call.Maintain x.now) before after × (new.tickets.items ≡ old.tickets.items)
+Does old (request.Forget x) new before after =
+    Makes old new (call.Forget x.now) before after × (new.tickets.items ≡ old.tickets.items)
+Does old (request.Load x) new before after = Loads old new x before after × (new.tickets.items ≡ old.tickets.items)
+Does old request.NextDue new before after = Shows old new (due_tokens (next_due (state_at old.board))) before after
+Does old (request.Outlook x) new before after =
+    Shows old new (outlook_tokens old.board.config (preview old.board.config old.board.history x.now)) before after
+Does old request.Rows new before after =
+    Shows old new (listed (codes "rows") (row_tokens old.board.config) (row_views (state_at old.board))) before after
+Does old request.Groups new before after =
+    Shows old new (listed (codes "groups") (group_view_tokens old.board.config) (group_views (state_at old.board))) before after
+Does old request.Summary new before after = IsSame old new × TellsSummary old.board before after
+Does old request.Tickets new before after =
+    Shows old new (listed (codes "tickets") (ticket_tokens old.board.config) old.tickets.items) before after
+Does old request.TakeHistory new before after = HandsOut old new × (after ≡ before ++ taken_tokens old.board)
+
+-- the line is the JSON text of what asks this
+abbrev pub IsAsked : List ℕ → Request → Type 0
+IsAsked line request = (value : Data) × (read line ≡ Some value) × IsRequestIn Strict value request
+
+-- the session does what is asked, and the text tells it: its tokens, and a line feed
+pub record IsTold (old : Session) (request : Request) (text : List ℕ) (new : Session) : Type 0 where
+  pub tokens : List Token
+  pub does : Does old request new [] tokens
+  pub text_is : text ≡ print tokens ++ 10 ∷ []
+
+-- the line asks something of the session, and the text tells what it did
+abbrev pub IsAnswered : Session → List ℕ → List ℕ → Session → Type 0
+IsAnswered old line text new = (request : Request) × IsAsked line request × IsTold old request text new

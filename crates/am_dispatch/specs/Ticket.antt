@@ -1,0 +1,41 @@
+-- Ticket: the JSON tokens of what is told of the open flushes.
+use Rattle.std.specs.Prelude.{◌≡◌, ℕ, ◌==◌, List, ◌∷◌, ◌++◌, Some, codes, slice_get, slice_set}
+use Rattle.std.specs.List.{position}
+use Rattle.json.specs.Token.{Token, key}
+use Rattle.am_retry.specs.declared.outcome.Outcome.{Outcome}
+use Rattle.am_model.specs.declared.config.Config.{Config}
+use Rattle.am_model.specs.declared.notice.Report.{Report}
+use Rattle.am_model.specs.Notice.{NoticeData}
+use Rattle.am_model.specs.Ticket.{TicketData, outcome_of, recorded}
+use Rattle.am_lines.specs.Answer.{object, array}
+use Rattle.am_lines.specs.Record.{report_tokens}
+use Rattle.am_lines.specs.Reply.{flush_members}
+use Rattle.am_dispatch.specs.declared.ticket.TheConstants.{HOME}
+
+-- the report of how the sending to an integration ended. How often it was attempted, and until when, isn't told
+abbrev pub report_on : TicketData → ℕ → Outcome → Report
+report_on t integration outcome =
+    record { desk = HOME; ticket = t.number; integration = integration; outcome = outcome; attempts = 1; ended = 0 }
+
+-- what was reported on each notice of a ticket
+abbrev pub reports_tokens : TicketData → List Token
+reports_tokens t = array (λ n. report_tokens n.integration (outcome_of t.outcomes n.integration)) t.notices
+
+-- an open flush: its ticket as the begin told it, and what was reported since
+abbrev pub ticket_tokens : Config → TicketData → List Token
+ticket_tokens config t =
+    object (flush_members config t.number t.group t.deadline t.notices ++ key (codes "reports") ∷ reports_tokens t)
+
+-- the first of these tickets that has this number, at this place
+pub record IsFirst (number : ℕ) (tickets : List TicketData) (place : ℕ) (ticket : TicketData) : Type 0 where
+  pub first : position (λ t. t.number == number) tickets ≡ Some place
+  pub held : slice_get tickets place ≡ Some ticket
+
+-- how the sending to an integration ended is recorded in the ticket at a place
+abbrev pub IsRecordedAt : List TicketData → ℕ → ℕ → Outcome → List TicketData → Type 0
+IsRecordedAt old place integration outcome new =
+    (ticket : TicketData) × (slice_get old place ≡ Some ticket) × (new ≡ slice_set old place (recorded ticket (report_on ticket integration outcome)))
+
+-- the notice of an integration is at this place
+abbrev pub IsNoticeAt : ℕ → List NoticeData → ℕ → Type 0
+IsNoticeAt integration notices place = position (λ n. n.integration == integration) notices ≡ Some place

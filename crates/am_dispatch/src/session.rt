@@ -1,0 +1,20 @@
+//! `Session`: a board, and the tickets of its open flushes. `serve` has one from the first configuration on.
+//!
+//! `calls` has what it does.
+ghost use Rattle.std.specs.Prelude.{◌≡◌};
+ghost use Rattle.am_dispatch.specs.declared.ticket.TheConstants.{HOME};
+
+mod calls;
+
+use crate::ticket::HOME;
+use am_board::board::Board;
+use am_board::own_ticket::OwnTicket;
+
+/// A board, and the tickets of its open flushes in the order of their begins.
+///
+/// A ticket can't be let go: `close` takes a session apart.
+pub struct Session {
+    board: Board,
+    tickets: Vec<OwnTicket<HOME>>,
+    ghost ours: { board.id ≡ HOME },
+}

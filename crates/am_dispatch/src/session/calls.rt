@@ -1,0 +1,426 @@
+//! What a session does with what a line asks: the calls of its board, and the answers. `serve` calls `open`, `answer` and `close`.
+ghost use Rattle.std.specs.Prelude.{◌≡◌, ◌≢◌, ◌<◌, ◌++◌, [], ◌∷◌, codes, IfErr, IfOk, IsOk, OnOk, vec_capacity, vec_len};
+ghost use Rattle.json.specs.Print.{print};
+ghost use Rattle.am_model.specs.Begin.{next_due};
+ghost use Rattle.am_model.specs.Records.{call_of_silence};
+ghost use Rattle.am_model.specs.Replay.{IsLegal};
+ghost use Rattle.am_model.specs.Views.{group_views, row_views};
+ghost use Rattle.am_model.specs.look_back.Preview.{preview};
+ghost use Rattle.am_board.specs.History.{IsFresh, kept_of, opening, reply_of, state_at};
+ghost use Rattle.am_lines.specs.Reply.{flush_tokens, reply_tokens};
+ghost use Rattle.am_lines.specs.View.{due_tokens, group_view_tokens, listed, outlook_tokens, row_tokens};
+ghost use Rattle.am_dispatch.specs.Session.{Begins, Does, Finishes, IsSame, KeepsTicket, Leaves, Loads, Makes, Notes, Opens, Reports, Takes};
+ghost use Rattle.am_dispatch.specs.Session.{TellsSummary, taken_tokens};
+ghost use Rattle.am_dispatch.specs.Ticket.{ticket_tokens};
+ghost use Rattle.am_dispatch.specs.declared.ticket.TheConstants.{HOME};
+
+use crate::row::row_of;
+use crate::session::Session;
+use crate::ticket::{HOME, find_notice, find_ticket, record_at, write_tickets};
+use am_board::begin::Begun;
+use am_board::board::Board;
+use am_board::config::Config;
+use am_board::fault::{BoardFault, LoadFault, NoteFault, TakeFault};
+use am_board::own_ticket::OwnTicket;
+use am_board::record::{Call, Record, Reply};
+use am_board::ticket::Ticket;
+use am_lines::answer::Answer;
+use am_lines::fault::LineFault;
+use am_lines::reply::{write_flush, write_named, write_opened, write_reply};
+use am_lines::request::{
+    Finishing, Insertion, Loading, Noting, Opening, Reporting, Request, Silencing,
+};
+use am_lines::view::{write_due, write_list, write_outlook, write_summary};
+use std::alloc::{AllocError, Global};
+use std::mem::replace;
+
+/// The pass of each call: one process makes them all.
+const PASS: u32 = 0;
+
+impl Session {
+    /// Returns a session whose board has this configuration.
+    pub fn open(alloc: Global, config: Config) -> Result<Session, LineFault>
+        ensures board { IfOk result (λ session. session.board ≡ opening config HOME) }
+        ensures tickets { IfOk result (λ session. session.tickets.items ≡ []) }
+    {
+        let board = open_board(alloc, config)?;
+        Ok(Session {
+            board,
+            tickets: Vec::new(alloc),
+        })
+    }
+
+    /// Does what a line asks, and writes the answer. For the history there is `take_history`.
+    pub fn answer(
+        &mut self,
+        alloc: Global,
+        request: Request,
+        answer: &mut Answer,
+    ) -> Result<(), LineFault>
+        requires { request ≢ Request.TakeHistory }
+        ensures told { OnOk result (Does self.old request self.new answer.old answer.new) }
+        ensures refused { IfErr result (Leaves self.old self.new) }
+    {
+        match request {
+            Request::Open(opening) => self.reopen(alloc, opening, answer),
+            Request::Insert(insertion) => self.insert(alloc, insertion, answer),
+            Request::Silence(silencing) => self.silence(alloc, silencing, answer),
+            Request::Begin(timed) => self.begin(alloc, timed.now, answer),
+            Request::Report(reporting) => self.report(reporting, answer),
+            Request::Note(noting) => self.note(alloc, noting, answer),
+            Request::Finish(finishing) => self.finish(finishing, answer),
+            Request::Maintain(timed) => self.maintain(alloc, timed.now, answer),
+            Request::Forget(timed) => self.forget(alloc, timed.now, answer),
+            Request::Load(loading) => self.load(alloc, loading, answer),
+            Request::NextDue => self.show_due(answer),
+            Request::Outlook(timed) => self.show_outlook(alloc, timed.now, answer),
+            Request::Rows => self.show_rows(alloc, answer),
+            Request::Groups => self.show_groups(alloc, answer),
+            Request::Summary => self.show_summary(answer),
+            Request::Tickets => self.show_tickets(answer),
+            Request::TakeHistory => unreachable!(),
+        }
+    }
+
+    /// Finishes the open flushes with what was reported, and has a new board in the place of the old one.
+    fn reopen(
+        &mut self,
+        alloc: Global,
+        asked: Opening,
+        answer: &mut Answer,
+    ) -> Result<(), LineFault>
+        ensures told { OnOk result (Opens self.new asked answer.old answer.new) }
+        ensures refused { IfErr result (Leaves self.old self.new) }
+    {
+        let Opening { config, ignored } = asked;
+        let board = open_board(alloc, config)?;
+        finish_all(&mut self.board, replace(&mut self.tickets, Vec::new(alloc)));
+        self.board = board;
+        told(write_opened(&ignored, answer))
+    }
+
+    fn insert(
+        &mut self,
+        alloc: Global,
+        insertion: Insertion,
+        answer: &mut Answer,
+    ) -> Result<(), LineFault>
+        ensures told { OnOk result
+            (Makes self.old self.new (Call.Insert insertion.now insertion.alert) answer.old answer.new) }
+        ensures tickets { self.new.tickets.items ≡ self.old.tickets.items }
+        ensures refused { IfErr result (Leaves self.old self.new) }
+    {
+        let Insertion { now, alert } = insertion;
+        match self.board.insert(alloc, PASS, now, alert) {
+            Ok(inserted) => self.tell(&Reply::Inserted(inserted), answer),
+            Err(fault) => Err(LineFault::of_board("/insert", fault)),
+        }
+    }
+
+    fn silence(
+        &mut self,
+        alloc: Global,
+        silencing: Silencing,
+        answer: &mut Answer,
+    ) -> Result<(), LineFault>
+        ensures told { OnOk result
+            (Makes self.old self.new (call_of_silence silencing.now silencing.silence) answer.old answer.new) }
+        ensures tickets { self.new.tickets.items ≡ self.old.tickets.items }
+        ensures refused { IfErr result (Leaves self.old self.new) }
+    {
+        let Silencing { now, silence } = silencing;
+        match self.board.silence(alloc, PASS, now, silence) {
+            Ok(silenced) => self.tell(&Reply::Silenced(silenced), answer),
+            Err(fault) => Err(LineFault::of_board("/silence", fault)),
+        }
+    }
+
+    fn begin(&mut self, alloc: Global, now: u64, answer: &mut Answer) -> Result<(), LineFault>
+        ensures told { OnOk result (Begins self.old self.new now answer.old answer.new) }
+        ensures refused { IfErr result (Leaves self.old self.new) }
+    {
+        // (the memory for a ticket comes before the ticket)
+        self.tickets.reserve(1)?;
+        match self.board.begin(alloc, PASS, now) {
+            Ok(begun) => self.keep(begun, answer),
+            Err(fault) => Err(LineFault::of_board("/begin", fault)),
+        }
+    }
+
+    /// Writes the answer to a begin, and keeps its ticket where it has one.
+    fn keep(&mut self, begun: Begun, answer: &mut Answer) -> Result<(), LineFault>
+        requires fresh { IsFresh HOME begun }
+        requires room { vec_len self.old.tickets < vec_capacity self.old.tickets }
+        ensures told { OnOk result (answer.new ≡ answer.old ++ reply_tokens self.old.board.config (reply_of begun)) }
+        ensures untold { IfErr result (λ fault. fault ≡ LineFault.Untold) }
+        ensures board { self.new.board ≡ self.old.board }
+        ensures tickets { KeepsTicket begun self.old.tickets.items self.new.tickets.items }
+    {
+        match begun {
+            Begun::NothingDue => self.tell(&Reply::NothingDue, answer),
+            Begun::Quiet { group, removed } => self.tell(&Reply::Quiet { group, removed }, answer),
+            Begun::Flush(ticket) => self.keep_ticket(ticket, answer),
+        }
+    }
+
+    /// Keeps the ticket of a flush that was begun, and writes the answer.
+    fn keep_ticket(&mut self, ticket: Ticket, answer: &mut Answer) -> Result<(), LineFault>
+        requires ours { ticket.desk ≡ HOME }
+        requires room { vec_len self.old.tickets < vec_capacity self.old.tickets }
+        ensures told { OnOk result (answer.new ≡ answer.old
+            ++ flush_tokens self.old.board.config ticket.number ticket.group ticket.deadline ticket.notices) }
+        ensures untold { IfErr result (λ fault. fault ≡ LineFault.Untold) }
+        ensures board { self.new.board ≡ self.old.board }
+        ensures tickets { self.new.tickets.items ≡ self.old.tickets.items ++ ticket ∷ [] }
+    {
+        let written = write_begun(self.board.config(), &ticket, answer);
+        self.tickets.push_reserved(OwnTicket::new(ticket));
+        told(written)
+    }
+
+    fn report(&mut self, reporting: Reporting, answer: &mut Answer) -> Result<(), LineFault>
+        ensures told { OnOk result (Reports self.old self.new reporting answer.old answer.new) }
+        ensures board { self.new.board ≡ self.old.board }
+        ensures refused { IfErr result (Leaves self.old self.new) }
+    {
+        let Some(place) = find_ticket(self.tickets.as_slice(), reporting.ticket) else {
+            return Err(LineFault::not_open("/report/ticket"));
+        };
+        match record_at(
+            &mut self.tickets,
+            place,
+            reporting.integration,
+            reporting.outcome,
+        ) {
+            Ok(()) => told(write_named("reported", answer)),
+            Err(fault) => Err(LineFault::of_report(fault)),
+        }
+    }
+
+    fn note(&mut self, alloc: Global, noting: Noting, answer: &mut Answer) -> Result<(), LineFault>
+        ensures told { OnOk result (Notes self.old self.new noting answer.old answer.new) }
+        ensures tickets { self.new.tickets.items ≡ self.old.tickets.items }
+        ensures refused { IfErr result (Leaves self.old self.new) }
+    {
+        let Some(place) = find_ticket(self.tickets.as_slice(), noting.ticket) else {
+            return Err(LineFault::not_open("/note/ticket"));
+        };
+        let own = &self.tickets[place];
+        let Some(notice) = find_notice(own, noting.integration) else {
+            return Err(LineFault::of_note(NoteFault::NotReady));
+        };
+        match self
+            .board
+            .note(alloc, PASS, own.ticket(), notice, noting.now)
+        {
+            Ok(_) => self.tell(&Reply::Noted, answer),
+            Err(fault) => Err(LineFault::of_note(fault)),
+        }
+    }
+
+    fn finish(&mut self, finishing: Finishing, answer: &mut Answer) -> Result<(), LineFault>
+        ensures told { OnOk result (Finishes self.old self.new finishing answer.old answer.new) }
+        ensures refused { IfErr result (Leaves self.old self.new) }
+    {
+        let Some(place) = find_ticket(self.tickets.as_slice(), finishing.ticket) else {
+            return Err(LineFault::not_open("/finish/ticket"));
+        };
+        let own = self.tickets.remove(place);
+        match self.board.finish_own(PASS, own, finishing.now) {
+            Ok(finished) => self.tell(&Reply::Finished(finished), answer),
+            Err(_not_open) => Err(LineFault::Spent),
+        }
+    }
+
+    /// Takes over a row of another board's log.
+    fn load(
+        &mut self,
+        alloc: Global,
+        loading: Loading,
+        answer: &mut Answer,
+    ) -> Result<(), LineFault>
+        ensures told { OnOk result (Loads self.old self.new loading answer.old answer.new) }
+        ensures tickets { self.new.tickets.items ≡ self.old.tickets.items }
+        ensures refused { IfErr result (Leaves self.old self.new) }
+    {
+        let Loading { now, row } = loading;
+        let Some(row) = row_of(self.board.config(), row) else {
+            return Err(LineFault::of_load(LoadFault::NoIntegration));
+        };
+        match self.board.load(alloc, PASS, row, now) {
+            Ok(loaded) => self.tell(&Reply::Loaded(loaded), answer),
+            Err(fault) => Err(LineFault::of_load(fault)),
+        }
+    }
+
+    fn maintain(&mut self, alloc: Global, now: u64, answer: &mut Answer) -> Result<(), LineFault>
+        ensures told { OnOk result (Makes self.old self.new (Call.Maintain now) answer.old answer.new) }
+        ensures tickets { self.new.tickets.items ≡ self.old.tickets.items }
+        ensures refused { IfErr result (Leaves self.old self.new) }
+    {
+        match self.board.maintain(alloc, PASS, now) {
+            Ok(maintained) => self.tell(&Reply::Maintained(maintained), answer),
+            Err(fault) => Err(LineFault::of_board("/maintain", fault)),
+        }
+    }
+
+    fn forget(&mut self, alloc: Global, now: u64, answer: &mut Answer) -> Result<(), LineFault>
+        ensures told { OnOk result (Makes self.old self.new (Call.Forget now) answer.old answer.new) }
+        ensures tickets { self.new.tickets.items ≡ self.old.tickets.items }
+        ensures refused { IfErr result (Leaves self.old self.new) }
+    {
+        match self.board.forget(alloc, PASS, now) {
+            Ok(forgotten) => self.tell(&Reply::Forgotten(forgotten), answer),
+            Err(fault) => Err(LineFault::of_board("/forget", fault)),
+        }
+    }
+
+    /// Hands out the records that the board keeps, and returns the line that has them. The line is made first: where
+    /// something is refused, the board still keeps them.
+    pub fn take_history(&mut self, alloc: Global) -> Result<Vec<u8>, LineFault>
+        ensures told { IfOk result (λ text. Takes self.old self.new text.items) }
+        ensures tickets { self.new.tickets.items ≡ self.old.tickets.items }
+        ensures refused { IfErr result (Leaves self.old self.new) }
+    {
+        let line = self.history_line(alloc)?;
+        match self.board.take_history(alloc) {
+            Ok(_records) => Ok(line),
+            Err(TakeFault::NoMemory) => Err(LineFault::NoMemory),
+            Err(TakeFault::TooManyCalls) => Err(LineFault::NotMade {
+                place: "/take_history",
+                kind: "TooManyCalls",
+                message: "more records would be handed out than may be",
+            }),
+        }
+    }
+
+    /// The line that has the records that the board keeps. They follow those that were handed out before.
+    fn history_line(&self, alloc: Global) -> Result<Vec<u8>, AllocError>
+        ensures line { IfOk result (λ text. text.items ≡ print (taken_tokens self.now.board) ++ 10 ∷ []) }
+        ensures follow { self.now.board.history ≡ self.now.board.handed ++ kept_of self.now.board }
+        ensures legal { IsLegal self.now.board.config self.now.board.id self.now.board.history }
+    {
+        let mut answer = Answer::new(alloc);
+        write_list(self.board.config(), "taken", self.kept(), &mut answer)?;
+        answer.into_line()
+    }
+
+    /// The records that the board keeps.
+    fn kept(&self) -> &[Record]
+        ensures records { result.now ≡ kept_of self.now.board }
+        ensures follow { self.now.board.history ≡ self.now.board.handed ++ kept_of self.now.board }
+        ensures legal { IsLegal self.now.board.config self.now.board.id self.now.board.history }
+    {
+        self.board.history()
+    }
+
+    fn show_due(&self, answer: &mut Answer) -> Result<(), LineFault>
+        ensures { OnOk result (answer.new ≡ answer.old ++ due_tokens (next_due (state_at self.now.board))) }
+    {
+        Ok(write_due(self.board.next_due(), answer)?)
+    }
+
+    fn show_summary(&self, answer: &mut Answer) -> Result<(), LineFault>
+        ensures { OnOk result (TellsSummary self.now.board answer.old answer.new) }
+    {
+        Ok(write_summary(&self.board.summary(), answer)?)
+    }
+
+    fn show_tickets(&self, answer: &mut Answer) -> Result<(), LineFault>
+        ensures { OnOk result (answer.new ≡ answer.old
+            ++ listed (codes "tickets") (ticket_tokens self.now.board.config) self.now.tickets.items) }
+    {
+        Ok(write_tickets(self.board.config(), self.tickets.as_slice(), answer)?)
+    }
+
+    fn show_outlook(&self, alloc: Global, now: u64, answer: &mut Answer) -> Result<(), LineFault>
+        ensures { OnOk result (answer.new ≡ answer.old
+            ++ outlook_tokens self.now.board.config (preview self.now.board.config self.now.board.history now)) }
+    {
+        let preview = self.board.preview(alloc, now)?;
+        Ok(write_outlook(self.board.config(), preview.as_ref(), answer)?)
+    }
+
+    fn show_rows(&self, alloc: Global, answer: &mut Answer) -> Result<(), LineFault>
+        ensures { OnOk result (answer.new ≡ answer.old
+            ++ listed (codes "rows") (row_tokens self.now.board.config) (row_views (state_at self.now.board))) }
+    {
+        let rows = self.board.rows(alloc)?;
+        Ok(write_list(self.board.config(), "rows", rows.as_slice(), answer)?)
+    }
+
+    fn show_groups(&self, alloc: Global, answer: &mut Answer) -> Result<(), LineFault>
+        ensures { OnOk result (answer.new ≡ answer.old
+            ++ listed (codes "groups") (group_view_tokens self.now.board.config) (group_views (state_at self.now.board))) }
+    {
+        let groups = self.board.groups(alloc)?;
+        Ok(write_list(self.board.config(), "groups", groups.as_slice(), answer)?)
+    }
+
+    /// Writes the reply to a call that was made.
+    fn tell(&self, reply: &Reply, answer: &mut Answer) -> Result<(), LineFault>
+        ensures told { OnOk result (answer.new ≡ answer.old ++ reply_tokens self.now.board.config reply.now) }
+        ensures untold { IfErr result (λ fault. fault ≡ LineFault.Untold) }
+    {
+        told(write_reply(self.board.config(), reply, answer))
+    }
+
+    /// Ends the session: the flushes that are open are finished with what was reported.
+    pub fn close(self) {
+        let Session { mut board, tickets } = self;
+        finish_all(&mut board, tickets);
+    }
+}
+
+/// Writes the flush of a ticket that was begun.
+fn write_begun(config: &Config, ticket: &Ticket, answer: &mut Answer) -> Result<(), AllocError>
+    ensures { OnOk result (answer.new ≡ answer.old
+        ++ flush_tokens config.now ticket.now.number ticket.now.group ticket.now.deadline ticket.now.notices) }
+{
+    write_flush(
+        config,
+        ticket.number(),
+        ticket.group(),
+        ticket.deadline(),
+        ticket.notices(),
+        answer,
+    )
+}
+
+/// An empty board of the program.
+fn open_board(alloc: Global, config: Config) -> Result<Board, LineFault>
+    ensures { IfOk result (λ board. board ≡ opening config HOME) }
+{
+    match Board::new(alloc, config, HOME) {
+        Ok(board) => Ok(board),
+        Err(BoardFault::NoMemory) => Err(LineFault::NoMemory),
+        // (the readers of configurations look at them already)
+        Err(BoardFault::BadConfig(_)) => Err(LineFault::NotMade {
+            place: "",
+            kind: "value",
+            message: "no board has this configuration",
+        }),
+    }
+}
+
+/// Finishes these flushes with what was reported.
+fn finish_all(board: &mut Board, tickets: Vec<OwnTicket<HOME>>)
+    requires { board.old.id ≡ HOME }
+{
+    let mut left = tickets;
+    while !left.is_empty() {
+        let _ = board.finish_own(PASS, left.remove(0), 0);
+    }
+    left.destroy_empty();
+}
+
+/// A call was made: where its answer can't be written, that is said in its place.
+fn told(written: Result<(), AllocError>) -> Result<(), LineFault>
+    ensures ok { OnOk result (IsOk written) }
+    ensures err { IfErr result (λ fault. fault ≡ LineFault.Untold) }
+{
+    match written {
+        Ok(()) => Ok(()),
+        Err(_) => Err(LineFault::Untold),
+    }
+}

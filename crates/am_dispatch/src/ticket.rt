@@ -1,0 +1,162 @@
+//! The tickets of the flushes that are open, and what is told of them. `session` has them.
+ghost use Rattle.std.specs.Prelude.{◌≡◌, ◌<◌, ◌++◌, ◌∷◌, ◌==◌, IfSome, OnErr, OnOk, Some, codes, length, slice_get, vec_len};
+ghost use Rattle.std.specs.List.{flat_map, position};
+ghost use Rattle.json.specs.Token.{key};
+ghost use Rattle.am_lines.specs.Record.{report_tokens};
+ghost use Rattle.am_lines.specs.View.{listed};
+ghost use Rattle.am_model.specs.Ticket.{outcome_of, recorded};
+ghost use Rattle.am_dispatch.specs.Ticket.{IsRecordedAt, report_on, reports_tokens, ticket_tokens};
+
+use am_board::fault::ReportFault;
+use am_board::notice::{Notice, Report};
+use am_board::own_ticket::OwnTicket;
+use am_board::ticket::Ticket;
+use am_lines::answer::Answer;
+use am_lines::record::write_report;
+use am_lines::reply::put_flush;
+use am_model::config::Config;
+use am_retry::Outcome;
+use std::alloc::AllocError;
+
+/// The id of each board of the program, which its tickets carry. There is one board at a time, and its tickets are spent
+/// before the next.
+pub const HOME: u64 = 1;
+
+/// Records how the sending to an integration ended, in the ticket at a place.
+pub fn record_at(
+    tickets: &mut Vec<OwnTicket<HOME>>,
+    place: usize,
+    integration: u32,
+    outcome: Outcome,
+) -> Result<(), ReportFault>
+    requires { place < vec_len tickets.old }
+    ensures ok { OnOk result (IsRecordedAt tickets.old.items place integration outcome tickets.new.items) }
+    ensures err { OnErr result (tickets.new.items ≡ tickets.old.items) }
+{
+    record(&mut tickets[place], integration, outcome)
+}
+
+/// Records how the sending to an integration ended.
+fn record(own: &mut OwnTicket<HOME>, integration: u32, outcome: Outcome) -> Result<(), ReportFault>
+    ensures ok { OnOk result (own.new ≡ recorded own.old (report_on own.old integration outcome)) }
+    ensures err { OnErr result (own.new ≡ own.old) }
+{
+    let ticket = own.ticket().number();
+    own.record(Report {
+        desk: HOME,
+        ticket,
+        integration,
+        outcome,
+        attempts: 1,
+        ended: 0,
+    })
+}
+
+/// Returns the place of the first ticket of a number.
+pub fn find_ticket(tickets: &[OwnTicket<HOME>], number: u64) -> Option<usize>
+    ensures within { IfSome result (λ place. place < length tickets.now) }
+    ensures first { result ≡ position (λ t. t.number == number) tickets.now }
+{
+    tickets.iter().position(|own| number_of(own) == number)
+}
+
+fn number_of(own: &OwnTicket<HOME>) -> u64
+    ensures { result ≡ own.now.number }
+{
+    own.ticket().number()
+}
+
+/// Returns the place of the notice of an integration in a ticket.
+pub fn find_notice(own: &OwnTicket<HOME>, integration: u32) -> Option<usize>
+    ensures { result ≡ position (λ n. n.integration == integration) own.now.notices }
+{
+    place_of_notice(own.ticket().notices(), integration)
+}
+
+fn place_of_notice(notices: &[Notice], integration: u32) -> Option<usize>
+    ensures { result ≡ position (λ n. n.integration == integration) notices.now }
+{
+    notices
+        .iter()
+        .position(|notice| notice.integration == integration)
+}
+
+/// Writes the flushes that are open: `{"tickets":[..]}`.
+pub fn write_tickets(
+    config: &Config,
+    tickets: &[OwnTicket<HOME>],
+    answer: &mut Answer,
+) -> Result<(), AllocError>
+    ensures { OnOk result (answer.new ≡ answer.old ++ listed (codes "tickets") (ticket_tokens config.now) tickets.now) }
+{
+    answer.open()?;
+    answer.key("tickets")?;
+    answer.open_list()?;
+    add_tickets(config, tickets, answer)?;
+    answer.close_list()?;
+    answer.close()
+}
+
+fn add_tickets(
+    config: &Config,
+    tickets: &[OwnTicket<HOME>],
+    answer: &mut Answer,
+) -> Result<(), AllocError>
+    ensures { OnOk result (answer.new ≡ answer.old ++ flat_map (ticket_tokens config.now) tickets.now) }
+{
+    for own in tickets {
+        write_ticket(config, own.ticket(), answer)?;
+    }
+    Ok(())
+}
+
+/// Writes an open flush: its ticket as the begin told it, and what was reported since.
+fn write_ticket(config: &Config, ticket: &Ticket, answer: &mut Answer) -> Result<(), AllocError>
+    ensures { OnOk result (answer.new ≡ answer.old ++ ticket_tokens config.now ticket.now) }
+{
+    answer.open()?;
+    put_flush(
+        config,
+        ticket.number(),
+        ticket.group(),
+        ticket.deadline(),
+        ticket.notices(),
+        answer,
+    )?;
+    put_reports(ticket, answer)?;
+    answer.close()
+}
+
+/// Adds what was reported on each notice of a ticket: its outcome, or `null`.
+fn put_reports(ticket: &Ticket, answer: &mut Answer) -> Result<(), AllocError>
+    ensures { OnOk result (answer.new ≡ answer.old ++ key (codes "reports") ∷ reports_tokens ticket.now) }
+{
+    answer.key("reports")?;
+    answer.open_list()?;
+    add_reports(ticket, answer)?;
+    answer.close_list()
+}
+
+fn add_reports(ticket: &Ticket, answer: &mut Answer) -> Result<(), AllocError>
+    ensures { OnOk result (answer.new ≡ answer.old
+        ++ flat_map (λ n. report_tokens n.integration (outcome_of ticket.now.outcomes n.integration)) ticket.now.notices) }
+{
+    for (place, notice) in ticket.notices().iter().enumerate() {
+        write_reported(ticket, place, notice, answer)?;
+    }
+    Ok(())
+}
+
+/// Writes what was reported on the notice at a place of a ticket.
+fn write_reported(
+    ticket: &Ticket,
+    place: usize,
+    notice: &Notice,
+    answer: &mut Answer,
+) -> Result<(), AllocError>
+    requires { slice_get ticket.now.notices place ≡ Some notice.now }
+    ensures { OnOk result (answer.new ≡ answer.old
+        ++ report_tokens notice.now.integration (outcome_of ticket.now.outcomes notice.now.integration)) }
+{
+    write_report(notice.integration, ticket.outcome(place), answer)
+}

@@ -1,0 +1,7 @@
+use Rattle.am_lines.proofs.reply.write_reply.Goals as goal
+
+pub returns-in-NothingDue : goal.returns-in-NothingDue
+returns-in-NothingDue c = rw c.in-NothingDue.is c.write_named.ensures
+
+pub returns-in-Forgotten : goal.returns-in-Forgotten
+returns-in-Forgotten c = rw c.in-Forgotten.is c.write_counts-in-Forgotten.ensures

@@ -1,0 +1,16 @@
+//! The lines of `am-dispatch`: what a line asks of a board, and the text of what the board answers.
+//!
+//! - `lines` finds the lines in what is given. `request` reads what a line asks.
+//! - `answer` is the JSON text of an answer; contracts see its tokens. `parts`, `reply`, `view` and `record` write what the
+//!   board's replies, views and records tell, `fault` why a line is refused.
+#![tactic(auto)]
+
+pub mod answer;
+pub mod fault;
+pub mod lines;
+mod moment;
+mod parts;
+pub mod record;
+pub mod reply;
+pub mod request;
+pub mod view;

@@ -1,0 +1,551 @@
+//! What a line asks, and how it is read. `am_dispatch` calls `read_request`.
+//!
+//! A line is an object with one member. The member's name is that of a call, and its value has the arguments.
+ghost use Rattle.std.specs.Prelude.{◌≡◌, IfOk, IsOkAnd, codes};
+ghost use Rattle.serde_json.specs.View.{members_view, view};
+ghost use Rattle.am_alerts.specs.AlertData.{alert_of};
+ghost use Rattle.am_cli.specs.Configured.{DecodesToLabels, DecodesToMatcher};
+ghost use Rattle.am_cli.specs.Decoding.{Has, IsList, IsNumber};
+ghost use Rattle.am_mute.specs.Silence.{silence_of};
+ghost use Rattle.am_lines.specs.Request.{HasOneMember, IsOpening, IsOutcome, IsRequestIn, IsRequestOf, outcome_word};
+
+use crate::moment::{ends, moment_at, moment_or};
+use am_alerts::alert::{Alert, AlertFault};
+use am_alerts::labels::Labels;
+use am_alerts::limits::MAX_MOMENT;
+use am_alerts::matcher::Matcher;
+use am_alerts::text::Text;
+use am_cli::config::read_config;
+use am_cli::fault::{FaultKind, InputFault};
+use am_cli::faults::{Faults, Refusal};
+use am_cli::reader::{FromJson, Object, Reader};
+use am_config::alertmanager::read_alertmanager;
+use am_config::dropped::IgnoredSettings;
+use am_model::config::Config;
+use am_mute::silence::{Silence, SilenceFault};
+use am_retry::Outcome;
+use std::alloc::Global;
+
+/// The greatest position of an integration that is read.
+const MAX_POSITION: u64 = u32::MAX as u64;
+
+/// What a line asks.
+#[derive(Drop)]
+pub enum Request {
+    /// A new board, in the place of the one before.
+    Open(Opening),
+    Insert(Insertion),
+    Silence(Silencing),
+    Begin(Timed),
+    Report(Reporting),
+    Note(Noting),
+    Finish(Finishing),
+    Maintain(Timed),
+    Forget(Timed),
+    Load(Loading),
+    /// When the next group is due.
+    NextDue,
+    /// What a begin would do.
+    Outlook(Timed),
+    Rows,
+    Groups,
+    Summary,
+    /// The flushes that are open.
+    Tickets,
+    /// The records that the board keeps, which it then keeps no longer.
+    TakeHistory,
+}
+
+/// The configuration of a new board.
+#[derive(Drop)]
+pub struct Opening {
+    pub config: Config,
+    /// What the configuration says beside, which is ignored.
+    pub ignored: IgnoredSettings,
+}
+
+/// An alert to be inserted, at this time in milliseconds.
+#[derive(Drop)]
+pub struct Insertion {
+    pub now: u64,
+    pub alert: Alert,
+}
+
+/// A silence to be set, at this time in milliseconds.
+#[derive(Drop)]
+pub struct Silencing {
+    pub now: u64,
+    pub silence: Silence,
+}
+
+/// The time of a call that has no other argument, in milliseconds.
+#[derive(Drop)]
+pub struct Timed {
+    pub now: u64,
+}
+
+/// How the sending to an integration of an open flush ended.
+#[derive(Drop)]
+pub struct Reporting {
+    pub ticket: u64,
+    pub integration: u32,
+    pub outcome: Outcome,
+}
+
+/// A success to be logged at once, at this time in milliseconds.
+#[derive(Drop)]
+pub struct Noting {
+    pub now: u64,
+    pub ticket: u64,
+    pub integration: u32,
+}
+
+/// A flush to be finished, at this time in milliseconds.
+#[derive(Drop)]
+pub struct Finishing {
+    pub now: u64,
+    pub ticket: u64,
+}
+
+/// A row of another board's log to be taken over, at this time in milliseconds.
+#[derive(Drop)]
+pub struct Loading {
+    pub now: u64,
+    pub row: NamedRow,
+}
+
+/// A row of a log as `rows` writes it: by the names of its route and its integration. Times are in milliseconds.
+#[derive(Drop)]
+pub struct NamedRow {
+    pub group: NamedGroup,
+    pub integration: u32,
+    pub kind: Text,
+    pub moment: u64,
+    pub expiry: u64,
+    pub firing: Vec<Labels>,
+    pub resolved: Vec<Labels>,
+}
+
+/// A group by the name of its route.
+#[derive(Drop)]
+pub struct NamedGroup {
+    pub route: Text,
+    pub labels: Labels,
+}
+
+/// The arguments of a call that has none: an empty object.
+#[derive(Drop)]
+struct Nothing;
+
+/// Reads what a line asks.
+///
+/// # Errors
+///
+/// The first value that is refused, in the order of reading. Of an `alertmanager.yml` that is refused for several faults it
+/// is the first.
+pub fn read_request(reader: &Reader<'_, '_>) -> Result<Request, InputFault>
+    ensures { IfOk result (IsRequestIn reader.now.dialect (view reader.now.value)) }
+{
+    let line = reader.object()?;
+    let name = only_name(reader, &line)?;
+    let request = read_call(&line, name)?;
+    Ok(request)
+}
+
+/// Reads what a line asks whose member has this name.
+fn read_call(line: &Object<'_, '_>, name: &str) -> Result<Request, InputFault>
+    ensures { IfOk result (IsRequestOf line.now.dialect (members_view line.now.members)) }
+{
+    match name {
+        "config" => Ok(Request::Open(read_own(line)?)),
+        "alertmanager" => Ok(Request::Open(read_theirs(line)?)),
+        "insert" => Ok(Request::Insert(member(line, "insert")?)),
+        "silence" => Ok(Request::Silence(member(line, "silence")?)),
+        "begin" => Ok(Request::Begin(member(line, "begin")?)),
+        "report" => Ok(Request::Report(member(line, "report")?)),
+        "note" => Ok(Request::Note(member(line, "note")?)),
+        "finish" => Ok(Request::Finish(member(line, "finish")?)),
+        "maintain" => Ok(Request::Maintain(member(line, "maintain")?)),
+        "forget" => Ok(Request::Forget(member(line, "forget")?)),
+        "load" => Ok(Request::Load(member(line, "load")?)),
+        "outlook" => Ok(Request::Outlook(member(line, "outlook")?)),
+        _ => read_bare(line, name),
+    }
+}
+
+/// Reads what has no arguments: what asks for a view, or for the history.
+fn read_bare(line: &Object<'_, '_>, name: &str) -> Result<Request, InputFault>
+    ensures { IfOk result (IsRequestOf line.now.dialect (members_view line.now.members)) }
+{
+    match name {
+        "next_due" => asked(member(line, "next_due"), Request::NextDue),
+        "rows" => asked(member(line, "rows"), Request::Rows),
+        "groups" => asked(member(line, "groups"), Request::Groups),
+        "summary" => asked(member(line, "summary"), Request::Summary),
+        "tickets" => asked(member(line, "tickets"), Request::Tickets),
+        "take_history" => asked(member(line, "take_history"), Request::TakeHistory),
+        _ => Err(line.required(name)?.refuse(FaultKind::Unknown)),
+    }
+}
+
+/// What is asked, if its arguments are none.
+fn asked(read: Result<Nothing, InputFault>, request: Request) -> Result<Request, InputFault>
+    ensures { IfOk result (λ r. IsOkAnd read (λ _. r ≡ request)) }
+{
+    let Nothing = read?;
+    Ok(request)
+}
+
+/// Reads the value of a member that must be there.
+fn member<'v, T: FromJson<'v>>(line: &Object<'v, '_>, name: &str) -> Result<T, InputFault>
+    ensures { IfOk result (Has (T.decodes_to line.now.dialect) name.now (members_view line.now.members)) }
+{
+    let value = T::read(&line.required(name)?)?;
+    Ok(value)
+}
+
+/// Returns the name of a line's one member. With none, or with several, the line is refused as a whole.
+fn only_name<'v>(reader: &Reader<'v, '_>, line: &Object<'v, '_>) -> Result<&'v str, InputFault>
+    ensures { IfOk result (λ _. HasOneMember (members_view line.now.members)) }
+{
+    let members = line.members();
+    let count = members.len();
+    if count > 1 {
+        return Err(reader.refuse(FaultKind::BadValue));
+    }
+    if count < 1 {
+        return Err(reader.refuse(FaultKind::Missing));
+    }
+    match members.keys().next() {
+        Some(name) => Ok(name.as_str()),
+        None => Err(reader.refuse(FaultKind::Missing)),
+    }
+}
+
+/// Reads a configuration of our own, the member `config`.
+fn read_own(line: &Object<'_, '_>) -> Result<Opening, InputFault>
+    ensures { IfOk result (λ opening. IsOpening line.now.dialect (members_view line.now.members) opening.config) }
+{
+    let config = read_config(&line.required("config")?)?;
+    Ok(Opening {
+        config,
+        ignored: IgnoredSettings::nothing(),
+    })
+}
+
+/// Reads a configuration of Alertmanager, the member `alertmanager`.
+fn read_theirs(line: &Object<'_, '_>) -> Result<Opening, InputFault>
+    ensures { IfOk result (λ opening. IsOpening line.now.dialect (members_view line.now.members) opening.config) }
+{
+    let reader = line.required("alertmanager")?;
+    match read_alertmanager(&reader, None) {
+        Ok(read) => {
+            // (no line says on which day times begin)
+            if read.timed {
+                return Err(reader.refuse(FaultKind::Unsupported));
+            }
+            Ok(Opening {
+                config: read.config,
+                ignored: read.dropped,
+            })
+        }
+        Err(Refusal::One(fault)) => Err(fault),
+        Err(Refusal::All(faults)) => Err(first_of(line.alloc(), &faults)),
+    }
+}
+
+/// The first of these faults.
+fn first_of(alloc: Global, faults: &Faults) -> InputFault {
+    match faults.as_slice().first() {
+        None => InputFault::NoMemory,
+        Some(fault) => match String::from_str(alloc, fault.place.as_str()) {
+            Err(_) => InputFault::NoMemory,
+            Ok(place) => InputFault::Refused {
+                place,
+                fault_kind: fault.fault_kind,
+            },
+        },
+    }
+}
+
+impl<'v> FromJson<'v> for Nothing {
+    fn read(reader: &Reader<'v, '_>) -> Result<Nothing, InputFault> {
+        reader.object()?.only(&[])?;
+        Ok(Nothing)
+    }
+}
+
+impl<'v> FromJson<'v> for Timed {
+    ghost use Rattle.am_lines.specs.Request.{DecodesToTimed};
+
+    ghost decodes_to = { λ dialect value timed. DecodesToTimed value timed };
+
+    fn read(reader: &Reader<'v, '_>) -> Result<Timed, InputFault> {
+        let call = reader.object()?;
+        call.only(&["now"])?;
+        Ok(Timed {
+            now: moment_at(&call, "now")?,
+        })
+    }
+}
+
+impl<'v> FromJson<'v> for Insertion {
+    ghost use Rattle.am_lines.specs.Request.{DecodesToInsertion};
+
+    ghost decodes_to = { λ dialect value insertion. DecodesToInsertion dialect value insertion };
+
+    fn read(reader: &Reader<'v, '_>) -> Result<Insertion, InputFault> {
+        let call = reader.object()?;
+        call.only(&["now", "labels", "starts", "ends"])?;
+        let now = moment_at(&call, "now")?;
+        let starts = moment_or(&call, "starts", now)?;
+        let ends = ends(&call)?;
+        let labels = member(&call, "labels")?;
+        let alert = make_alert(reader, labels, starts, ends)?;
+        Ok(Insertion { now, alert })
+    }
+}
+
+/// The alert of these labels and times; the reader is that of the call.
+fn make_alert(
+    reader: &Reader<'_, '_>,
+    labels: Labels,
+    starts: u64,
+    ends: Option<u64>,
+) -> Result<Alert, InputFault>
+    ensures { IfOk result (λ alert. alert ≡ alert_of labels starts ends) }
+{
+    match Alert::new(labels, starts, ends) {
+        Ok(alert) => Ok(alert),
+        Err(fault) => Err(refuse_member(reader, member_at_fault(fault, starts))),
+    }
+}
+
+/// The member for which an alert that starts then is refused.
+fn member_at_fault(fault: AlertFault, starts: u64) -> &'static str {
+    match fault {
+        AlertFault::NoLabels => "labels",
+        AlertFault::BadMoment if starts > MAX_MOMENT => "starts",
+        AlertFault::BadMoment | AlertFault::EndBeforeStart => "ends",
+    }
+}
+
+impl<'v> FromJson<'v> for Silencing {
+    ghost use Rattle.am_lines.specs.Request.{DecodesToSilencing};
+
+    ghost decodes_to = { λ dialect value silencing. DecodesToSilencing dialect value silencing };
+
+    fn read(reader: &Reader<'v, '_>) -> Result<Silencing, InputFault> {
+        let call = reader.object()?;
+        call.only(&["now", "id", "matchers", "starts", "ends"])?;
+        let now = moment_at(&call, "now")?;
+        let id = number_at(&call, "id")?;
+        let starts = moment_or(&call, "starts", now)?;
+        let ends = moment_at(&call, "ends")?;
+        let matchers = matchers_at(&call)?;
+        let silence = make_silence(reader, id, matchers, starts, ends)?;
+        Ok(Silencing { now, silence })
+    }
+}
+
+/// Reads the matchers of a silence.
+fn matchers_at(call: &Object<'_, '_>) -> Result<Vec<Matcher>, InputFault>
+    ensures { IfOk result (λ matchers. Has (IsList (DecodesToMatcher call.now.dialect)) (codes "matchers")
+        (members_view call.now.members) matchers.items) }
+{
+    let matchers = call.required("matchers")?.list::<Matcher>()?;
+    Ok(matchers)
+}
+
+/// The silence of these matchers and times; the reader is that of the call.
+fn make_silence(
+    reader: &Reader<'_, '_>,
+    id: u64,
+    matchers: Vec<Matcher>,
+    starts: u64,
+    ends: u64,
+) -> Result<Silence, InputFault>
+    ensures { IfOk result (λ silence. silence ≡ silence_of id matchers.items starts ends) }
+{
+    match Silence::new(id, matchers, starts, ends) {
+        Ok(silence) => Ok(silence),
+        Err(fault) => Err(refuse_member(reader, part_at_fault(fault, starts))),
+    }
+}
+
+/// The member for which a silence that starts then is refused.
+fn part_at_fault(fault: SilenceFault, starts: u64) -> &'static str {
+    match fault {
+        SilenceFault::NoMatchers | SilenceFault::TooManyMatchers => "matchers",
+        SilenceFault::BadMoments if starts > MAX_MOMENT => "starts",
+        SilenceFault::BadMoments => "ends",
+    }
+}
+
+fn refuse_member(reader: &Reader<'_, '_>, name: &str) -> InputFault {
+    reader.refuse_at(&reader.place().member(name), FaultKind::BadValue)
+}
+
+impl<'v> FromJson<'v> for Reporting {
+    ghost use Rattle.am_lines.specs.Request.{DecodesToReporting};
+
+    ghost decodes_to = { λ dialect value reporting. DecodesToReporting value reporting };
+
+    fn read(reader: &Reader<'v, '_>) -> Result<Reporting, InputFault> {
+        let call = reader.object()?;
+        call.only(&["ticket", "integration", "outcome"])?;
+        Ok(Reporting {
+            ticket: number_at(&call, "ticket")?,
+            integration: position_at(&call)?,
+            outcome: outcome_at(&call)?,
+        })
+    }
+}
+
+impl<'v> FromJson<'v> for Noting {
+    ghost use Rattle.am_lines.specs.Request.{DecodesToNoting};
+
+    ghost decodes_to = { λ dialect value noting. DecodesToNoting value noting };
+
+    fn read(reader: &Reader<'v, '_>) -> Result<Noting, InputFault> {
+        let call = reader.object()?;
+        call.only(&["now", "ticket", "integration"])?;
+        Ok(Noting {
+            now: moment_at(&call, "now")?,
+            ticket: number_at(&call, "ticket")?,
+            integration: position_at(&call)?,
+        })
+    }
+}
+
+impl<'v> FromJson<'v> for Finishing {
+    ghost use Rattle.am_lines.specs.Request.{DecodesToFinishing};
+
+    ghost decodes_to = { λ dialect value finishing. DecodesToFinishing value finishing };
+
+    fn read(reader: &Reader<'v, '_>) -> Result<Finishing, InputFault> {
+        let call = reader.object()?;
+        call.only(&["now", "ticket"])?;
+        Ok(Finishing {
+            now: moment_at(&call, "now")?,
+            ticket: number_at(&call, "ticket")?,
+        })
+    }
+}
+
+impl<'v> FromJson<'v> for Loading {
+    ghost use Rattle.am_lines.specs.Request.{DecodesToLoading};
+
+    ghost decodes_to = { λ dialect value loading. DecodesToLoading dialect value loading };
+
+    fn read(reader: &Reader<'v, '_>) -> Result<Loading, InputFault> {
+        let call = reader.object()?;
+        call.only(&["now", "row"])?;
+        let now = moment_at(&call, "now")?;
+        let row = member(&call, "row")?;
+        Ok(Loading { now, row })
+    }
+}
+
+impl<'v> FromJson<'v> for NamedRow {
+    ghost use Rattle.am_lines.specs.Request.{DecodesToRow};
+
+    ghost decodes_to = { λ dialect value row. DecodesToRow dialect value row };
+
+    fn read(reader: &Reader<'v, '_>) -> Result<NamedRow, InputFault> {
+        let row = reader.object()?;
+        row.only(&[
+            "group",
+            "integration",
+            "kind",
+            "moment",
+            "expiry",
+            "firing",
+            "resolved",
+        ])?;
+        let integration = position_at(&row)?;
+        let moment = moment_at(&row, "moment")?;
+        let expiry = moment_at(&row, "expiry")?;
+        let group = member(&row, "group")?;
+        let kind = member(&row, "kind")?;
+        let firing = label_sets(&row, "firing")?;
+        let resolved = label_sets(&row, "resolved")?;
+        Ok(NamedRow {
+            group,
+            integration,
+            kind,
+            moment,
+            expiry,
+            firing,
+            resolved,
+        })
+    }
+}
+
+impl<'v> FromJson<'v> for NamedGroup {
+    ghost use Rattle.am_lines.specs.Request.{DecodesToGroup};
+
+    ghost decodes_to = { λ dialect value group. DecodesToGroup dialect value group };
+
+    fn read(reader: &Reader<'v, '_>) -> Result<NamedGroup, InputFault> {
+        let group = reader.object()?;
+        group.only(&["route", "labels"])?;
+        let route = member(&group, "route")?;
+        let labels = member(&group, "labels")?;
+        Ok(NamedGroup { route, labels })
+    }
+}
+
+/// Reads label sets.
+fn label_sets(row: &Object<'_, '_>, name: &str) -> Result<Vec<Labels>, InputFault>
+    ensures { IfOk result (λ sets. Has (IsList (DecodesToLabels row.now.dialect)) name.now
+        (members_view row.now.members) sets.items) }
+{
+    let sets = row.required(name)?.list::<Labels>()?;
+    Ok(sets)
+}
+
+/// Reads a number that must be there.
+fn number_at(call: &Object<'_, '_>, name: &str) -> Result<u64, InputFault>
+    ensures { IfOk result (Has IsNumber name.now (members_view call.now.members)) }
+{
+    call.required(name)?.number()
+}
+
+/// Reads the position of an integration in its receiver.
+fn position_at(call: &Object<'_, '_>) -> Result<u32, InputFault>
+    ensures { IfOk result (Has IsNumber (codes "integration") (members_view call.now.members)) }
+{
+    Ok(call.required("integration")?.number_up_to(MAX_POSITION)? as u32)
+}
+
+/// Reads how a sending ended, the member `outcome`.
+fn outcome_at(call: &Object<'_, '_>) -> Result<Outcome, InputFault>
+    ensures { IfOk result (Has IsOutcome (codes "outcome") (members_view call.now.members)) }
+{
+    read_outcome(&call.required("outcome")?)
+}
+
+fn read_outcome(reader: &Reader<'_, '_>) -> Result<Outcome, InputFault>
+    ensures { IfOk result (IsOutcome (view reader.now.value)) }
+{
+    match reader.text()? {
+        "delivered" => Ok(Outcome::Delivered),
+        "refused" => Ok(Outcome::Refused),
+        "expired" => Ok(Outcome::Expired),
+        "starved" => Ok(Outcome::Starved),
+        _ => Err(reader.refuse(FaultKind::BadValue)),
+    }
+}
+
+/// Returns the word for how a sending ended.
+pub fn outcome_word(outcome: Outcome) -> &'static str
+    ensures { result.now ≡ outcome_word outcome }
+{
+    match outcome {
+        Outcome::Delivered => "delivered",
+        Outcome::Refused => "refused",
+        Outcome::Expired => "expired",
+        Outcome::Starved => "starved",
+    }
+}

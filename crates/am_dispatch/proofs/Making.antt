@@ -29,7 +29,7 @@ use Rattle.am_lines.specs.Reply.{flush_tokens, named, opened_tokens, reply_token
 use Rattle.am_lines.specs.Record.{record_tokens}
 use Rattle.am_lines.specs.View.{listed}
 use Rattle.am_dispatch.specs.Row.{IsRowOf}
-use Rattle.am_dispatch.specs.Session.{Begins, Finishes, KeepsTicket, Loads, Makes, Notes, Opens, Reports, taken_tokens}
+use Rattle.am_dispatch.specs.Session.{Begins, Finishes, KeepsTicket, Loads, Makes, Notes, Reports, taken_tokens}
 use Rattle.am_dispatch.specs.Ticket.{IsFirst, IsRecordedAt}
 use Rattle.am_dispatch.specs.declared.session.Session.{Session}
 use Rattle.am_dispatch.specs.declared.ticket.TheConstants.{HOME}
@@ -134,11 +134,12 @@ flush_told r written config to before after t ok is told =
     (subst (λ (c : Config). OnOk written (after ≡ before ++ flush_tokens c t.number t.group t.deadline t.notices)) is told)
 
 -- a new board, whose opening was told
-pub opens : {T E S F : Type 0} (r : Result T E) (written : Result S F) (new : Session) (x : Opening) (before after : List Token)
-    → OnOk r (IsOk written) → new.board ≡ opening x.config HOME → new.tickets.items ≡ []
-    → OnOk written (after ≡ before ++ opened_tokens x.ignored) → OnOk r (Opens new x before after)
-opens r written new x before after ok board tickets told =
-    on_ok_weaker {Q = Opens new x before after} r (λ (is : after ≡ before ++ opened_tokens x.ignored). (board, tickets, is))
+pub opens : {T E S F : Type 0} (r : Result T E) (written : Result S F) (board : BoardData) (tickets : List TicketData) (x : Opening) (before after : List Token)
+    → OnOk r (IsOk written) → board ≡ opening x.config HOME → tickets ≡ [] → OnOk written (after ≡ before ++ opened_tokens x.ignored)
+    → OnOk r ((board ≡ opening x.config HOME) × (tickets ≡ []) × (after ≡ before ++ opened_tokens x.ignored))
+opens r written board tickets x before after ok is none told =
+    on_ok_weaker {Q = (board ≡ opening x.config HOME) × (tickets ≡ []) × (after ≡ before ++ opened_tokens x.ignored)} r
+    (λ (says : after ≡ before ++ opened_tokens x.ignored). (is, none, says))
     (told_ok r written (after ≡ before ++ opened_tokens x.ignored) ok told)
 
 -- a note of the notice that was found

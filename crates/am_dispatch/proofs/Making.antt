@@ -25,11 +25,11 @@ use Rattle.am_lines.specs.declared.request.Loading.{Loading}
 use Rattle.am_lines.specs.declared.request.Noting.{Noting}
 use Rattle.am_lines.specs.declared.request.Opening.{Opening}
 use Rattle.am_lines.specs.declared.request.Reporting.{Reporting}
-use Rattle.am_lines.specs.Reply.{named, opened_tokens, reply_tokens}
+use Rattle.am_lines.specs.Reply.{flush_tokens, named, opened_tokens, reply_tokens}
 use Rattle.am_lines.specs.Record.{record_tokens}
 use Rattle.am_lines.specs.View.{listed}
 use Rattle.am_dispatch.specs.Row.{IsRowOf}
-use Rattle.am_dispatch.specs.Session.{Begins, Finishes, KeepsTicket, Loads, Makes, Notes, Opens, Reports, taken_tokens}
+use Rattle.am_dispatch.specs.Session.{Begins, Finishes, KeepsTicket, Loads, Makes, Notes, Reports, taken_tokens}
 use Rattle.am_dispatch.specs.Ticket.{IsFirst, IsRecordedAt}
 use Rattle.am_dispatch.specs.declared.session.Session.{Session}
 use Rattle.am_dispatch.specs.declared.ticket.TheConstants.{HOME}
@@ -125,12 +125,21 @@ told_ok (Ok x) (Ok y) A ok a = a
 told_ok (Ok x) (Err f) A ok a = absurd (true≢false (sym ok))
 told_ok (Err e) written A ok a = tt
 
+-- a flush that was told, by the configuration that the board has
+pub flush_told : {T E S F : Type 0} (r : Result T E) (written : Result S F) (config to : Config) (before after : List Token) (t : TicketData)
+    → OnOk r (IsOk written) → config ≡ to → OnOk written (after ≡ before ++ flush_tokens config t.number t.group t.deadline t.notices)
+    → OnOk r (after ≡ before ++ flush_tokens to t.number t.group t.deadline t.notices)
+flush_told r written config to before after t ok is told =
+    told_ok r written (after ≡ before ++ flush_tokens to t.number t.group t.deadline t.notices) ok
+    (subst (λ (c : Config). OnOk written (after ≡ before ++ flush_tokens c t.number t.group t.deadline t.notices)) is told)
+
 -- a new board, whose opening was told
-pub opens : {T E S F : Type 0} (r : Result T E) (written : Result S F) (new : Session) (x : Opening) (before after : List Token)
-    → OnOk r (IsOk written) → new.board ≡ opening x.config HOME → new.tickets.items ≡ []
-    → OnOk written (after ≡ before ++ opened_tokens x.ignored) → OnOk r (Opens new x before after)
-opens r written new x before after ok board tickets told =
-    on_ok_weaker {Q = Opens new x before after} r (λ (is : after ≡ before ++ opened_tokens x.ignored). (board, tickets, is))
+pub opens : {T E S F : Type 0} (r : Result T E) (written : Result S F) (board : BoardData) (tickets : List TicketData) (x : Opening) (before after : List Token)
+    → OnOk r (IsOk written) → board ≡ opening x.config HOME → tickets ≡ [] → OnOk written (after ≡ before ++ opened_tokens x.ignored)
+    → OnOk r ((board ≡ opening x.config HOME) × (tickets ≡ []) × (after ≡ before ++ opened_tokens x.ignored))
+opens r written board tickets x before after ok is none told =
+    on_ok_weaker {Q = (board ≡ opening x.config HOME) × (tickets ≡ []) × (after ≡ before ++ opened_tokens x.ignored)} r
+    (λ (says : after ≡ before ++ opened_tokens x.ignored). (is, none, says))
     (told_ok r written (after ≡ before ++ opened_tokens x.ignored) ok told)
 
 -- a note of the notice that was found

@@ -1,6 +1,6 @@
 use Rattle.std.proofs.Common.{◌≡◌, ◌++◌, [], codes}
 use Rattle.am_lines.specs.Reply.{named}
-use Rattle.am_dispatch.proofs.Making.{reports, told_ok, ununtold_leaves}
+use Rattle.am_dispatch.proofs.Making.{reports, told_ok, untold_leaves}
 use Rattle.am_dispatch.proofs.session.Session.report.Goals as goal
 
 pub returns-in-Ok-clause-told : goal.returns-in-Ok-clause-told

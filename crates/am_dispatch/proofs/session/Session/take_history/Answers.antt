@@ -6,8 +6,8 @@ pub returns-in-Ok-clause-told : goal.returns-in-Ok-clause-told
 returns-in-Ok-clause-told c = (
   record {
     board = c.in-Ok.ensures.after;
-    follow = handed_follow _ _ c.in-Ok.ensures.after c.in_ok-line.ensures.follow;
-    legal = handed_legal _ _ c.in-Ok.ensures.after c.in_ok-line.ensures.legal;
+    follow = handed_follow c.args.self.now.board _ c.in-Ok.ensures.after c.in_ok-line.ensures.follow;
+    legal = handed_legal c.args.self.now.board _ c.in-Ok.ensures.after c.in_ok-line.ensures.legal;
     tickets = refl;
   },
   c.in_ok-line.ensures.line,

@@ -1,5 +1,5 @@
 -- What calls of the board leave, and what their answers tell.
-use Rattle.std.proofs.Common.{◌≡◌, ◌≢◌, ◌∙◌, ◌<◌, ◌==◌, ◌++◌, ℕ, List, [], Some, Result, Ok, Err, ap, codes, drop, length, refl, remove, slice_get, slice_index_or, subst, sym, true≢false}
+use Rattle.std.proofs.Common.{◌≡◌, ◌≢◌, ◌∙◌, ◌<◌, ◌==◌, ◌++◌, ◌∷◌, ℕ, List, [], Some, Result, Ok, Err, ap, arith, codes, drop, length, refl, remove, slice_get, slice_index_or, subst, sym, true≢false}
 use Rattle.std.proofs.Math.Seq.{drop-append_seam}
 use Rattle.std.specs.List.{position}
 use Rattle.std.specs.Result.{IsOk, OnOk, IfErr}
@@ -211,3 +211,8 @@ told_taken board config records fresh after is_config are is_fresh told =
     told ∙ ap (λ (t : List Token). t ++ listed (codes "taken") (record_tokens config) records) is_fresh
     ∙ ap (λ (c : Config). listed (codes "taken") (record_tokens c) records) is_config
     ∙ ap (λ (rs : List Record). listed (codes "taken") (record_tokens board.config) rs) are
+
+-- a list without elements
+pub is_empty : {X : Type 0} (xs : List X) → length xs ≡ 0 → xs ≡ []
+is_empty [] is = refl
+is_empty (x ∷ xs) is = absurd (omega (arith, is))

@@ -1,5 +1,5 @@
 -- Row: a row that a line names, as a board has it.
-use Rattle.std.specs.Prelude.{◌≡◌, ℕ, List, IsTrue}
+use Rattle.std.specs.Prelude.{◌≡◌, ℕ, List, [], IsTrue, unwrap_or}
 use Rattle.std.specs.Str.{bytes_eq}
 use Rattle.am_alerts.specs.RoutingTree.{route_at}
 use Rattle.am_model.specs.declared.config.Config.{Config}
@@ -12,7 +12,7 @@ use Rattle.am_lines.specs.declared.request.NamedRow.{NamedRow}
 abbrev pub row_at : ℕ → NamedRow → RowView
 row_at route named =
     record {
-      group = record { route = route; labels = named.group.labels };
+      group = record { route = route; labels = unwrap_or named.group.labels [] };
       integration = named.integration;
       moment = named.moment;
       expiry = named.expiry;

@@ -96,12 +96,17 @@ pub record DecodesToFinishing (value : Data) (finishing : Finishing) : Type 0 wh
   pub now : Has IsMoment (codes "now") members finishing.now
   pub ticket : Has IsNumber (codes "ticket") members finishing.ticket
 
+-- the labels of a group: an object without members for none
+abbrev pub IsGroupLabels : Dialect → Data → Option (List Label) → Type 0
+IsGroupLabels dialect value None = as_object value ≡ Some no_members
+IsGroupLabels dialect value (Some labels) = DecodesToLabels dialect value labels
+
 -- a group by the name of its route
 pub record DecodesToGroup (dialect : Dialect) (value : Data) (group : NamedGroup) : Type 0 where
   pub members : Members
   pub object : as_object value ≡ Some members
   pub route : Has IsText (codes "route") members group.route
-  pub labels : Has (DecodesToLabels dialect) (codes "labels") members group.labels
+  pub labels : Has (IsGroupLabels dialect) (codes "labels") members group.labels
 
 -- a row of a log, by the names of its route and its integration
 pub record DecodesToRow (dialect : Dialect) (value : Data) (row : NamedRow) : Type 0 where

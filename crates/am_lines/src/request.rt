@@ -1,13 +1,15 @@
 //! What a line asks, and how it is read. `am_dispatch` calls `read_request`.
 //!
 //! A line is an object with one member. The member's name is that of a call, and its value has the arguments.
-ghost use Rattle.std.specs.Prelude.{◌≡◌, IfOk, IsOkAnd, codes};
+ghost use Rattle.std.specs.Prelude.{◌≡◌, IfOk, IsOkAnd, IsTrue, Some, codes};
+ghost use Rattle.serde_json.specs.Data.{no_members};
+ghost use Rattle.serde_json.specs.Find.{as_object};
 ghost use Rattle.serde_json.specs.View.{members_view, view};
 ghost use Rattle.am_alerts.specs.AlertData.{alert_of};
 ghost use Rattle.am_cli.specs.Configured.{DecodesToLabels, DecodesToMatcher};
 ghost use Rattle.am_cli.specs.Decoding.{Has, IsList, IsNumber};
 ghost use Rattle.am_mute.specs.Silence.{silence_of};
-ghost use Rattle.am_lines.specs.Request.{HasOneMember, IsOpening, IsOutcome, IsRequestIn, IsRequestOf, outcome_word};
+ghost use Rattle.am_lines.specs.Request.{IsGroupLabels, HasOneMember, IsOpening, IsOutcome, IsRequestIn, IsRequestOf, outcome_word};
 
 use crate::moment::{ends, moment_at, moment_or};
 use am_alerts::alert::{Alert, AlertFault};
@@ -18,6 +20,7 @@ use am_alerts::text::Text;
 use am_cli::config::read_config;
 use am_cli::fault::{FaultKind, InputFault};
 use am_cli::faults::{Faults, Refusal};
+use am_cli::labels::read_labels;
 use am_cli::reader::{FromJson, Object, Reader};
 use am_config::alertmanager::read_alertmanager;
 use am_config::dropped::IgnoredSettings;
@@ -130,7 +133,8 @@ pub struct NamedRow {
 #[derive(Drop)]
 pub struct NamedGroup {
     pub route: Text,
-    pub labels: Labels,
+    /// None where it has no labels.
+    pub labels: Option<Labels>,
 }
 
 /// The arguments of a call that has none: an empty object.
@@ -491,9 +495,42 @@ impl<'v> FromJson<'v> for NamedGroup {
         let group = reader.object()?;
         group.only(&["route", "labels"])?;
         let route = member(&group, "route")?;
-        let labels = member(&group, "labels")?;
+        let labels = group_labels_at(&group)?;
         Ok(NamedGroup { route, labels })
     }
+}
+
+/// Reads the labels of a group, the member `labels`.
+fn group_labels_at(group: &Object<'_, '_>) -> Result<Option<Labels>, InputFault>
+    ensures { IfOk result (Has (IsGroupLabels group.now.dialect) (codes "labels") (members_view group.now.members)) }
+{
+    let labels = read_group_labels(&group.required("labels")?)?;
+    Ok(labels)
+}
+
+/// Reads a label set, or an object without members for none.
+fn read_group_labels(reader: &Reader<'_, '_>) -> Result<Option<Labels>, InputFault>
+    ensures { IfOk result (IsGroupLabels reader.now.dialect (view reader.now.value)) }
+{
+    if has_no_members(reader) {
+        return Ok(None);
+    }
+    Ok(Some(read_labels(reader)?))
+}
+
+/// Whether a value is an object without members.
+fn has_no_members(reader: &Reader<'_, '_>) -> bool
+    ensures { IsTrue result → as_object (view reader.now.value) ≡ Some no_members }
+{
+    let Ok(object) = reader.object() else {
+        return false;
+    };
+    let members = object.members();
+    let count = members.len();
+    if count > 0 {
+        return false;
+    }
+    true
 }
 
 /// Reads label sets.

@@ -244,7 +244,7 @@ impl Session {
         ensures refused { IfErr result (Leaves self.old self.new) }
     {
         let Loading { now, row } = loading;
-        let Some(row) = row_of(self.board.config(), row) else {
+        let Some(row) = row_of(alloc, self.board.config(), row)? else {
             return Err(LineFault::of_load(LoadFault::NoIntegration));
         };
         match self.board.load(alloc, PASS, row, now) {

@@ -1,5 +1,5 @@
 -- What is told of a board that was played, and what is written of it.
-use Rattle.std.proofs.Common.{◌≡◌, ◌++◌, ◌∙◌, ℕ, Bool, List, Option, Some, IsSomeAnd, ap, length, subst, sym}
+use Rattle.std.proofs.Common.{◌≡◌, ◌++◌, ◌∙◌, ℕ, Bool, List, Option, Some, IsSomeAnd, Result, Ok, Err, IfOk, ap, length, subst, sym}
 use Rattle.std.specs.List.{list_all, range_with_len}
 use Rattle.serde_json.specs.Data.{Data}
 use Rattle.am_yaml.specs.Document.{IsReadAs}
@@ -66,3 +66,8 @@ told_by changes wanted input value output start expectations rehearsal met text 
       asked = (value, reads, asked);
       tale = tale;
     }
+
+-- what follows of two facts about what is returned
+pub told_of_both : {T E : Type 0} (result : Result T E) (P Q R : T → Type 0) → ((x : T) → P x → Q x → R x) → IfOk result P → IfOk result Q → IfOk result R
+told_of_both (Ok x) P Q R more p q = more x p q
+told_of_both (Err e) P Q R more p q = tt

@@ -137,12 +137,15 @@ unrun changes wanted text value story (input.Refused place by) is told refused =
     let same = one_output changes story other (as_object value) told
     (as_read text value (λ v. IsRequestWithoutPatterns changes v other.output other.start other.expectations.items other.rehearsal) is asked.asked) in
     cc (asked.whole (sym same ∙ left.0), left.1)))
-    (λ (full : (by ≡ Full) × IsTooLarge story.rehearsal). inr (full.0, record {
-      output = story.output;
-      start = story.start;
-      expectations = story.expectations.items;
-      rehearsal = story.rehearsal;
-      asked = (value, is, told);
-      too_large = full.1;
-    }))
+    (λ (full : (by ≡ Full) × IsTooLarge story.rehearsal). inr (
+      full.0,
+      record {
+        output = story.output;
+        start = story.start;
+        expectations = story.expectations.items;
+        rehearsal = story.rehearsal;
+        asked = (value, is, told);
+        too_large = full.1;
+      },
+    ))
     (refused (sound changes story (as_object value) told))

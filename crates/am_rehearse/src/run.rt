@@ -79,6 +79,17 @@ pub struct Judgement {
     pub found_nothing: bool,
 }
 
+impl Report {
+    /// Returns the report before a run.
+    pub fn nothing(alloc: Global) -> Report {
+        Report {
+            text: Vec::new(alloc),
+            ignored: IgnoredSettings::nothing(),
+            judgement: Judgement::none(alloc),
+        }
+    }
+}
+
 impl Judgement {
     /// Returns the judgement where nothing was played.
     pub fn none(alloc: Global) -> Judgement {
@@ -330,7 +341,15 @@ fn render_filtered<C: TimeFormat>(
 {
     let left = filtered_events(alloc, playback, &wanted.filter)?;
     let filtered = playback.with_events(left.of(playback.events()));
-    render_wanted(alloc, playback, &filtered, clock, expectations, output, wanted)
+    render_wanted(
+        alloc,
+        playback,
+        &filtered,
+        clock,
+        expectations,
+        output,
+        wanted,
+    )
 }
 
 /// The same, with those of the lines that the filter leaves which are wanted.
@@ -350,7 +369,15 @@ fn render_wanted<C: TimeFormat>(
 {
     let is_met = are_met(alloc, playback, expectations)?;
     let judgement = judge(alloc, playback, filtered, clock, expectations, wanted)?;
-    let text = text_of(alloc, playback, filtered, clock, expectations, output, wanted)?;
+    let text = text_of(
+        alloc,
+        playback,
+        filtered,
+        clock,
+        expectations,
+        output,
+        wanted,
+    )?;
     Ok(Rendered {
         text,
         is_met,

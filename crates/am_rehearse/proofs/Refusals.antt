@@ -1,5 +1,5 @@
 -- Refusals that are handed on, and what they exclude.
-use Rattle.std.proofs.Common.{◌≡◌, ◌∙◌, ◌×◌, ◌⊎◌, inl, inr, ⊎_elim, ℕ, List, Option, Some, None, Result, Ok, Err, MatchOption, refl, subst, sym, true, codes}
+use Rattle.std.proofs.Common.{◌≡◌, ◌∙◌, ◌⊎◌, inl, inr, ℕ, List, Option, Some, None, Result, Ok, Err, MatchOption, refl, subst, sym, true, codes}
 use Rattle.std.specs.Prelude.{IfErr, IsSomeAnd, IsTrue}
 use Rattle.std.specs.Result.{IsErrAnd}
 use Rattle.serde_json.specs.Data.{Data, Members}
@@ -30,14 +30,23 @@ use Rattle.am_rehearsal.specs.WhyNot.{IsWhyNot}
 use Rattle.am_rehearsal.specs.declared.play.PlayFault.{PlayFault}
 use Rattle.am_rehearsal.specs.declared.play.PlayFault.TheVariants as play
 use Rattle.am_terms.specs.declared.rehearsal.Rehearsal.{Rehearsal}
-use Rattle.am_yaml.specs.Document.{IsReadAs}
-use Rattle.am_rehearse.specs.Faults.{AsksForNone, AsksForTooMuch, IsPlayable, IsTooLarge, Refuses, RefusesPlay, RefusesRun, fault_of_input, fault_of_refusal, is_limit, leaves_out}
+use Rattle.am_yaml.specs.Document.{IsReadAs, Refuses as RefusesText}
+use Rattle.am_yaml.specs.declared.document.DocumentFault.{DocumentFault}
+use Rattle.am_yaml.specs.declared.document.DocumentFault.TheVariants as document
+use Rattle.am_rehearse.specs.Faults.{AsksForNone, AsksForTooMuch, IsPlayable, IsTooLarge, Refuses, RefusesPlay, fault_of_document, fault_of_input, fault_of_refusal, is_limit, leaves_out}
+use Rattle.am_rehearse.specs.Printed.{IsRequestBy}
 use Rattle.am_rehearse.specs.declared.wanted.Wanted.{Wanted}
 
 -- what is so of a fault is so of it where it is handed on
 pub passed : {T E : Type 0} (P : E → Type 0) (result : Result T E) (fault : E) → IsErrAnd result (λ f. f ≡ fault) → P fault → IfErr result P
 passed P (Ok x) fault is so = absurd is
 passed P (Err f) fault is so = subst P (sym is) so
+
+-- what is so of want of memory is so where nothing else refuses
+pub starved : {T : Type 0} (P : InputFault → Type 0) (result : Result T InputFault) → P input.NoMemory → IfErr result (λ f. f ≡ input.NoMemory)
+    → IfErr result P
+starved P (Ok x) so is = tt
+starved P (Err f) so is = subst P (sym is) so
 
 -- a play that isn't one, by the fault that is made of why
 pub unplayed : (rehearsal : Rehearsal) (why : PlayFault) (fault : InputFault) → (why ≡ play.NoMemory → fault ≡ input.NoMemory)
@@ -48,18 +57,6 @@ unplayed rehearsal play.NoMemory (input.Refused place by) memory limit is = λ s
 unplayed rehearsal play.BadConfig (input.Refused place by) memory limit is = λ sound. absurd (is sound)
 unplayed rehearsal (play.PlanFull k) (input.Refused place by) memory limit is = λ sound. (limit refl, (play.PlanFull k, refl, is))
 unplayed rehearsal play.Full (input.Refused place by) memory limit is = λ sound. (limit refl, (play.Full, refl, is))
-
--- a page of which lines are to be left out isn't run
-pub lines_left : (wanted : Wanted) (output : Output) (rehearsal : Rehearsal) (fault : InputFault) → (output ≡ Html) × (leaves_out wanted ≡ true)
-    → RefusesRun wanted output rehearsal fault
-lines_left wanted output rehearsal (input.Refused place by) left = λ sound. inl left
-lines_left wanted output rehearsal input.NoMemory left = tt
-
--- nor is what isn't played
-pub not_run : (wanted : Wanted) (output : Output) (rehearsal : Rehearsal) (fault : InputFault) → RefusesPlay rehearsal fault
-    → RefusesRun wanted output rehearsal fault
-not_run wanted output rehearsal (input.Refused place by) refused = λ sound. inr (refused sound)
-not_run wanted output rehearsal input.NoMemory refused = tt
 
 -- ---- what an input asks for
 
@@ -86,8 +83,8 @@ sound_of Alertmanager value config told = told
 -- a configuration that is told has no fault
 sound_for : (file : Option Data) (dialect : Dialect) (members : Members) (config : Config) → IsConfigFor file dialect members config
     → config_fault config ≡ None
-sound_for None dialect members config told = sound_in dialect members config told
-sound_for (Some file) dialect members config told = sound_of (form_in file) file config told
+sound_for None dialect ms config told = sound_in dialect ms config told
+sound_for (Some file) dialect _ config told = sound_of (form_in file) file config told
 
 -- nor has that of a rehearsal that is asked for
 sound : (changes : Changes) (story : Input) (object : Option Members)
@@ -126,26 +123,40 @@ unread changes wanted text value (refusal.All faults) is none =
     λ story told. none story
     (as_read text value (λ v. IsRequestWithoutPatterns changes v story.output story.start story.expectations.items story.rehearsal) is told.asked)
 
--- a rehearsal that was read and isn't run
-pub unrun : (changes : Changes) (wanted : Wanted) (text : List ℕ) (value : Data) (story : Input) (fault : InputFault) → IsReadAs text value
-    → IsRequestIn changes value story.output story.start story.expectations.items story.rehearsal → RefusesRun wanted story.output story.rehearsal fault
+-- bytes that aren't read are no JSON text
+pub untold : (changes : Changes) (wanted : Wanted) (text : List ℕ) (fault : DocumentFault) → RefusesText text fault
+    → Refuses changes wanted text (fault_of_document fault)
+untold changes wanted text (document.NotText line column) none = none
+untold changes wanted text (document.NotJson line column) none = none
+untold changes wanted text (document.NotYaml fault) none = none
+untold changes wanted text document.NoMemory none = tt
+
+-- a page of which lines are to be left out isn't played
+pub unshown : (changes : Changes) (wanted : Wanted) (text : List ℕ) (story : Input) (fault : InputFault)
+    → IsRequestBy changes text story.output story.start story.expectations.items story.rehearsal
+    → (story.output ≡ Html) × (leaves_out wanted ≡ true) → Refuses changes wanted text (fault_of_input fault)
+unshown changes wanted text story input.NoMemory told left = tt
+unshown changes wanted text story (input.Refused place by) told left =
+    inl (λ other asked.
+    let same = one_output changes story other (as_object told.0) told.2
+    (as_read text told.0 (λ v. IsRequestWithoutPatterns changes v other.output other.start other.expectations.items other.rehearsal) told.1 asked.asked) in
+    cc (asked.whole (sym same ∙ left.0), left.1))
+
+-- a rehearsal that was read and isn't played to its end
+pub unended : (changes : Changes) (wanted : Wanted) (text : List ℕ) (story : Input) (fault : InputFault)
+    → IsRequestBy changes text story.output story.start story.expectations.items story.rehearsal → RefusesPlay story.rehearsal fault
     → Refuses changes wanted text (fault_of_input fault)
-unrun changes wanted text value story input.NoMemory is told refused = tt
-unrun changes wanted text value story (input.Refused place by) is told refused =
-    ⊎_elim
-    (λ (left : (story.output ≡ Html) × (leaves_out wanted ≡ true)). inl (λ other asked.
-    let same = one_output changes story other (as_object value) told
-    (as_read text value (λ v. IsRequestWithoutPatterns changes v other.output other.start other.expectations.items other.rehearsal) is asked.asked) in
-    cc (asked.whole (sym same ∙ left.0), left.1)))
-    (λ (full : (by ≡ Full) × IsTooLarge story.rehearsal). inr (
+unended changes wanted text story input.NoMemory told refused = tt
+unended changes wanted text story (input.Refused place by) told refused =
+    let full = refused (sound changes story (as_object told.0) told.2) in
+    inr (
       full.0,
       record {
         output = story.output;
         start = story.start;
         expectations = story.expectations.items;
         rehearsal = story.rehearsal;
-        asked = (value, is, told);
+        asked = told;
         too_large = full.1;
       },
-    ))
-    (refused (sound changes story (as_object value) told))
+    )

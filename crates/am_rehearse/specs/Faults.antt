@@ -102,12 +102,6 @@ abbrev pub RefusesPlay : Rehearsal → InputFault → Type 0
 RefusesPlay rehearsal (input.Refused place fault_kind) = config_fault rehearsal.config ≡ None → (fault_kind ≡ Full) × IsTooLarge rehearsal
 RefusesPlay rehearsal input.NoMemory = Unit {0}
 
--- the same of a run, which is also refused where lines of a page are to be left out
-abbrev pub RefusesRun : Wanted → Output → Rehearsal → InputFault → Type 0
-RefusesRun wanted output rehearsal (input.Refused place fault_kind) = config_fault rehearsal.config ≡ None
-    → ((output ≡ Html) × (leaves_out wanted ≡ true)) ⊎ ((fault_kind ≡ Full) × IsTooLarge rehearsal)
-RefusesRun wanted output rehearsal input.NoMemory = Unit {0}
-
 -- an input is refused as not read only where it is no JSON text. It is refused at a place, or for many faults, only where it asks for
 -- nothing that can be played, or where a limit leaves no capacity for the rehearsal that it asks for, which is refused as full
 abbrev pub Refuses : Changes → Wanted → List ℕ → RehearseFault → Type 0

@@ -106,6 +106,16 @@ fn played_under<R: Files + Eprint + AllocGlobal + Clock>(
         config: Some(&config.value),
         overrides,
     };
+    played_with(rt, console, story, changes)
+}
+
+/// Plays the story that these changes are made to, and complains if it is refused. The error is the status.
+fn played_with<R: Files + Eprint + AllocGlobal + Clock>(
+    rt: &R,
+    console: &Console,
+    story: &Document<'_>,
+    changes: Changes<'_>,
+) -> Result<PlayedStory, u8> {
     let mut files = SystemZones::new(rt);
     let mut watch = Progress::begin(rt, console.is_terminal);
     match played(rt.alloc(), story, changes, &mut files, &mut watch) {

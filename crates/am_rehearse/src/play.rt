@@ -8,7 +8,7 @@ use am_alerts::sequence::Sequence;
 use am_alerts::text::Text;
 use am_cli::fault::InputFault;
 use am_cli::faults::{Faults, Refusal};
-use am_command::request::{PlayRequest, STANDARD_INPUT};
+use am_command::request::{PlayRequest, STANDARD_INPUT, Selection};
 use am_commands::faults::faults_of;
 use am_commands::given::given_to;
 use am_commands::ignored::say_ignored;
@@ -211,18 +211,9 @@ fn wanted_of<R: Eprint + AllocGlobal>(
     console: &Console,
     request: &PlayRequest<'_>,
 ) -> Result<Wanted, u8> {
-    let selection = &request.selection;
-    let matchers = matchers_of(rt, console, selection.alerts.as_slice())?;
-    let receiver = text_of(rt, console, selection.receiver)?;
-    let route = text_of(rt, console, selection.group)?;
-    let filter = Filter {
-        receiver,
-        route,
-        matchers: Sequence::from(matchers),
-    };
     let wanted = Wanted {
-        filter,
-        changes: selection.changes,
+        filter: filter_of(rt, console, &request.selection)?,
+        changes: request.selection.changes,
         junit: request.junit.is_some(),
     };
     if request.output == Some("html") && wanted.leaves_out() {
@@ -230,6 +221,22 @@ fn wanted_of<R: Eprint + AllocGlobal>(
         return Err(REJECTED);
     }
     Ok(wanted)
+}
+
+/// Returns the filter that the command line gives. The error is the status.
+fn filter_of<R: Eprint + AllocGlobal>(
+    rt: &R,
+    console: &Console,
+    selection: &Selection<'_>,
+) -> Result<Filter, u8> {
+    let receiver = text_of(rt, console, selection.receiver)?;
+    let route = text_of(rt, console, selection.group)?;
+    let matchers = matchers_of(rt, console, selection.alerts.as_slice())?;
+    Ok(Filter {
+        receiver,
+        route,
+        matchers: Sequence::from(matchers),
+    })
 }
 
 /// Returns a text of the command line, if there is one. The error is the status.

@@ -10,9 +10,10 @@ ghost use Rattle.am_rehearsal.specs.Play.{PlaysTo, setting_of};
 ghost use Rattle.am_rehearsal.specs.Previews.{previews_of};
 ghost use Rattle.am_rehearsal.specs.declared.limits.TheConstants.{BOARD_ID};
 ghost use Rattle.am_input.specs.Request.{times_from};
-ghost use Rattle.am_rehearse.specs.Faults.{Refuses, RefusesPlay, RefusesRun, is_limit, leaves_out, status_of};
+ghost use Rattle.am_rehearse.specs.Faults.{Refuses, RefusesPlay, is_limit, leaves_out, status_of};
 ghost use Rattle.am_model.specs.Replay.{IsLegal};
-ghost use Rattle.am_rehearse.specs.Printed.{WritesOutput, IsPrinted, IsOutputOf, IsOutputOfRun, IsOutputFor};
+ghost use Rattle.am_rehearse.specs.Printed.{WritesOutput, IsPrinted, IsOutputOf, IsOutputOfRun, IsOutputFor, IsRequestBy};
+ghost use Rattle.am_rehearse.specs.declared.wanted.Wanted.{Wanted};
 ghost use Rattle.am_rehearse.specs.Printed.{expectations_section, selected, summary};
 ghost use Rattle.am_timeline.specs.Changed.{changed};
 ghost use Rattle.am_judge.specs.Junit.{junit_text};
@@ -210,10 +211,25 @@ fn render<Z: ZoneFiles, W: Watch>(
     ensures told { IfOk result (λ rendered. IsOutputFor changes.entry wanted.now input.now rendered.is_met (string_bytes rendered.text)) }
     ensures refused { IfErr result (Refuses changes.entry wanted.now input.now) }
 {
-    let value = read_document(alloc, input)?;
-    let input = read_input(alloc, &value, changes, files)?;
-    *ignored = input.dropped;
-    Ok(play_and_render(alloc, input, wanted, watch)?)
+    let story = read_story(alloc, input, changes, files)?;
+    *ignored = story.dropped;
+    check_lines(alloc, story.output, wanted)?;
+    Ok(play_and_render(alloc, story, wanted, watch)?)
+}
+
+/// Reads the rehearsal that this text asks for. The value that the text is read as is let go.
+fn read_story<Z: ZoneFiles>(
+    alloc: Global,
+    text: &[u8],
+    changes: Changes<'_>,
+    files: &mut Z,
+) -> Result<Input, RehearseFault>
+    ensures told { IfOk result (λ story. IsRequestBy changes.entry text.now story.output story.start story.expectations.items
+        story.rehearsal) }
+    ensures refused { IfErr result (λ fault. (wanted : Wanted) → Refuses changes.entry wanted text.now fault) }
+{
+    let value = read_document(alloc, text)?;
+    Ok(read_input(alloc, &value, changes, files)?)
 }
 
 /// Plays a rehearsal, and tells what is asked for.
@@ -225,9 +241,8 @@ fn play_and_render<W: Watch>(
 ) -> Result<Rendered, InputFault>
     ensures told { IfOk result (λ rendered. IsOutputOfRun input.rehearsal input.output wanted.now (times_from input.start)
         input.expectations.items rendered.is_met (string_bytes rendered.text)) }
-    ensures refused { IfErr result (RefusesRun wanted.now input.output input.rehearsal) }
+    ensures refused { IfErr result (RefusesPlay input.rehearsal) }
 {
-    check_lines(alloc, input.output, wanted)?;
     let Input {
         rehearsal,
         origins,
@@ -238,7 +253,7 @@ fn play_and_render<W: Watch>(
     } = input;
     let played = play_or_refuse(alloc, rehearsal, origins.as_slice(), watch)?;
     let expectations = expectations.as_slice();
-    Ok(render_from(alloc, &played, &start, expectations, output, wanted)?)
+    render_from(alloc, &played, &start, expectations, output, wanted)
 }
 
 /// Refuses a page of which lines are to be left out.
@@ -291,16 +306,17 @@ fn render_from(
     expectations: &[Expectation],
     output: Output,
     wanted: &Wanted,
-) -> Result<Rendered, AllocError>
+) -> Result<Rendered, InputFault>
     requires ours { played.now.board.id ≡ BOARD_ID }
     requires previews { played.now.begins.items ≡ previews_of played.now.board.config played.now.board.history }
     requires begun { begin_indices played.now.events.items ≡ range_with_len 0 (vec_len played.now.begins) }
-    ensures { IfOk result (λ rendered. IsOutputOf played.now.board played.now.events.items output wanted.now (times_from start.now)
+    ensures told { IfOk result (λ rendered. IsOutputOf played.now.board played.now.events.items output wanted.now (times_from start.now)
         expectations.now rendered.is_met (string_bytes rendered.text)) }
+    ensures refused { IfErr result (λ fault. fault ≡ InputFault.NoMemory) }
 {
     match start {
-        None => render_by(alloc, played, &Elapsed, expectations, output, wanted),
-        Some(start) => render_by(alloc, played, start, expectations, output, wanted),
+        None => Ok(render_by(alloc, played, &Elapsed, expectations, output, wanted)?),
+        Some(start) => Ok(render_by(alloc, played, start, expectations, output, wanted)?),
     }
 }
 

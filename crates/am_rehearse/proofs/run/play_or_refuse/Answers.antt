@@ -8,8 +8,8 @@ use Rattle.am_rehearse.specs.Faults.{RefusesPlay}
 use Rattle.am_rehearse.proofs.Refusals.{passed, unplayed}
 use Rattle.am_rehearse.proofs.run.play_or_refuse.Goals as goal
 
-pub returns-in_err-new-clause-refused : goal.returns-in_err-new-clause-refused
-returns-in_err-new-clause-refused g c =
+pub returns-in_err-new-in-Ok-clause-refused : goal.returns-in_err-new-in-Ok-clause-refused
+returns-in_err-new-in-Ok-clause-refused g c =
     passed (RefusesPlay c.args.rehearsal) c.from_residual.result NoMemory c.from_residual.ensures.1 tt
 
 pub returns-in-Err-clause-refused : goal.returns-in-Err-clause-refused

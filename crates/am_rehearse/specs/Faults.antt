@@ -66,7 +66,8 @@ status_of rehearse.Unmet = 5
 abbrev pub leaves_out : Wanted → Bool
 leaves_out wanted = wanted.changes || not (names_nothing wanted.filter)
 
--- as a JSON text, these bytes ask for this, and it isn't refused: no matcher looks for a pattern, and no line of a page is left out
+-- as a JSON text with its configuration in `config`, these bytes ask for this, and it isn't refused: no file is given for the
+-- configuration, no matcher looks for a pattern, and no line of a page is left out
 pub record IsPlayable (changes : Changes) (wanted : Wanted) (text : List ℕ) (story : Input) : Type 0 where
   pub asked : IsSomeAnd (read_text text)
       (λ value. IsRequestWithoutPatterns changes value story.output story.start story.expectations.items story.rehearsal)

@@ -120,7 +120,8 @@ struct Rendered {
 ///
 /// An input is refused as `NotRead` only where it is no JSON text. It is refused at a place, or as `AllRefused`, only
 /// where it asks, as a JSON text, for nothing that can be played, or for more than a limit lets be played, which is
-/// refused as `Full` (`Refuses`). It was read whole before.
+/// refused as `Full` (`Refuses`). Nothing is said of YAML, of a given file, of a configuration of Alertmanager, and of
+/// patterns. The input was read whole before.
 ///
 /// `report` has what was read, once all of it was, what of Alertmanager's configuration is ignored, and, once a rehearsal
 /// was played, which expectations aren't met, and the report on them that is `wanted`.

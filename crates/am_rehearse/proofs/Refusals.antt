@@ -1,5 +1,5 @@
 -- Refusals that are handed on, and what they exclude.
-use Rattle.std.proofs.Common.{◌≡◌, ◌∙◌, ◌⊎◌, inl, inr, ℕ, List, Option, Some, None, Result, Ok, Err, MatchOption, refl, subst, sym, true, codes}
+use Rattle.std.proofs.Common.{◌≡◌, ◌∙◌, inl, inr, ℕ, List, Option, Some, None, Result, Ok, Err, MatchOption, refl, subst, sym, true, codes}
 use Rattle.std.specs.Prelude.{IfErr, IsSomeAnd, IsTrue}
 use Rattle.std.specs.Result.{IsErrAnd}
 use Rattle.serde_json.specs.Data.{Data, Members}
@@ -15,12 +15,11 @@ use Rattle.am_cli.specs.declared.faults.Refusal.TheVariants as refusal
 use Rattle.am_cli.specs.declared.reader.Dialect.{Dialect}
 use Rattle.am_cli.specs.declared.reader.Dialect.TheVariants.{Strict}
 use Rattle.am_input.specs.Configured.{IsConfigFor, IsConfigIn, IsConfigOf, IsReadOfTheirs, file_in, form_in}
-use Rattle.am_input.specs.Request.{IsRequestIn, IsRequestWithoutPatterns, IsWithoutPatterns, RefusesAll, Requests}
+use Rattle.am_input.specs.Request.{IsRequestWithoutPatterns, IsWithoutPatterns, RefusesAll, Requests}
 use Rattle.am_input.specs.declared.form.Form.{Form}
 use Rattle.am_input.specs.declared.form.Form.TheVariants.{Story, Own, Alertmanager}
 use Rattle.am_input.specs.declared.input.Changes.{Changes}
 use Rattle.am_input.specs.declared.input.Input.{Input}
-use Rattle.am_input.specs.declared.input.Output.{Output}
 use Rattle.am_input.specs.declared.input.Output.TheVariants.{Html}
 use Rattle.am_model.specs.Config.{config_fault}
 use Rattle.am_model.specs.declared.config.Config.{Config}
@@ -33,7 +32,7 @@ use Rattle.am_terms.specs.declared.rehearsal.Rehearsal.{Rehearsal}
 use Rattle.am_yaml.specs.Document.{IsReadAs, Refuses as RefusesText}
 use Rattle.am_yaml.specs.declared.document.DocumentFault.{DocumentFault}
 use Rattle.am_yaml.specs.declared.document.DocumentFault.TheVariants as document
-use Rattle.am_rehearse.specs.Faults.{AsksForNone, AsksForTooMuch, IsPlayable, IsTooLarge, Refuses, RefusesPlay, fault_of_document, fault_of_input, fault_of_refusal, is_limit, leaves_out}
+use Rattle.am_rehearse.specs.Faults.{Refuses, RefusesPlay, fault_of_document, fault_of_input, fault_of_refusal, is_limit, leaves_out}
 use Rattle.am_rehearse.specs.Printed.{IsRequestBy}
 use Rattle.am_rehearse.specs.declared.wanted.Wanted.{Wanted}
 

@@ -1,5 +1,5 @@
 -- What is told of a board that was played, and what is written of it.
-use Rattle.std.proofs.Common.{◌≡◌, ◌++◌, ◌∙◌, ℕ, Bool, List, Option, Some, IsSomeAnd, Result, Ok, Err, IfOk, ap, length, subst, sym}
+use Rattle.std.proofs.Common.{◌≡◌, ◌++◌, ◌∙◌, ℕ, Bool, List, Option, Result, Ok, Err, IfOk, ap, length, subst, sym}
 use Rattle.std.specs.List.{list_all, range_with_len}
 use Rattle.am_board.specs.History.{BoardData}
 use Rattle.am_model.specs.Replay.{IsLegal}

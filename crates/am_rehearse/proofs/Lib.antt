@@ -1,2 +1,4 @@
 -- what is told of a board that was played, and what is written of it
 pub mod Tales
+-- refusals that are handed on, and what they exclude
+pub mod Refusals

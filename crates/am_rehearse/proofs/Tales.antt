@@ -1,8 +1,6 @@
 -- What is told of a board that was played, and what is written of it.
-use Rattle.std.proofs.Common.{◌≡◌, ◌++◌, ◌∙◌, ℕ, Bool, List, Option, Some, IsSomeAnd, ap, length, subst, sym}
+use Rattle.std.proofs.Common.{◌≡◌, ◌++◌, ◌∙◌, ℕ, Bool, List, Option, Result, Ok, Err, IfOk, ap, length, subst, sym}
 use Rattle.std.specs.List.{list_all, range_with_len}
-use Rattle.serde_json.specs.Data.{Data}
-use Rattle.am_yaml.specs.Document.{IsReadAs}
 use Rattle.am_board.specs.History.{BoardData}
 use Rattle.am_model.specs.Replay.{IsLegal}
 use Rattle.am_rehearsal.specs.EventOrder.{begin_indices}
@@ -17,10 +15,10 @@ use Rattle.am_terms.specs.UtcDates.{StartData}
 use Rattle.am_judge.specs.Expectation.{is_met}
 use Rattle.am_timeline.specs.Playback.{PlaybackData}
 use Rattle.am_terms.specs.TimeFormatData.{TimeFormatData}
-use Rattle.am_input.specs.Request.{IsRequestIn, times_from}
+use Rattle.am_input.specs.Request.{times_from}
 use Rattle.am_input.specs.declared.input.Output.{Output}
 use Rattle.am_input.specs.declared.input.Changes.{Changes}
-use Rattle.am_rehearse.specs.Printed.{WritesOutput, IsPrinted, IsOutputOf, IsOutputOfRun, IsOutputFor, playback_of, playback_with, selected}
+use Rattle.am_rehearse.specs.Printed.{WritesOutput, IsPrinted, IsOutputOf, IsOutputOfRun, IsOutputFor, IsRequestBy, playback_of, playback_with, selected}
 
 pub output_of-board : (output : Output) (wanted : Wanted) (met : Bool) (text : List ℕ) (board : BoardData) (begins : List PreviewedBegin) (events : List Event) (shown playback : PlaybackData) (times : TimeFormatData) (expectations : List Expectation)
     → board.id ≡ BOARD_ID → begins ≡ previews_of board.config board.history → IsLegal board.config board.id board.history
@@ -53,16 +51,21 @@ answered changes wanted met is_met given_before given taken_before taken input t
       taken_is = taken_is;
     }
 
--- what is told of a text, by what the value asks for that it is read as
-pub told_by : (changes : Changes) (wanted : Wanted) (input : List ℕ) (value : Data) (output : Output) (start : Option StartData) (expectations : List Expectation) (rehearsal : Rehearsal) (met : Bool) (text : List ℕ)
-    → IsReadAs input value → IsRequestIn changes value output start expectations rehearsal
+-- what is told of a text, by what it asks for
+pub told_by : (changes : Changes) (wanted : Wanted) (input : List ℕ) (output : Output) (start : Option StartData) (expectations : List Expectation) (rehearsal : Rehearsal) (met : Bool) (text : List ℕ)
+    → IsRequestBy changes input output start expectations rehearsal
     → IsOutputOfRun rehearsal output wanted (times_from start) expectations met text → IsOutputFor changes wanted input met text
-told_by changes wanted input value output start expectations rehearsal met text reads asked tale =
+told_by changes wanted input output start expectations rehearsal met text asked tale =
     record {
       output = output;
       start = start;
       expectations = expectations;
       rehearsal = rehearsal;
-      asked = (value, reads, asked);
+      asked = asked;
       tale = tale;
     }
+
+-- what follows of two facts about what is returned
+pub told_of_both : {T E : Type 0} (result : Result T E) (P Q R : T → Type 0) → ((x : T) → P x → Q x → R x) → IfOk result P → IfOk result Q → IfOk result R
+told_of_both (Ok x) P Q R more p q = more x p q
+told_of_both (Err e) P Q R more p q = tt

@@ -1,5 +1,7 @@
 -- Faults: how a rehearsal ends without its output, or with an expectation that isn't met.
-use Rattle.std.specs.Prelude.{ℕ, List}
+use Rattle.std.specs.Prelude.{◌≡◌, ◌||◌, ◌⊎◌, ℕ, Bool, true, false, not, List, Option, None, IsSomeAnd, IsTrue}
+use Rattle.serde_json.specs.Read.{read as read_text}
+use Rattle.am_cli.specs.declared.fault.FaultKind.TheVariants.{Full}
 use Rattle.am_cli.specs.declared.fault.InputFault.{InputFault}
 use Rattle.am_cli.specs.declared.fault.InputFault.TheVariants as input
 use Rattle.am_yaml.specs.Document.{IsNoJson}
@@ -9,8 +11,24 @@ use Rattle.am_cli.specs.declared.transfer.ReadFault.{ReadFault}
 use Rattle.am_cli.specs.declared.transfer.ReadFault.TheVariants as read
 use Rattle.am_cli.specs.declared.faults.Refusal.{Refusal}
 use Rattle.am_cli.specs.declared.faults.Refusal.TheVariants as refusal
+use Rattle.am_input.specs.Request.{IsRequestWithoutPatterns}
+use Rattle.am_input.specs.declared.input.Changes.{Changes}
+use Rattle.am_input.specs.declared.input.Input.{Input}
+use Rattle.am_input.specs.declared.input.Output.{Output}
+use Rattle.am_input.specs.declared.input.Output.TheVariants.{Html}
+use Rattle.am_model.specs.Config.{config_fault}
+use Rattle.am_rehearsal.specs.Play.{setting_of}
+use Rattle.am_rehearsal.specs.WhyNot.{IsWhyNot}
+use Rattle.am_rehearsal.specs.declared.play.PlayFault.{PlayFault}
+use Rattle.am_rehearsal.specs.declared.play.PlayFault.TheVariants as play
+use Rattle.am_terms.specs.declared.expectation.Expectation.{Expectation}
+use Rattle.am_terms.specs.declared.rehearsal.Rehearsal.{Rehearsal}
+use Rattle.am_terms.specs.UtcDates.{StartData}
+use Rattle.am_timeline.specs.Filtered.{names_nothing}
+use Rattle.am_rehearse.specs.Printed.{IsRequestBy}
 use Rattle.am_rehearse.specs.declared.fault.RehearseFault.{RehearseFault}
 use Rattle.am_rehearse.specs.declared.fault.RehearseFault.TheVariants as rehearse
+use Rattle.am_rehearse.specs.declared.wanted.Wanted.{Wanted}
 
 -- why an input's text isn't read
 abbrev pub fault_of_document : DocumentFault → RehearseFault
@@ -44,12 +62,55 @@ status_of rehearse.NoMemory = 3
 status_of rehearse.Unwritable = 4
 status_of rehearse.Unmet = 5
 
--- an input is refused as not read only where it is no JSON text. Nothing is said of one that is refused at a place
-abbrev pub Refuses : List ℕ → RehearseFault → Type 0
-Refuses input rehearse.Unreadable = ⊥
-Refuses input (rehearse.NotRead fault) = IsNoJson input
-Refuses input (rehearse.Refused place fault_kind) = Unit {0}
-Refuses input (rehearse.AllRefused faults) = Unit {0}
-Refuses input rehearse.NoMemory = Unit {0}
-Refuses input rehearse.Unwritable = ⊥
-Refuses input rehearse.Unmet = ⊥
+-- whether lines may be left out of what is printed
+abbrev pub leaves_out : Wanted → Bool
+leaves_out wanted = wanted.changes || not (names_nothing wanted.filter)
+
+-- as a JSON text with its configuration in `config`, these bytes ask for this, and it isn't refused: no file is given for the
+-- configuration, no matcher looks for a pattern, and no line of a page is left out
+pub record IsPlayable (changes : Changes) (wanted : Wanted) (text : List ℕ) (story : Input) : Type 0 where
+  pub asked : IsSomeAnd (read_text text)
+      (λ value. IsRequestWithoutPatterns changes value story.output story.start story.expectations.items story.rehearsal)
+  pub whole : story.output ≡ Html → leaves_out wanted ≡ false
+
+-- they ask for nothing of that kind
+abbrev pub AsksForNone : Changes → Wanted → List ℕ → Type 0
+AsksForNone changes wanted text = (story : Input) → IsPlayable changes wanted text story → ⊥
+
+-- whether a limit leaves no capacity
+abbrev pub is_limit : PlayFault → Bool
+is_limit play.NoMemory = false
+is_limit play.BadConfig = false
+is_limit (play.PlanFull k) = true
+is_limit play.Full = true
+
+-- a limit leaves no capacity for what happens in a rehearsal
+abbrev pub IsTooLarge : Rehearsal → Type 0
+IsTooLarge rehearsal =
+    (why : PlayFault) × IsTrue (is_limit why) × IsWhyNot (setting_of rehearsal) rehearsal.config rehearsal.plans.items why
+
+-- these bytes ask for such a rehearsal
+pub record AsksForTooMuch (changes : Changes) (text : List ℕ) : Type 0 where
+  pub output : Output
+  pub start : Option StartData
+  pub expectations : List Expectation
+  pub rehearsal : Rehearsal
+  pub asked : IsRequestBy changes text output start expectations rehearsal
+  pub too_large : IsTooLarge rehearsal
+
+-- a play of a sound configuration is refused only where a limit leaves no capacity, or for want of memory
+abbrev pub RefusesPlay : Rehearsal → InputFault → Type 0
+RefusesPlay rehearsal (input.Refused place fault_kind) = config_fault rehearsal.config ≡ None → (fault_kind ≡ Full) × IsTooLarge rehearsal
+RefusesPlay rehearsal input.NoMemory = Unit {0}
+
+-- an input is refused as not read only where it is no JSON text. It is refused at a place, or for many faults, only where it asks for
+-- nothing that can be played, or where a limit leaves no capacity for the rehearsal that it asks for, which is refused as full
+abbrev pub Refuses : Changes → Wanted → List ℕ → RehearseFault → Type 0
+Refuses changes wanted text rehearse.Unreadable = ⊥
+Refuses changes wanted text (rehearse.NotRead fault) = IsNoJson text
+Refuses changes wanted text (rehearse.Refused place fault_kind) =
+    AsksForNone changes wanted text ⊎ ((fault_kind ≡ Full) × AsksForTooMuch changes text)
+Refuses changes wanted text (rehearse.AllRefused faults) = AsksForNone changes wanted text
+Refuses changes wanted text rehearse.NoMemory = Unit {0}
+Refuses changes wanted text rehearse.Unwritable = ⊥
+Refuses changes wanted text rehearse.Unmet = ⊥

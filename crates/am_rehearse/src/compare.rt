@@ -106,6 +106,16 @@ fn played_under<R: Files + Eprint + AllocGlobal + Clock>(
         config: Some(&config.value),
         overrides,
     };
+    played_with(rt, console, story, changes)
+}
+
+/// Plays the story that these changes are made to, and complains if it is refused. The error is the status.
+fn played_with<R: Files + Eprint + AllocGlobal + Clock>(
+    rt: &R,
+    console: &Console,
+    story: &Document<'_>,
+    changes: Changes<'_>,
+) -> Result<PlayedStory, u8> {
     let mut files = SystemZones::new(rt);
     let mut watch = Progress::begin(rt, console.is_terminal);
     match played(rt.alloc(), story, changes, &mut files, &mut watch) {
@@ -173,12 +183,22 @@ fn compare_played(
     old: &PlayedStory,
     new: &PlayedStory,
 ) -> Result<Comparison, AllocError> {
-    let old_log = logbook_of(alloc, &old.played)?;
-    let new_log = logbook_of(alloc, &new.played)?;
-    let one = Playback::new(&old_log, old.played.events.as_slice());
-    let other = Playback::new(&new_log, new.played.events.as_slice());
-    match &old.start {
-        None => compare_notices(alloc, &one, &other, &Elapsed),
-        Some(start) => compare_notices(alloc, &one, &other, start),
+    let log = logbook_of(alloc, &old.played)?;
+    let playback = Playback::new(&log, old.played.events.as_slice());
+    compare_with(alloc, &playback, &old.start, &new.played)
+}
+
+/// Compares a playback with a story that was played, with dates if its start is told.
+fn compare_with(
+    alloc: Global,
+    old: &Playback<'_>,
+    start: &Option<UtcDates>,
+    new: &Played,
+) -> Result<Comparison, AllocError> {
+    let log = logbook_of(alloc, new)?;
+    let playback = Playback::new(&log, new.events.as_slice());
+    match start {
+        None => compare_notices(alloc, old, &playback, &Elapsed),
+        Some(start) => compare_notices(alloc, old, &playback, start),
     }
 }

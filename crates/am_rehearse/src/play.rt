@@ -8,12 +8,11 @@ use am_alerts::sequence::Sequence;
 use am_alerts::text::Text;
 use am_cli::fault::InputFault;
 use am_cli::faults::{Faults, Refusal};
-use am_command::request::{PlayRequest, STANDARD_INPUT};
+use am_command::request::{PlayRequest, STANDARD_INPUT, Selection};
 use am_commands::faults::faults_of;
 use am_commands::given::given_to;
 use am_commands::ignored::say_ignored;
 use am_commands::system_zones::SystemZones;
-use am_config::dropped::IgnoredSettings;
 use am_console::console::{Console, Document, REJECTED, UNWRITABLE};
 use am_console::files::{FileFault, open};
 use am_console::matcher_words::{matcher_of, words_for};
@@ -50,11 +49,22 @@ fn try_play<R: Files + Eprint + AllocGlobal + Clock>(
         until: until_of(rt, request.until)?,
     };
     let wanted = wanted_of(rt, console, request)?;
-    let config = match request.config {
-        None => None,
-        Some(path) => Some(console.read(rt, path)?),
+    play_wanted(rt, console, request, overrides, &wanted)
+}
+
+/// Simulates a story, and prints what is wanted of it. The error is the status.
+fn play_wanted<R: Files + Eprint + AllocGlobal + Clock>(
+    rt: &R,
+    console: &mut Console,
+    request: &PlayRequest<'_>,
+    overrides: Overrides,
+    wanted: &Wanted,
+) -> Result<(), u8> {
+    let Some(path) = request.config else {
+        return play_under(rt, console, request, None, overrides, wanted);
     };
-    play_under(rt, console, request, config.as_ref(), overrides, &wanted)
+    let config = console.read(rt, path)?;
+    play_under(rt, console, request, Some(&config), overrides, wanted)
 }
 
 /// Simulates a story under the configuration that the command line names, if it names one. The error is the status.
@@ -70,21 +80,37 @@ fn play_under<R: Files + Eprint + AllocGlobal + Clock>(
         config: config.map(|document| &document.value),
         overrides,
     };
-    let mut report = Report {
-        text: Vec::new(rt.alloc()),
-        ignored: IgnoredSettings::nothing(),
-        judgement: Judgement::none(rt.alloc()),
-    };
+    let mut report = Report::nothing(rt.alloc());
     let ended = run(rt, console, request.story, changes, wanted, &mut report)?;
+    conclude(rt, console, request, config, overrides, report, ended)
+}
+
+/// Says what a run came to. The error is the status.
+fn conclude<R: Files + Eprint + AllocGlobal>(
+    rt: &R,
+    console: &mut Console,
+    request: &PlayRequest<'_>,
+    config: Option<&Document<'_>>,
+    overrides: Overrides,
+    report: Report,
+    ended: Result<(), RehearseFault>,
+) -> Result<(), u8> {
     say_ignored(rt, request.config.unwrap_or(request.story), report.ignored);
-    if matches!(ended, Ok(()) | Err(RehearseFault::Unmet)) {
-        say_found(rt, &report.judgement);
-        write_junit(rt, request.junit, &report.judgement.junit)?;
-    }
     match ended {
-        Ok(()) => Ok(()),
-        Err(fault) => Err(complain(rt, console, request, config, overrides, report, fault)),
+        Ok(()) => say_judgement(rt, request, &report.judgement),
+        Err(RehearseFault::Unmet) => Err(complain_of_unmet(rt, console, request, report)),
+        Err(fault) => Err(complain(rt, console, request, config, overrides, report.text, fault)),
     }
+}
+
+/// Says what was found, and writes the report on the expectations. The error is the status.
+fn say_judgement<R: Files + Eprint>(
+    rt: &R,
+    request: &PlayRequest<'_>,
+    judgement: &Judgement,
+) -> Result<(), u8> {
+    say_found(rt, judgement);
+    write_junit(rt, request.junit, &judgement.junit)
 }
 
 /// Says that the command line names what no flush is of, if it does.
@@ -185,18 +211,9 @@ fn wanted_of<R: Eprint + AllocGlobal>(
     console: &Console,
     request: &PlayRequest<'_>,
 ) -> Result<Wanted, u8> {
-    let selection = &request.selection;
-    let matchers = matchers_of(rt, console, selection.alerts.as_slice())?;
-    let receiver = text_of(rt, console, selection.receiver)?;
-    let route = text_of(rt, console, selection.group)?;
-    let filter = Filter {
-        receiver,
-        route,
-        matchers: Sequence::from(matchers),
-    };
     let wanted = Wanted {
-        filter,
-        changes: selection.changes,
+        filter: filter_of(rt, console, &request.selection)?,
+        changes: request.selection.changes,
         junit: request.junit.is_some(),
     };
     if request.output == Some("html") && wanted.leaves_out() {
@@ -204,6 +221,22 @@ fn wanted_of<R: Eprint + AllocGlobal>(
         return Err(REJECTED);
     }
     Ok(wanted)
+}
+
+/// Returns the filter that the command line gives. The error is the status.
+fn filter_of<R: Eprint + AllocGlobal>(
+    rt: &R,
+    console: &Console,
+    selection: &Selection<'_>,
+) -> Result<Filter, u8> {
+    let receiver = text_of(rt, console, selection.receiver)?;
+    let route = text_of(rt, console, selection.group)?;
+    let matchers = matchers_of(rt, console, selection.alerts.as_slice())?;
+    Ok(Filter {
+        receiver,
+        route,
+        matchers: Sequence::from(matchers),
+    })
 }
 
 /// Returns a text of the command line, if there is one. The error is the status.
@@ -272,52 +305,70 @@ pub(crate) fn until_of<R: Eprint>(rt: &R, until: Option<&str>) -> Result<Option<
     }
 }
 
-/// Complains of what ended a run, and returns the status.
+/// Complains of what ended a run whose input has this text, and returns the status.
 fn complain<R: Files + Eprint + AllocGlobal>(
     rt: &R,
     console: &mut Console,
     request: &PlayRequest<'_>,
     config: Option<&Document<'_>>,
     overrides: Overrides,
-    report: Report,
+    text: Vec<u8>,
     fault: RehearseFault,
 ) -> u8 {
-    let status = fault.status();
+    let path = request.story;
     let refusal = match fault {
-        RehearseFault::NotRead { fault } => {
-            return console.complain_of_text(rt, request.story, fault);
+        RehearseFault::NotRead { fault } => return console.complain_of_text(rt, path, fault),
+        RehearseFault::Unreadable => {
+            return console.complain_of_file(rt, path, FileFault::Unreadable);
         }
         RehearseFault::Refused { place, fault_kind } => {
             Refusal::One(InputFault::Refused { place, fault_kind })
         }
         RehearseFault::AllRefused { faults } => Refusal::All(faults),
-        RehearseFault::Unreadable => {
-            return console.complain_of_file(rt, request.story, FileFault::Unreadable);
-        }
-        RehearseFault::Unmet => {
-            complain_of_unmet(rt, console, request.story, report);
-            let unmet = RehearseFault::Unmet;
-            let _ = eprintln!(rt; "{unmet}");
-            return status;
-        }
-        fault => {
-            let _ = eprintln!(rt; "{fault}");
-            return status;
-        }
+        fault => return print_fault(rt, &fault),
     };
-    let Ok(value) = read_document(rt.alloc(), report.text.as_slice()) else {
+    complain_of_refusal(rt, console, path, config, overrides, text, refusal)
+}
+
+/// Complains of what a story with this text was refused for, and returns the status.
+fn complain_of_refusal<R: Files + Eprint + AllocGlobal>(
+    rt: &R,
+    console: &mut Console,
+    path: &str,
+    config: Option<&Document<'_>>,
+    overrides: Overrides,
+    text: Vec<u8>,
+    refusal: Refusal,
+) -> u8 {
+    let Ok(value) = read_document(rt.alloc(), text.as_slice()) else {
         return console.complain_of_memory(rt);
     };
-    let document = Document {
-        path: request.story,
-        text: report.text,
-        value,
-    };
+    let document = Document { path, text, value };
     complain_of_story(rt, console, config, overrides, &document, refusal)
 }
 
-/// Says of each expectation that isn't met where it stands.
+/// Prints a fault that has no place, and returns the status.
+fn print_fault<R: Eprint>(rt: &R, fault: &RehearseFault) -> u8 {
+    let _ = eprintln!(rt; "{fault}");
+    fault.status()
+}
+
+/// Says of each expectation that isn't met where it stands, and what else a run came to. Returns the status.
 fn complain_of_unmet<R: Files + Eprint + AllocGlobal>(
+    rt: &R,
+    console: &Console,
+    request: &PlayRequest<'_>,
+    report: Report,
+) -> u8 {
+    if let Err(status) = say_judgement(rt, request, &report.judgement) {
+        return status;
+    }
+    point_at_unmet(rt, console, request.story, report);
+    print_fault(rt, &RehearseFault::Unmet)
+}
+
+/// Says of each expectation that isn't met where it stands.
+fn point_at_unmet<R: Files + Eprint + AllocGlobal>(
     rt: &R,
     console: &Console,
     path: &str,

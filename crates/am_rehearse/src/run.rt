@@ -1,17 +1,20 @@
 //! The run of a rehearsal: reads the whole input, runs it, writes the output. `main` calls it.
 ghost use Rattle.std.specs.Prelude.{◌≡◌, ◌≢◌, ◌≤◌, ◌<◌, ◌==◌, ◌&&◌, ◌+◌, ◌++◌, ◌⊎◌, ◌↔◌, List, ℕ, Some, false, true};
 ghost use Rattle.std.specs.Prelude.{length, string_bytes, vec_len};
-ghost use Rattle.std.specs.Prelude.{IfErr, IfOk, None, OnOk, not, option_and_then, option_map, if◌then◌else◌};
+ghost use Rattle.std.specs.Prelude.{IfErr, IfOk, IsTrue, None, OnOk, not, option_and_then, option_map, if◌then◌else◌};
 ghost use Rattle.std.specs.List.{list_all, range_with_len};
+ghost use Rattle.am_cli.specs.Read.{IsRefusedBy};
 ghost use Rattle.am_cli.specs.declared.transfer.TheConstants.{MAX_INPUT};
 ghost use Rattle.am_rehearsal.specs.EventOrder.{begin_indices};
 ghost use Rattle.am_rehearsal.specs.Play.{PlaysTo, setting_of};
 ghost use Rattle.am_rehearsal.specs.Previews.{previews_of};
 ghost use Rattle.am_rehearsal.specs.declared.limits.TheConstants.{BOARD_ID};
 ghost use Rattle.am_input.specs.Request.{times_from};
-ghost use Rattle.am_rehearse.specs.Faults.{Refuses, status_of};
+ghost use Rattle.am_rehearse.specs.Faults.{Refuses, RefusesPlay, is_limit, leaves_out, status_of};
 ghost use Rattle.am_model.specs.Replay.{IsLegal};
-ghost use Rattle.am_rehearse.specs.Printed.{WritesOutput, IsPrinted, IsOutputOf, IsOutputOfRun, IsOutputFor, expectations_section, summary};
+ghost use Rattle.am_rehearse.specs.Printed.{WritesOutput, IsPrinted, IsOutputOf, IsOutputOfRun, IsOutputFor, IsRequestBy};
+ghost use Rattle.am_rehearse.specs.declared.wanted.Wanted.{Wanted};
+ghost use Rattle.am_rehearse.specs.Printed.{expectations_section, selected, summary};
 ghost use Rattle.am_timeline.specs.Changed.{changed};
 ghost use Rattle.am_judge.specs.Junit.{junit_text};
 ghost use Rattle.am_judge.specs.Expectation.{is_met, unmet_from};
@@ -77,6 +80,17 @@ pub struct Judgement {
     pub found_nothing: bool,
 }
 
+impl Report {
+    /// Returns the report before a run.
+    pub fn nothing(alloc: Global) -> Report {
+        Report {
+            text: Vec::new(alloc),
+            ignored: IgnoredSettings::nothing(),
+            judgement: Judgement::none(alloc),
+        }
+    }
+}
+
 impl Judgement {
     /// Returns the judgement where nothing was played.
     pub fn none(alloc: Global) -> Judgement {
@@ -104,7 +118,10 @@ struct Rendered {
 /// where it is one, or those of `changes`. Of a configuration of Alertmanager it isn't said that it is the one that its
 /// file tells.
 ///
-/// An input is refused as `NotRead` only where it is no JSON text; it was read whole before.
+/// An input is refused as `NotRead` only where it is no JSON text. It is refused at a place, or as `AllRefused`, only
+/// where it asks, as a JSON text, for nothing that can be played, or for more than a limit lets be played, which is
+/// refused as `Full` (`Refuses`). Nothing is said of YAML, of a given file, of a configuration of Alertmanager, and of
+/// patterns. The input was read whole before.
 ///
 /// `report` has what was read, once all of it was, what of Alertmanager's configuration is ignored, and, once a rehearsal
 /// was played, which expectations aren't met, and the report on them that is `wanted`.
@@ -135,7 +152,7 @@ pub fn run_rehearsal<S: Source, Z: ZoneFiles, K: Sink, W: Watch>(
         (WritesOutput changes.entry wanted.now true (S.given source.old) (S.given source.new) (K.taken sink.old) (K.taken sink.new)) }
     ensures unmet { IfErr result (λ fault. fault ≡ RehearseFault.Unmet →
         WritesOutput changes.entry wanted.now false (S.given source.old) (S.given source.new) (K.taken sink.old) (K.taken sink.new)) }
-    ensures refused { IfErr result (λ fault. status_of fault ≡ 2 → (input : List ℕ) × Refuses input fault
+    ensures refused { IfErr result (λ fault. status_of fault ≡ 2 → (input : List ℕ) × Refuses changes.entry wanted.now input fault
         × (S.given source.new ≡ S.given source.old ++ input)
         × (S.ended source.new ≡ S.ended source.old + 1)) }
 {
@@ -166,7 +183,10 @@ pub fn run_rehearsal<S: Source, Z: ZoneFiles, K: Sink, W: Watch>(
 }
 
 /// Why a rehearsal wasn't played to its end, told at the place in the input.
-fn refused(alloc: Global, fault: PlayFault, origins: &[Origin]) -> InputFault {
+fn refused(alloc: Global, fault: PlayFault, origins: &[Origin]) -> InputFault
+    ensures memory { fault ≡ PlayFault.NoMemory → result ≡ InputFault.NoMemory }
+    ensures limit { IsTrue (is_limit fault) → IsRefusedBy FaultKind.Full result }
+{
     let top = JsonPointer::Root;
     match fault {
         PlayFault::NoMemory => InputFault::NoMemory,
@@ -190,12 +210,27 @@ fn render<Z: ZoneFiles, W: Watch>(
     ignored: &mut IgnoredSettings,
 ) -> Result<Rendered, RehearseFault>
     ensures told { IfOk result (λ rendered. IsOutputFor changes.entry wanted.now input.now rendered.is_met (string_bytes rendered.text)) }
-    ensures refused { IfErr result (Refuses input.now) }
+    ensures refused { IfErr result (Refuses changes.entry wanted.now input.now) }
 {
-    let value = read_document(alloc, input)?;
-    let input = read_input(alloc, &value, changes, files)?;
-    *ignored = input.dropped;
-    Ok(play_and_render(alloc, input, wanted, watch)?)
+    let story = read_story(alloc, input, changes, files)?;
+    *ignored = story.dropped;
+    check_lines(alloc, story.output, wanted)?;
+    Ok(play_and_render(alloc, story, wanted, watch)?)
+}
+
+/// Reads the rehearsal that this text asks for. The value that the text is read as is let go.
+fn read_story<Z: ZoneFiles>(
+    alloc: Global,
+    text: &[u8],
+    changes: Changes<'_>,
+    files: &mut Z,
+) -> Result<Input, RehearseFault>
+    ensures told { IfOk result (λ story. IsRequestBy changes.entry text.now story.output story.start story.expectations.items
+        story.rehearsal) }
+    ensures refused { IfErr result (λ fault. (wanted : Wanted) → Refuses changes.entry wanted text.now fault) }
+{
+    let value = read_document(alloc, text)?;
+    Ok(read_input(alloc, &value, changes, files)?)
 }
 
 /// Plays a rehearsal, and tells what is asked for.
@@ -205,8 +240,9 @@ fn play_and_render<W: Watch>(
     wanted: &Wanted,
     watch: &mut W,
 ) -> Result<Rendered, InputFault>
-    ensures { IfOk result (λ rendered. IsOutputOfRun input.rehearsal input.output wanted.now (times_from input.start)
+    ensures told { IfOk result (λ rendered. IsOutputOfRun input.rehearsal input.output wanted.now (times_from input.start)
         input.expectations.items rendered.is_met (string_bytes rendered.text)) }
+    ensures refused { IfErr result (RefusesPlay input.rehearsal) }
 {
     let Input {
         rehearsal,
@@ -216,14 +252,15 @@ fn play_and_render<W: Watch>(
         output,
         dropped: _,
     } = input;
-    check_lines(alloc, output, wanted)?;
     let played = play_or_refuse(alloc, rehearsal, origins.as_slice(), watch)?;
     let expectations = expectations.as_slice();
     render_from(alloc, &played, &start, expectations, output, wanted)
 }
 
 /// Refuses a page of which lines are to be left out.
-fn check_lines(alloc: Global, output: Output, wanted: &Wanted) -> Result<(), InputFault> {
+fn check_lines(alloc: Global, output: Output, wanted: &Wanted) -> Result<(), InputFault>
+    ensures { IfErr result (λ _. (output ≡ Output.Html) × (leaves_out wanted.now ≡ true)) }
+{
     match output {
         Output::Html if wanted.leaves_out() => Err(refused_output(alloc)),
         _ => Ok(()),
@@ -252,6 +289,7 @@ pub(crate) fn play_or_refuse<W: Watch>(
         begin_indices played.value.events.items ≡ range_with_len 0 (vec_len played.value.begins)) }
     ensures played { IfOk result (λ played.
         PlaysTo (setting_of rehearsal) rehearsal.config rehearsal.plans.items played.value.board played.value.events.items) }
+    ensures refused { IfErr result (RefusesPlay rehearsal) }
 {
     let ended = play(alloc, rehearsal, watch);
     watch.end();
@@ -273,16 +311,19 @@ fn render_from(
     requires ours { played.now.board.id ≡ BOARD_ID }
     requires previews { played.now.begins.items ≡ previews_of played.now.board.config played.now.board.history }
     requires begun { begin_indices played.now.events.items ≡ range_with_len 0 (vec_len played.now.begins) }
-    ensures { IfOk result (λ rendered. IsOutputOf played.now.board played.now.events.items output wanted.now (times_from start.now)
+    ensures told { IfOk result (λ rendered. IsOutputOf played.now.board played.now.events.items output wanted.now (times_from start.now)
         expectations.now rendered.is_met (string_bytes rendered.text)) }
+    ensures refused { IfErr result (λ fault. fault ≡ InputFault.NoMemory) }
 {
     match start {
-        None => render_by(alloc, played, &Elapsed, expectations, output, wanted),
-        Some(start) => render_by(alloc, played, start, expectations, output, wanted),
+        None => Ok(render_by(alloc, played, &Elapsed, expectations, output, wanted)?),
+        Some(start) => Ok(render_by(alloc, played, start, expectations, output, wanted)?),
     }
 }
 
 /// What is printed of a played rehearsal, with moments that this clock shows.
+///
+/// The steps below it hold one value each: of all that a function holds, each `?` lets go, and each such end is proved.
 fn render_by<C: TimeFormat>(
     alloc: Global,
     played: &Played,
@@ -290,7 +331,7 @@ fn render_by<C: TimeFormat>(
     expectations: &[Expectation],
     output: Output,
     wanted: &Wanted,
-) -> Result<Rendered, InputFault>
+) -> Result<Rendered, AllocError>
     requires ours { played.now.board.id ≡ BOARD_ID }
     requires previews { played.now.begins.items ≡ previews_of played.now.board.config played.now.board.history }
     requires begun { begin_indices played.now.events.items ≡ range_with_len 0 (vec_len played.now.begins) }
@@ -299,18 +340,85 @@ fn render_by<C: TimeFormat>(
 {
     let log = logbook_of(alloc, played)?;
     let playback = Playback::new(&log, played.events.as_slice());
-    let of_filter = filtered_events(alloc, &playback, &wanted.filter)?;
-    let filtered = playback.with_events(of_filter.of(playback.events()));
-    let kept = wanted_events(alloc, &filtered, clock, wanted)?;
-    let shown = filtered.with_events(kept.of(filtered.events()));
-    let text = printed(alloc, &shown, &playback, clock, expectations, output)?;
-    let is_met = are_met(alloc, &playback, expectations)?;
-    let judgement = judge(alloc, &playback, &filtered, clock, expectations, wanted)?;
+    render_filtered(alloc, &playback, clock, expectations, output, wanted)
+}
+
+/// What is printed of a playback, with the lines of the groups that are wanted.
+fn render_filtered<C: TimeFormat>(
+    alloc: Global,
+    playback: &Playback<'_>,
+    clock: &C,
+    expectations: &[Expectation],
+    output: Output,
+    wanted: &Wanted,
+) -> Result<Rendered, AllocError>
+    ensures met { IfOk result (λ rendered. rendered.is_met ≡ list_all (is_met playback.now) expectations.now) }
+    ensures printed { IfOk result (λ rendered. IsPrinted output (selected wanted.now playback.now (C.times clock.now)) playback.now
+        (C.times clock.now) expectations.now (string_bytes rendered.text)) }
+{
+    let left = filtered_events(alloc, playback, &wanted.filter)?;
+    let filtered = playback.with_events(left.of(playback.events()));
+    render_wanted(
+        alloc,
+        playback,
+        &filtered,
+        clock,
+        expectations,
+        output,
+        wanted,
+    )
+}
+
+/// The same, with those of the lines that the filter leaves which are wanted.
+fn render_wanted<C: TimeFormat>(
+    alloc: Global,
+    playback: &Playback<'_>,
+    filtered: &Playback<'_>,
+    clock: &C,
+    expectations: &[Expectation],
+    output: Output,
+    wanted: &Wanted,
+) -> Result<Rendered, AllocError>
+    ensures met { IfOk result (λ rendered. rendered.is_met ≡ list_all (is_met playback.now) expectations.now) }
+    ensures printed { IfOk result (λ rendered. IsPrinted output
+        (if wanted.now.changes then changed filtered.now (C.times clock.now) else filtered.now) playback.now
+        (C.times clock.now) expectations.now (string_bytes rendered.text)) }
+{
+    let is_met = are_met(alloc, playback, expectations)?;
+    let judgement = judge(alloc, playback, filtered, clock, expectations, wanted)?;
+    let text = text_of(
+        alloc,
+        playback,
+        filtered,
+        clock,
+        expectations,
+        output,
+        wanted,
+    )?;
     Ok(Rendered {
         text,
         is_met,
         judgement,
     })
+}
+
+/// The output, with those of the lines that the filter leaves which are wanted.
+fn text_of<C: TimeFormat>(
+    alloc: Global,
+    playback: &Playback<'_>,
+    filtered: &Playback<'_>,
+    clock: &C,
+    expectations: &[Expectation],
+    output: Output,
+    wanted: &Wanted,
+) -> Result<String, AllocError>
+    ensures { IfOk result (λ text. IsPrinted output
+        (if wanted.now.changes then changed filtered.now (C.times clock.now) else filtered.now) playback.now
+        (C.times clock.now) expectations.now (string_bytes text)) }
+{
+    let kept = wanted_events(alloc, filtered, clock, wanted)?;
+    let shown = filtered.with_events(kept.of(filtered.events()));
+    printed(alloc, &shown, playback, clock, expectations, output)
 }
 
 /// The logbook of a rehearsal that was played.

@@ -14,8 +14,13 @@ pub struct Wanted {
 }
 
 impl Wanted {
+    ghost use Rattle.std.specs.Prelude.{◌≡◌};
+    ghost use Rattle.am_rehearse.specs.Faults.{leaves_out};
+
     /// Returns whether lines may be left out.
-    pub fn leaves_out(&self) -> bool {
+    pub fn leaves_out(&self) -> bool
+        ensures { result ≡ leaves_out self.now }
+    {
         self.changes || !self.filter.is_empty()
     }
 }

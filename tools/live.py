@@ -110,6 +110,15 @@ class Live:
     def call(self, name, **arguments):
         return self.answer(name, **arguments)[1]
 
+    def accept(self, name, **arguments):
+        """Makes a call with what a request has. If the board says what is wrong with that, the request is refused."""
+        try:
+            return self.call(name, **arguments)
+        except BoardError as error:
+            if error.kind in WRONG:
+                raise Refused(str(error)) from None
+            raise
+
     # Alerts.
 
     def post_alerts(self, posted):
@@ -129,12 +138,7 @@ class Live:
     def insert(self, alert):
         old = self.alerts.get(label_key(alert["labels"]))
         alert = merged(old, alert, self.clock.now()) if old else alert
-        try:
-            self.call("insert", now=self.clock.now(), labels=alert["labels"], starts=alert["starts"], ends=alert["ends"])
-        except BoardError as error:
-            if error.kind in WRONG:
-                raise Refused(str(error)) from None
-            raise
+        self.accept("insert", now=self.clock.now(), labels=alert["labels"], starts=alert["starts"], ends=alert["ends"])
         self.alerts[label_key(alert["labels"])] = alert
 
     def shown_alerts(self):
@@ -154,26 +158,25 @@ class Live:
         """Sets a silence, and returns its id: a new one, unless it has one whose change keeps what it mutes."""
         now, old, silence = self.clock.now(), None, read_silence(posted)
         if posted.get("id"):
-            old = self.silences.get(posted["id"])
+            old = self.silences.get(str(posted["id"]))
             if old is None:
                 raise Refused(f"silence {posted['id']} not found", 404)
         if silence["ends"] < now:
             raise Refused("failed to create silence: end time can't be in the past")
-        silence["id"] = posted["id"] if old and can_update(old, silence, now) else str(uuid.uuid4())
-        if old and silence["id"] == old["id"]:
-            silence["number"] = old["number"]
-        else:
-            if old and old["ends"] > now:
-                self.expire(old["id"])
-            self.silence_number += 1
-            silence |= {"number": self.silence_number, "starts": max(now, silence["starts"])}
+        if old and can_update(old, silence, now):
+            self.put_silence(silence | {"id": old["id"], "number": old["number"]})
+            return old["id"]
+        self.silence_number += 1
+        silence |= {"id": str(uuid.uuid4()), "number": self.silence_number, "starts": max(now, silence["starts"])}
         self.put_silence(silence)
+        if old:
+            self.expire(old["id"])
         return silence["id"]
 
     def put_silence(self, silence):
         now = self.clock.now()
-        self.call("silence", now=now, id=silence["number"], starts=silence["starts"], ends=silence["ends"],
-                  matchers=matcher_lists(silence))
+        self.accept("silence", now=now, id=silence["number"], starts=silence["starts"], ends=silence["ends"],
+                    matchers=matcher_lists(silence))
         self.silences[silence["id"]] = silence | {"updated": now}
 
     def expire(self, name):
@@ -304,18 +307,21 @@ class Live:
             return
         saved = json.loads((self.folder / "saved.json").read_text(encoding="utf-8"))
         for row in saved["rows"]:
-            try:
-                self.call("load", now=self.clock.now(), row=row)
-            except BoardError as error:
-                # (the configuration may have changed meanwhile)
-                if error.kind != "NoIntegration":
-                    raise
-                self.say(f"live: this row of the log is left out: {error}: {json.dumps(row)}")
+            self.load_row(row)
         self.silence_number = saved["silence_number"]
         for silence in saved["silences"]:
             if silence["ends"] > self.clock.now():
                 self.put_silence(silence)
             self.silences[silence["id"]] = silence
+
+    def load_row(self, row):
+        """Loads a row, unless the configuration or the clock was changed meanwhile."""
+        try:
+            self.call("load", now=self.clock.now(), row=row)
+        except BoardError as error:
+            if error.kind not in ("NoIntegration", "Ahead"):
+                raise
+            self.say(f"live: a row of the log is left out: {error}: {json.dumps(row)}")
 
     def close(self):
         """Saves all, and ends the board, whose open flushes stay without a further entry in the log."""
@@ -359,10 +365,10 @@ class RealClock:
         threading.Thread(target=run, daemon=True).start()
 
     def guard(self, action):
-        """Calls it. A failure of the board ends the program: what is known here would no longer be true of it."""
+        """Calls it. If the board or a file fails, the program ends: what is known here would no longer be true of the board."""
         try:
             action()
-        except BoardError as error:
+        except (BoardError, OSError) as error:
             self.end(error)
 
     def end(self, failure=None):
@@ -411,9 +417,9 @@ class Handler(http.server.BaseHTTPRequestHandler):
                 status, value = 200, self.respond(self.command, urllib.parse.urlsplit(self.path), body)
             except Refused as error:
                 status, value = error.status, str(error)
-            except BoardError as error:
-                status, value = 400 if error.kind in WRONG else 503, str(error)
-                if error.kind not in WRONG | LIMITS:
+            except (BoardError, OSError) as error:
+                status, value = 503, str(error)
+                if getattr(error, "kind", "") not in LIMITS:
                     self.clock.end(error)
         return self.answer(status, value)
 

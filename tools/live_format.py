@@ -167,17 +167,25 @@ def shown_in_message(status, alert, known):
 
 def read_alert(posted, now, timeout):
     """An alert that was posted now. Without an end it ends after the timeout, unless it is posted again."""
-    if not isinstance(posted, dict) or not isinstance(posted.get("labels"), dict):
-        raise Refused("an alert is an object with labels")
+    if not isinstance(posted, dict):
+        raise Refused("an alert is an object")
     starts, ends = read_time(posted.get("startsAt")), read_time(posted.get("endsAt"))
-    alert = {"labels": {name: value for name, value in posted["labels"].items() if value != ""}, "timeout": ends is None, "updated": now,
-             "annotations": posted.get("annotations") or {}, "url": posted.get("generatorURL") or ""}
+    alert = {"labels": {name: value for name, value in texts(posted, "labels").items() if value != ""}, "timeout": ends is None, "updated": now,
+             "annotations": texts(posted, "annotations"), "url": str(posted.get("generatorURL") or "")}
     # (an alert with an end alone starts there, as Alertmanager has it)
     alert["starts"] = starts if starts is not None else now if ends is None else ends
     alert["ends"] = now + timeout if ends is None else ends
     if alert["ends"] < alert["starts"]:
         raise Refused("start time must be before end time")
     return alert
+
+
+def texts(posted, name):
+    """An object of texts."""
+    found = posted.get(name) or {}
+    if not isinstance(found, dict) or not all(isinstance(it, str) for it in found.values()):
+        raise Refused(f"{name} of an alert are an object of texts")
+    return found
 
 
 def merged(old, new, now):
@@ -198,7 +206,7 @@ def matcher_lists(silence):
 
 def read_silence(posted):
     try:
-        matchers = [{"name": it["name"], "value": it["value"], "isRegex": bool(it["isRegex"]), "isEqual": it.get("isEqual") is not False}
+        matchers = [{"name": str(it["name"]), "value": str(it["value"]), "isRegex": bool(it["isRegex"]), "isEqual": it.get("isEqual") is not False}
                     for it in posted["matchers"]]
         silence = {"matchers": matchers, "starts": read_time(posted["startsAt"]), "ends": read_time(posted["endsAt"]),
                    "createdBy": str(posted["createdBy"]), "comment": str(posted["comment"])}

@@ -88,7 +88,7 @@ def request_of(step, start, names):
 
 def alert_of(words, ends, start):
     """An alert: its name, labels, and @starts, @ends (seconds) and @note (its annotation)."""
-    alert = {"labels": {"alertname": words[0]}, "annotations": {}} | ({"endsAt": time_at(start, ends)} if ends is not None else {})
+    alert = {"labels": {"alertname": words[0]} if words else {}, "annotations": {}} | ({"endsAt": time_at(start, ends)} if ends is not None else {})
     for name, _, value in (it.partition("=") for it in words[1:]):
         if name in ("@starts", "@ends"):
             alert[f"{name[1:]}At"] = time_at(start, value)
@@ -160,11 +160,11 @@ class PlayedClock:
         self.time = moment
 
 
-def play(story, program, said=None):
-    """Plays a story, and returns its lines and the statuses that answered its requests."""
+def play(story, program, folder=None):
+    """Plays a story, and returns its lines and the answers to its requests. A folder keeps the history."""
     clock, names, statuses, config = PlayedClock(story), {}, [], Config(story.config("http://receivers"))
-    with tempfile.TemporaryDirectory(prefix="live-") as folder:
-        begin = lambda: live.Live(config, program, clock, Path(folder), say=said or (lambda _: None))
+    with tempfile.TemporaryDirectory(prefix="live-") as temporary:
+        begin = lambda: live.Live(config, program, clock, Path(folder or temporary), say=lambda _: None)
         core = begin()
         for step in story.steps:
             clock.go(START + int(1000 * step[0]))
@@ -179,29 +179,36 @@ def play(story, program, said=None):
 
 
 def ask(core, request, names, step):
-    """Makes a request of the core without HTTP, and returns its status."""
+    """Makes a request of the core without HTTP, and returns its answer: the status, and whether a changed silence kept its id."""
     method, path, body = request
     try:
         if path == "/api/v2/alerts":
             core.post_alerts(body)
         elif method == "POST":
-            names[step[2].split()[0]] = core.set_silence(body)
+            return answer_of(200, core.set_silence(body), names, step)
         else:
             core.expire(path.rpartition("/")[2])
     except Refused as error:
-        return error.status
-    return 200
+        return str(error.status)
+    return "200"
+
+
+def answer_of(status, name, names, step):
+    """The answer to a silence, whose id is kept by its name in the story."""
+    known = step[2].split()[0]
+    is_same, names[known] = names.get(known) == name, name
+    return f"{status}, same id" if is_same else str(status)
 
 
 def read_timelines(path):
-    """What the real one did, by story: the statuses of its answers, and its lines."""
+    """What the real one did, by story: its answers, and its lines."""
     found = {}
     for line in Path(path).read_text(encoding="utf-8").splitlines():
         word, _, rest = line.partition(" ")
         if word == "story":
             found[rest] = [[], []]
         elif word == "answers":
-            found[next(reversed(found))][0] = [int(it) for it in rest.split()]
+            found[next(reversed(found))][0] = rest.split("; ") if rest else []
         elif word and not word.startswith("#"):
             found[next(reversed(found))][1].append(unrounded(line))
     return found
@@ -210,5 +217,5 @@ def read_timelines(path):
 def write_timelines(path, timelines):
     text = "# What Alertmanager 0.25 did in each story of live-stories, to the half second. tools/live-compare --store writes it.\n"
     for name, (statuses, lines) in timelines.items():
-        text += "\n".join(["", f"story {name}", f"answers {' '.join(map(str, statuses))}", *map(rounded, lines), ""])
+        text += "\n".join(["", f"story {name}", f"answers {'; '.join(statuses)}", *map(rounded, lines), ""])
     Path(path).write_text(text, encoding="utf-8")

@@ -33,13 +33,16 @@ class Hook:
 
 
 class Config:
-    """What this program reads of an alertmanager.yml. The board reads the rest."""
+    """What this program reads of an alertmanager.yml. The board reads the rest, and checks all."""
 
     def __init__(self, data):
         self.data = data
-        self.hooks = {it["name"]: hooks_of(it) for it in data.get("receivers") or []}
-        self.timeout = milliseconds((data.get("global") or {}).get("resolve_timeout", "5m"))
-        self.routes = routes_of(data.get("route") or {})
+        try:
+            self.hooks = {it["name"]: hooks_of(it) for it in data.get("receivers") or []}
+            self.timeout = milliseconds((data.get("global") or {}).get("resolve_timeout", "5m"))
+            self.routes = routes_of(data.get("route") or {})
+        except (AttributeError, KeyError, TypeError) as error:
+            raise ValueError(f"this isn't a configuration of Alertmanager: {type(error).__name__}: {error}") from None
 
 
 def hooks_of(receiver):
@@ -61,7 +64,10 @@ def read_config(path):
         import yaml
     except ImportError:
         raise ValueError(f"{path}: to read YAML, build am-rehearse (./rehearse --version) or install PyYAML; or give JSON") from None
-    return yaml.safe_load(Path(path).read_text(encoding="utf-8"))
+    try:
+        return yaml.safe_load(Path(path).read_text(encoding="utf-8"))
+    except yaml.YAMLError as error:
+        raise ValueError(str(error)) from None
 
 
 def milliseconds(text):
@@ -112,9 +118,10 @@ def routes_of(root):
     def walk(route, key, receiver, path):
         receiver = route.get("receiver") or receiver
         key += "{" + ",".join(name + operator + quoted_text(value) for name, operator, value in matchers_of(route)) + "}"
-        routes.append((re.sub(r"^(?=[0-9])|[^a-zA-Z0-9]", "_", receiver), key, receiver, path))
+        routes.append((re.sub(rb"^(?=[0-9])|[^a-zA-Z0-9]", b"_", receiver.encode()).decode(), key, receiver, path))
         for place, child in enumerate(route.get("routes") or []):
             walk(child, key + "/", receiver, [*path, place])
+
     walk(root, "", "", [])
     shared, given = ["root", *(it[0] for it in routes[1:])], {"root": routes[0][1:3]}
     for name, key, receiver, path in routes[1:]:

@@ -457,17 +457,19 @@ def options():
 
 
 def main():
-    asked = options()
+    asked, clock = options(), RealClock()
     host, _, port = asked.address.rpartition(":")
-    clock = RealClock()
+    try:
+        server = http.server.ThreadingHTTPServer((host, int(port)), Handler)
+    except (OSError, ValueError) as error:
+        sys.exit(f"live: {asked.address}: {error}")
     try:
         config = Config(read_config(asked.config))
         external = asked.external or f"http://{host or 'localhost'}:{port}"
         live = Live(config, asked.board, clock, Path(asked.storage), external, lambda text: print(text, file=sys.stderr, flush=True))
-    except (OSError, ValueError, BoardError) as error:
+    except (OSError, ValueError, BoardError, Refused) as error:
         sys.exit(f"live: {asked.config}: {error}")
     Handler.live, Handler.clock = live, clock
-    server = http.server.ThreadingHTTPServer((host, int(port)), Handler)
     server.daemon_threads = True
     for it in (signal.SIGTERM, signal.SIGINT):
         # (in a thread, since the signal may come while this one changes what the lock guards)

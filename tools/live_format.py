@@ -237,7 +237,7 @@ def takes_nothing(matcher):
 
 
 def can_update(old, new, now):
-    """Whether a silence can keep its id (silence.canUpdate)."""
+    """Whether a silence can keep its id (silence.canUpdate). Starts within one second count as the same."""
     if old["matchers"] != new["matchers"] or old["ends"] <= now:
         return False
-    return new["starts"] == old["starts"] and new["ends"] >= now if old["starts"] <= now else new["starts"] >= now
+    return new["starts"] // 1000 == old["starts"] // 1000 and new["ends"] >= now if old["starts"] <= now else new["starts"] >= now

@@ -1,0 +1,489 @@
+#!/usr/bin/env python3
+"""Alertmanager's API for alerts and silences, with webhooks, over am-dispatch. A worked example: nothing here is proved.
+
+    tools/live.py --config.file alertmanager.yml [--web.listen-address HOST:PORT] [--storage.path FOLDER]
+
+The board decides who is notified, and when. This program has what the board leaves out: HTTP, the clock, the ids of silences,
+annotations, the merging of alerts that overlap, attempts and their waits. docs/live.md has its limits.
+"""
+import argparse
+import heapq
+import http.client
+import http.server
+import itertools
+import json
+import os
+import signal
+import subprocess
+import sys
+import threading
+import time
+import urllib.error
+import urllib.parse
+import urllib.request
+import uuid
+from pathlib import Path
+
+from live_format import (Config, Refused, can_update, fingerprint, label_key, matcher_lists, merged, message, read_alert, read_config,
+                         read_silence, time_text)
+
+BOARD = Path(__file__).resolve().parent.parent / "crates/am_dispatch/out/am_dispatch"
+# In milliseconds: between two maintenances; how long a silence is shown after its end; the first wait after an attempt; the longest.
+MAINTAIN, SHOWN, FIRST_WAIT, LONGEST_WAIT = 900_000, 120 * 3_600_000, 500, 60_000
+# How many calls the board keeps before its history is taken.
+KEPT = 10_000
+# The kinds of errors that say what is wrong with a request, and those that say that a limit is reached.
+WRONG = {"length", "missing", "kind", "value", "unknown", "unsupported"}
+LIMITS = {"TooManyNames", "TooManyGroups", "TooManySilences", "TooManyOpen"}
+
+
+class BoardError(Exception):
+    """A line that the board rejected, or a board that has ended."""
+
+    def __init__(self, call, kind, message):
+        super().__init__(f"the board rejected {call}: {kind}: {message}")
+        self.kind = kind
+
+
+class Board:
+    """The child process: one line for each call, and one for its answer."""
+
+    def __init__(self, program, opening):
+        self.kept = 0
+        # (it ends when its input ends, not by the signal that a terminal sends to both)
+        self.child = subprocess.Popen([program], stdin=subprocess.PIPE, stdout=subprocess.PIPE, start_new_session=True)
+        self.call("alertmanager", opening)
+
+    def ask(self, name, arguments):
+        """The line that answers a call, as it came."""
+        try:
+            self.child.stdin.write(json.dumps({name: arguments}).encode() + b"\n")
+            self.child.stdin.flush()
+            line = self.child.stdout.readline()
+        except OSError as error:
+            raise BoardError(name, "ended", f"{error}; status {self.child.poll()}") from error
+        if not line:
+            raise BoardError(name, "ended", f"it ended with status {self.child.wait()}")
+        return line
+
+    def call(self, name, arguments):
+        """What a call answers: its name, such as `inserted`, and its value."""
+        (answer, value), = json.loads(self.ask(name, arguments)).items()
+        if answer == "error":
+            raise BoardError(name, value["kind"], f"{value['message']} (at {value['pointer'] or '/'})")
+        self.kept += 1
+        return answer, value
+
+    def close(self):
+        self.child.stdin.close()
+        self.child.wait()
+        self.child.stdout.close()
+
+
+class Sending:
+    """A notification of an open flush to one webhook, until it has an outcome."""
+
+    def __init__(self, flush, notice, hook, body):
+        self.flush, self.notice, self.hook, self.body = flush, notice, hook, body
+        self.wait, self.begun, self.ended = FIRST_WAIT, 0, False
+
+
+class Live:
+    """The board, and what it leaves out. `clock` has the time, calls back, and posts; nothing else here waits.
+
+    `folder` has the log and the silences of the last run, and the history."""
+
+    def __init__(self, config, program, clock, folder=None, external="http://localhost:9093", say=print):
+        self.config, self.clock, self.folder, self.external, self.say = config, clock, folder, external, say
+        self.alerts, self.silences, self.silence_number, self.wakes_at = {}, {}, 0, None
+        self.board = Board(program, config.data)
+        self.keep(json.dumps({"alertmanager": config.data}).encode() + b"\n")
+        self.load()
+        self.clock.at(self.clock.now() + MAINTAIN, self.maintain)
+
+    def answer(self, name, **arguments):
+        """Makes a call of the board. The history is taken before the board has to keep too much of it."""
+        if self.board.kept >= KEPT:
+            self.take_history()
+        return self.board.call(name, arguments)
+
+    def call(self, name, **arguments):
+        return self.answer(name, **arguments)[1]
+
+    def accept(self, name, **arguments):
+        """Makes a call with what a request has. If the board says what is wrong with that, the request is refused."""
+        try:
+            return self.call(name, **arguments)
+        except BoardError as error:
+            if error.kind in WRONG:
+                raise Refused(str(error)) from None
+            raise
+
+    # Alerts.
+
+    def post_alerts(self, posted):
+        """Inserts those of these alerts that are valid, and says what is wrong with the others."""
+        faults = []
+        try:
+            for alert in posted:
+                try:
+                    self.insert(read_alert(alert, self.clock.now(), self.config.timeout))
+                except Refused as error:
+                    faults.append(str(error))
+        finally:
+            self.wake()
+        if faults:
+            raise Refused("; ".join(faults))
+
+    def insert(self, alert):
+        old = self.alerts.get(label_key(alert["labels"]))
+        alert = merged(old, alert, self.clock.now()) if old else alert
+        self.accept("insert", now=self.clock.now(), labels=alert["labels"], starts=alert["starts"], ends=alert["ends"])
+        self.alerts[label_key(alert["labels"])] = alert
+
+    def shown_alerts(self):
+        """The alerts that fire, with their receivers. Whether one is muted isn't shown: its state is `unprocessed`."""
+        now, receivers = self.clock.now(), {}
+        for group in self.call("groups"):
+            for alert in group["alerts"]:
+                receivers.setdefault(label_key(alert["labels"]), []).append({"name": self.config.routes[group["group"]["route"]][1]})
+        return [{"labels": it["labels"], "annotations": it["annotations"], "startsAt": time_text(it["starts"]), "endsAt": time_text(it["ends"]),
+                 "updatedAt": time_text(it["updated"]), "generatorURL": it["url"], "fingerprint": fingerprint(it["labels"]),
+                 "receivers": receivers.get(key, []), "status": {"state": "unprocessed", "silencedBy": [], "inhibitedBy": []}}
+                for key, it in self.alerts.items() if it["ends"] > now]
+
+    # Silences.
+
+    def set_silence(self, posted):
+        """Sets a silence, and returns its id: a new one, unless it has one whose change keeps what it mutes."""
+        now, old, silence = self.clock.now(), None, read_silence(posted)
+        if posted.get("id"):
+            old = self.silences.get(str(posted["id"]))
+            if old is None:
+                raise Refused(f"silence {posted['id']} not found", 404)
+        if silence["ends"] < now:
+            raise Refused("failed to create silence: end time can't be in the past")
+        if old and can_update(old, silence, now):
+            self.put_silence(silence | {"id": old["id"], "number": old["number"]})
+            return old["id"]
+        self.silence_number += 1
+        silence |= {"id": str(uuid.uuid4()), "number": self.silence_number, "starts": max(now, silence["starts"])}
+        self.put_silence(silence)
+        if old:
+            self.expire(old["id"])
+        return silence["id"]
+
+    def put_silence(self, silence):
+        now = self.clock.now()
+        self.accept("silence", now=now, id=silence["number"], starts=silence["starts"], ends=silence["ends"],
+                    matchers=matcher_lists(silence))
+        self.silences[silence["id"]] = silence | {"updated": now}
+
+    def expire(self, name):
+        """Ends a silence now."""
+        now, silence = self.clock.now(), self.silences.get(name)
+        if silence is None:
+            raise Refused(f"silence {name} not found", 404)
+        if silence["ends"] > now:
+            self.put_silence(silence | {"starts": min(silence["starts"], now), "ends": now})
+
+    def shown_silence(self, silence):
+        now = self.clock.now()
+        state = "expired" if silence["ends"] <= now else "pending" if silence["starts"] > now else "active"
+        return {"id": silence["id"], "status": {"state": state}, "updatedAt": time_text(silence["updated"]), "comment": silence["comment"],
+                "createdBy": silence["createdBy"], "startsAt": time_text(silence["starts"]), "endsAt": time_text(silence["ends"]),
+                "matchers": silence["matchers"]}
+
+    # Flushes.
+
+    def wake(self):
+        """Begins the flushes that are due, and asks to be woken for the next one."""
+        try:
+            while (begun := self.answer("begin", now=self.clock.now()))[0] != "nothing_due":
+                if begun[0] == "flush":
+                    self.open_flush(begun[1])
+        except BoardError as error:
+            if error.kind != "TooManyOpen":
+                raise
+            # (each finish wakes again)
+            return
+        now, due = self.clock.now(), self.call("next_due")["at"]
+        if due is not None and due > now and not (self.wakes_at and now < self.wakes_at <= due):
+            self.wakes_at = due
+            self.clock.at(due, self.wake)
+
+    def open_flush(self, flush):
+        """Starts the notifications of a flush, side by side."""
+        hooks, flush["left"] = self.config.hooks[flush["receiver"]], len(flush["notices"])
+        for notice in flush["notices"]:
+            if notice["firing"] or notice["resolved"]:
+                hook = hooks[notice["integration"]]
+                body = message(flush, notice, hook, self.config.routes[flush["group"]["route"]][0], self.alerts, self.external)
+                sending = Sending(flush, notice, hook, json.dumps(body).encode())
+                self.clock.at(flush["deadline"], lambda it=sending: self.settle(it, "expired"))
+                self.attempt(sending)
+            else:
+                self.log(flush, notice)
+        if not flush["notices"]:
+            self.finish(flush)
+
+    def attempt(self, sending):
+        if not sending.ended:
+            sending.begun = self.clock.now()
+            left = max(1, sending.flush["deadline"] - sending.begun)
+            self.clock.post(sending.hook.url, sending.body, left / 1000, lambda status: self.answered(sending, status))
+
+    def answered(self, sending, status):
+        """What a webhook answered, or none if it didn't: done, or refused for good, or to be tried again at its time."""
+        if status is None or status // 100 == 5:
+            at = max(self.clock.now(), sending.begun + sending.wait)
+            sending.wait = min(LONGEST_WAIT, sending.wait * 3 // 2)
+            if at < sending.flush["deadline"]:
+                self.clock.at(at, lambda: self.attempt(sending))
+        else:
+            self.settle(sending, "delivered" if status // 100 == 2 else "refused")
+
+    def settle(self, sending, outcome):
+        """Reports the outcome of a notification, the first that it has."""
+        if not sending.ended:
+            sending.ended = True
+            flush, notice = sending.flush, sending.notice
+            if outcome != "delivered":
+                self.say(f"live: {outcome}: {flush['receiver']}/{notice['integration']} for {flush['group']['labels']}, {sending.hook.url}")
+            self.call("report", ticket=flush["ticket"], integration=notice["integration"], outcome=outcome)
+            self.log(flush, notice, outcome == "delivered")
+
+    def log(self, flush, notice, succeeded=True):
+        """Logs a success at once, and finishes the flush with its last notification."""
+        if succeeded:
+            self.call("note", now=self.clock.now(), ticket=flush["ticket"], integration=notice["integration"])
+        flush["left"] -= 1
+        if flush["left"] == 0:
+            self.finish(flush)
+
+    def finish(self, flush):
+        self.call("finish", now=self.clock.now(), ticket=flush["ticket"])
+        self.clock.at(self.clock.now(), self.wake)
+
+    # What lasts.
+
+    def maintain(self):
+        """Lets go what is over, and saves the rest."""
+        now = self.clock.now()
+        self.call("maintain", now=now)
+        self.call("forget", now=now)
+        grouped = {label_key(alert["labels"]) for group in self.call("groups") for alert in group["alerts"]}
+        self.alerts = {key: it for key, it in self.alerts.items() if it["ends"] > now or key in grouped}
+        self.silences = {name: it for name, it in self.silences.items() if it["ends"] + SHOWN > now}
+        self.save()
+        self.clock.at(now + MAINTAIN, self.maintain)
+
+    def take_history(self):
+        """Moves the history of the board to the file. Without memory for it, it is tried again a thousand calls later."""
+        line = self.board.ask("take_history", {})
+        if line.startswith(b'{"error"'):
+            self.board.kept = KEPT - 1000
+            return self.say(f"live: the history couldn't be taken: {line.decode().strip()}")
+        self.board.kept = 0
+        return self.keep(line)
+
+    def keep(self, line):
+        """Adds a line to the file of the history."""
+        if self.folder:
+            self.folder.mkdir(parents=True, exist_ok=True)
+            with open(self.folder / "history.jsonl", "ab") as file:
+                file.write(line)
+
+    def save(self):
+        """Writes the log and the silences. The file is whole at any time."""
+        if self.folder:
+            saved = {"rows": self.call("rows"), "silences": [*self.silences.values()], "silence_number": self.silence_number}
+            (self.folder / "saved.new").write_text(json.dumps(saved), encoding="utf-8")
+            os.replace(self.folder / "saved.new", self.folder / "saved.json")
+
+    def load(self):
+        """Takes over the log and the silences of the last run."""
+        if not self.folder or not (self.folder / "saved.json").exists():
+            return
+        saved = json.loads((self.folder / "saved.json").read_text(encoding="utf-8"))
+        for row in saved["rows"]:
+            self.load_row(row)
+        self.silence_number = saved["silence_number"]
+        for silence in saved["silences"]:
+            if silence["ends"] > self.clock.now():
+                self.put_silence(silence)
+            self.silences[silence["id"]] = silence
+
+    def load_row(self, row):
+        """Loads a row, unless the configuration or the clock was changed meanwhile."""
+        try:
+            self.call("load", now=self.clock.now(), row=row)
+        except BoardError as error:
+            if error.kind not in ("NoIntegration", "Ahead"):
+                raise
+            self.say(f"live: a row of the log is left out: {error}: {json.dumps(row)}")
+
+    def close(self):
+        """Saves all, and ends the board, whose open flushes stay without a further entry in the log."""
+        self.save()
+        self.take_history()
+        self.board.close()
+
+
+class RealClock:
+    """The real time in milliseconds since 1970, which never goes back. Whoever uses what it calls has the lock."""
+
+    def __init__(self):
+        self.changed, self.timers, self.order, self.failure, self.ended = threading.Condition(threading.RLock()), [], itertools.count(), None, False
+        self.origin = time.time_ns() // 1_000_000 - time.monotonic_ns() // 1_000_000
+        self.opener = urllib.request.build_opener(urllib.request.ProxyHandler({}))
+
+    def now(self):
+        return self.origin + time.monotonic_ns() // 1_000_000
+
+    def at(self, moment, action):
+        """Has the action called at this time."""
+        with self.changed:
+            heapq.heappush(self.timers, (moment, next(self.order), action))
+            self.changed.notify_all()
+
+    def post(self, url, body, seconds, done):
+        """Posts, and hands the status to `done`, or none where there was no answer in time."""
+        def run():
+            try:
+                request = urllib.request.Request(url, body, {"Content-Type": "application/json", "User-Agent": "fentdolmen-live"})
+                with self.opener.open(request, timeout=seconds) as answer:
+                    status = answer.status
+            except urllib.error.HTTPError as error:
+                status = error.code
+                error.close()
+            except (OSError, http.client.HTTPException):
+                status = None
+            with self.changed:
+                if not self.ended:
+                    self.guard(lambda: done(status))
+        threading.Thread(target=run, daemon=True).start()
+
+    def guard(self, action):
+        """Calls it. If the board or a file fails, the program ends: what is known here would no longer be true of the board."""
+        try:
+            action()
+        except (BoardError, OSError) as error:
+            self.end(error)
+
+    def end(self, failure=None):
+        with self.changed:
+            self.failure, self.ended = self.failure or failure, True
+            self.changed.notify_all()
+
+    def run(self):
+        """Calls each action at its time, until the end."""
+        with self.changed:
+            while not self.ended:
+                wait = self.timers[0][0] - self.now() if self.timers else 3_600_000
+                if wait > 0:
+                    self.changed.wait(wait / 1000)
+                else:
+                    action = heapq.heappop(self.timers)[2]
+                    self.guard(action)
+
+
+class Handler(http.server.BaseHTTPRequestHandler):
+    """The API, for one request."""
+
+    live = clock = None
+    protocol_version = "HTTP/1.1"
+
+    def log_message(self, *_):
+        """Logs nothing of requests that are answered."""
+
+    def answer(self, status, value):
+        text = b"" if value is None else json.dumps(value).encode()
+        self.send_response(status)
+        self.send_header("Content-Type", "application/json")
+        self.send_header("Content-Length", str(len(text)))
+        self.end_headers()
+        self.wfile.write(text)
+
+    def serve(self):
+        """Finds the call of the method and the path, makes it under the lock, and answers."""
+        text = self.rfile.read(int(self.headers.get("Content-Length") or 0))
+        try:
+            body = json.loads(text) if text else None
+        except ValueError as error:
+            return self.answer(400, f"the body isn't JSON: {error}")
+        with self.clock.changed:
+            try:
+                status, value = 200, self.respond(self.command, urllib.parse.urlsplit(self.path), body)
+            except Refused as error:
+                status, value = error.status, str(error)
+            except (BoardError, OSError) as error:
+                status, value = 503, str(error)
+                if getattr(error, "kind", "") not in LIMITS:
+                    self.clock.end(error)
+        return self.answer(status, value)
+
+    do_GET = do_POST = do_DELETE = serve
+
+    def respond(self, method, asked, body):
+        live, path, name = self.live, asked.path, asked.path.rpartition("/")[2]
+        if any(value != "true" for _, value in urllib.parse.parse_qsl(asked.query)):
+            raise Refused(f"{asked.query}: filters aren't supported")
+        if method == "GET" and path in ("/-/ready", "/-/healthy"):
+            return "OK"
+        if (method, path) == ("POST", "/api/v2/alerts"):
+            return live.post_alerts(body if isinstance(body, list) else [body])
+        if (method, path) == ("GET", "/api/v2/alerts"):
+            return live.shown_alerts()
+        if (method, path) == ("POST", "/api/v2/silences"):
+            return {"silenceID": live.set_silence(body)}
+        if (method, path) == ("GET", "/api/v2/silences"):
+            return [live.shown_silence(it) for it in live.silences.values()]
+        if (method, path) == ("DELETE", f"/api/v2/silence/{name}"):
+            return live.expire(name)
+        if (method, path) == ("GET", f"/api/v2/silence/{name}") and name in live.silences:
+            return live.shown_silence(live.silences[name])
+        raise Refused(f"{method} {path} isn't here", 404)
+
+
+def options():
+    parser = argparse.ArgumentParser(description=__doc__.splitlines()[0])
+    parser.add_argument("--config.file", dest="config", required=True)
+    parser.add_argument("--web.listen-address", dest="address", default="127.0.0.1:9093")
+    parser.add_argument("--web.external-url", dest="external")
+    parser.add_argument("--storage.path", dest="storage", default="data")
+    parser.add_argument("--board", default=str(BOARD), help="the program am_dispatch")
+    return parser.parse_args()
+
+
+def main():
+    asked, clock = options(), RealClock()
+    host, _, port = asked.address.rpartition(":")
+    try:
+        server = http.server.ThreadingHTTPServer((host, int(port)), Handler)
+    except (OSError, ValueError) as error:
+        sys.exit(f"live: {asked.address}: {error}")
+    try:
+        config = Config(read_config(asked.config))
+        external = asked.external or f"http://{host or 'localhost'}:{port}"
+        live = Live(config, asked.board, clock, Path(asked.storage), external, lambda text: print(text, file=sys.stderr, flush=True))
+    except (OSError, ValueError, BoardError, Refused) as error:
+        sys.exit(f"live: {asked.config}: {error}")
+    Handler.live, Handler.clock = live, clock
+    server.daemon_threads = True
+    for it in (signal.SIGTERM, signal.SIGINT):
+        # (in a thread, since the signal may come while this one changes what the lock guards)
+        signal.signal(it, lambda *_: threading.Thread(target=clock.end).start())
+    threading.Thread(target=server.serve_forever, daemon=True).start()
+    try:
+        clock.run()
+    finally:
+        server.shutdown()
+    if clock.failure:
+        sys.exit(f"live: {clock.failure}")
+    with clock.changed:
+        live.close()
+
+
+if __name__ == "__main__":
+    main()

@@ -1,0 +1,221 @@
+"""Stories for live.py: how they are read, played by a clock that doesn't wait, and compared. docs/live.md has their form.
+
+`live-compare` plays them against the real Alertmanager too, `.ci/live` against what that did.
+"""
+import heapq
+import itertools
+import json
+import re
+import tempfile
+from datetime import timedelta
+from pathlib import Path
+
+import live
+from live_format import EPOCH, Config, Refused
+
+ROUTE = {"receiver": "team", "group_by": ["alertname"], "group_wait": "1s", "group_interval": "2s", "repeat_interval": "1h"}
+# A post and its answer on this machine, in milliseconds; the time at which a played story begins; how far times may differ.
+LATENCY, START, NEAR = 2, 1_800_000_000_000, 0.5
+
+
+class Story:
+    """A story: its configuration, how its receivers answer, and its steps, each at its second."""
+
+    def __init__(self, name):
+        self.name, self.route, self.receivers, self.inhibit, self.timeout, self.differs, self.steps = name, {}, {"team": [{}]}, [], "5m", "", []
+
+    def read(self, line):
+        word, _, rest = line.partition(" ")
+        if word in ("route", "receivers", "inhibit"):
+            setattr(self, word, json.loads(rest))
+        elif word in ("timeout", "differs"):
+            setattr(self, word, rest)
+        else:
+            verb, _, asked = rest.strip().partition(" ")
+            self.steps.append((float(word), verb, asked))
+
+    def config(self, url):
+        """The configuration, whose webhooks are below this URL."""
+        hooks = lambda name, all: [{"url": f"{url}/{name}/{i}"} | {k: it[k] for k in ("send_resolved", "max_alerts") if k in it}
+                                   for i, it in enumerate(all)]
+        return {"global": {"resolve_timeout": self.timeout}, "route": ROUTE | self.route, "inhibit_rules": self.inhibit,
+                "receivers": [{"name": name, "webhook_configs": hooks(name, all)} for name, all in self.receivers.items()]}
+
+    def answer(self, hook, attempt):
+        """The status of the answer to an attempt (from 0) at a webhook, and the seconds that it takes."""
+        name, _, place = hook.rpartition("/")
+        how = self.receivers[name][int(place)]
+        answers, takes = how.get("answers", [200]), how.get("takes", [0])
+        return answers[min(attempt, len(answers) - 1)], takes[min(attempt, len(takes) - 1)]
+
+
+def read_stories(path):
+    """The stories of a file, by name. They are separated by empty lines, and begin with `story NAME`."""
+    stories = {}
+    for number, line in enumerate(Path(path).read_text(encoding="utf-8").splitlines(), 1):
+        if not line.strip() or line.startswith("#"):
+            continue
+        try:
+            if line.startswith("story "):
+                story = stories.setdefault(line[6:], Story(line[6:]))
+            else:
+                story.read(line)
+        except (ValueError, UnboundLocalError) as error:
+            raise SystemExit(f"{path}:{number}: {error}: {line}") from None
+    return stories
+
+
+def time_at(start, seconds):
+    return (EPOCH + timedelta(milliseconds=start + 1000 * float(seconds))).isoformat(timespec="milliseconds").replace("+00:00", "Z")
+
+
+def request_of(step, start, names):
+    """The request of a step: method, path and body. `names` has the ids of silences."""
+    second, verb, asked = step
+    words = re.findall(r'(?:[^\s"]|"[^"]*")+', asked)
+    if verb in ("fire", "resolve"):
+        return "POST", "/api/v2/alerts", [alert_of(words, second if verb == "resolve" else None, start)]
+    if verb == "expire":
+        return "DELETE", f"/api/v2/silence/{names.get(words[0], words[0])}", None
+    if verb not in ("silence", "change"):
+        raise SystemExit(f"no step is named {verb}")
+    at = {words[i]: float(words[i + 1]) for i in (1, 3) if words[i] in ("from", "for")}
+    matchers = [re.match(r'(\w+)(=~|!=|!~|=)"?(.*?)"?$', it).groups() for it in words[1 + 2 * len(at):]]
+    body = {"startsAt": time_at(start, at.get("from", second)), "endsAt": time_at(start, at.get("from", second) + at["for"]), "createdBy": "live-compare",
+            "comment": words[0], "matchers": [{"name": name, "value": value, "isRegex": "~" in how, "isEqual": "!" not in how} for name, how, value in matchers]}
+    return "POST", "/api/v2/silences", body | ({"id": names.get(words[0], words[0])} if verb == "change" else {})
+
+
+def alert_of(words, ends, start):
+    """An alert: its name, labels, and @starts, @ends (seconds) and @note (its annotation)."""
+    alert = {"labels": {"alertname": words[0]} if words else {}, "annotations": {}} | ({"endsAt": time_at(start, ends)} if ends is not None else {})
+    for name, _, value in (it.partition("=") for it in words[1:]):
+        if name in ("@starts", "@ends"):
+            alert[f"{name[1:]}At"] = time_at(start, value)
+        elif name == "@note":
+            alert["annotations"]["summary"] = value
+        else:
+            alert["labels"][name] = value.strip('"')
+    return alert
+
+
+def line_of(second, hook, body):
+    """What a webhook was sent: when, its group, and its alerts in order, + for firing and - for resolved ones."""
+    alerts = [("+" if it["status"] == "firing" else "-") + ",".join(f"{k}={v}" for k, v in sorted(it["labels"].items()))
+              + "".join(f"({it})" for it in it["annotations"].values()) for it in body["alerts"]]
+    more = f" and {body['truncatedAlerts']} more" if body["truncatedAlerts"] else ""
+    return second, f"{hook} {body['groupKey']} {body['status']} {' '.join(alerts)}{more}"
+
+
+def rounded(line):
+    return f"{round(2 * line[0]) / 2:g} {line[1]}"
+
+
+def unrounded(text):
+    second, _, line = text.partition(" ")
+    return float(second), line
+
+
+def differences(real, ours):
+    """The lines that one side alone has, or at another time. Each webhook's lines are compared in their order."""
+    found, hooks = [], sorted({line.split()[0] for _, line in real + ours})
+    for hook in hooks:
+        one, other = [sorted(it for it in side if it[1].split()[0] == hook) for side in (real, ours)]
+        for line in list(one):
+            near = [it for it in other if it[1] == line[1] and abs(it[0] - line[0]) <= NEAR + 0.05]
+            if near:
+                other.remove(min(near, key=lambda it: abs(it[0] - line[0])))
+                one.remove(line)
+        found += [f"only Alertmanager: {it[0]:.2f} {it[1]}" for it in one] + [f"only live.py: {it[0]:.2f} {it[1]}" for it in other]
+    return found
+
+
+class PlayedClock:
+    """A clock that goes to the next event at once, and receivers that answer as a story says."""
+
+    def __init__(self, story):
+        self.story, self.time, self.events, self.order, self.lines, self.attempts = story, START, [], itertools.count(), [], {}
+
+    def now(self):
+        return self.time
+
+    def at(self, moment, action):
+        heapq.heappush(self.events, (max(moment, self.time), next(self.order), action))
+
+    def post(self, url, body, seconds, done):
+        hook = "/".join(url.rsplit("/", 2)[1:])
+        status, takes = self.story.answer(hook, self.attempts.setdefault(hook, 0))
+        self.attempts[hook] += 1
+        self.lines.append(line_of((self.time + LATENCY - START) / 1000, hook, json.loads(body)))
+        if takes < seconds:
+            self.at(self.time + LATENCY + int(1000 * takes), lambda: done(status))
+        else:
+            self.at(self.time + int(1000 * seconds), lambda: done(None))
+
+    def go(self, moment):
+        """Calls what is due until then."""
+        while self.events and self.events[0][0] <= moment:
+            self.time, _, action = heapq.heappop(self.events)
+            action()
+        self.time = moment
+
+
+def play(story, program, folder=None):
+    """Plays a story, and returns its lines and the answers to its requests. A folder keeps the history."""
+    clock, names, statuses, config = PlayedClock(story), {}, [], Config(story.config("http://receivers"))
+    with tempfile.TemporaryDirectory(prefix="live-") as temporary:
+        begin = lambda: live.Live(config, program, clock, Path(folder or temporary), say=lambda _: None)
+        core = begin()
+        for step in story.steps:
+            clock.go(START + int(1000 * step[0]))
+            if step[1] == "restart":
+                core.close()
+                clock.events.clear()
+                core = begin()
+            elif step[1] != "end":
+                statuses.append(ask(core, request_of(step, START, names), names, step))
+        core.close()
+    return clock.lines, statuses
+
+
+def ask(core, request, names, step):
+    """Makes a request of the core without HTTP, and returns its answer: the status, and whether a changed silence kept its id."""
+    method, path, body = request
+    try:
+        if path == "/api/v2/alerts":
+            core.post_alerts(body)
+        elif method == "POST":
+            return answer_of(200, core.set_silence(body), names, step)
+        else:
+            core.expire(path.rpartition("/")[2])
+    except Refused as error:
+        return str(error.status)
+    return "200"
+
+
+def answer_of(status, name, names, step):
+    """The answer to a silence, whose id is kept by its name in the story."""
+    known = step[2].split()[0]
+    is_same, names[known] = names.get(known) == name, name
+    return f"{status}, same id" if is_same else str(status)
+
+
+def read_timelines(path):
+    """What the real one did, by story: its answers, and its lines."""
+    found = {}
+    for line in Path(path).read_text(encoding="utf-8").splitlines():
+        word, _, rest = line.partition(" ")
+        if word == "story":
+            found[rest] = [[], []]
+        elif word == "answers":
+            found[next(reversed(found))][0] = rest.split("; ") if rest else []
+        elif word and not word.startswith("#"):
+            found[next(reversed(found))][1].append(unrounded(line))
+    return found
+
+
+def write_timelines(path, timelines):
+    text = "# What Alertmanager 0.25 did in each story of live-stories, to the half second. tools/live-compare --store writes it.\n"
+    for name, (statuses, lines) in timelines.items():
+        text += "\n".join(["", f"story {name}", f"answers {'; '.join(statuses)}", *map(rounded, lines), ""])
+    Path(path).write_text(text, encoding="utf-8")

@@ -1,5 +1,5 @@
 -- What calls of the board leave, and what their answers tell.
-use Rattle.std.proofs.Common.{◌≡◌, ◌≢◌, ◌∙◌, ◌<◌, ◌==◌, ◌++◌, ◌∷◌, ℕ, List, [], Some, Result, Ok, Err, ap, arith, codes, drop, length, refl, remove, slice_get, slice_index_or, subst, sym, true≢false}
+use Rattle.std.proofs.Common.{◌≡◌, ◌≢◌, ◌∙◌, ◌<◌, ◌==◌, ◌++◌, ◌∷◌, ℕ, List, [], IfSome, Option, Some, Result, Ok, Err, ap, arith, codes, drop, length, refl, remove, slice_get, slice_index_or, subst, sym, true≢false}
 use Rattle.std.proofs.Math.Seq.{drop-append_seam}
 use Rattle.std.specs.List.{position}
 use Rattle.std.specs.Result.{IsOk, OnOk, IfErr}
@@ -175,6 +175,10 @@ finishes r old new f before after place ticket at tickets =
       makes = makes;
       tickets = tickets;
     })
+
+-- what is so of what was found
+pub if_some : {X : Type 0} (P : X → Type 0) (found : Option X) (x : X) → found ≡ Some x → IfSome found P → P x
+if_some {X} P found x is holds = subst (λ (o : Option X). IfSome o P) is holds
 
 -- a load of the row that is named
 pub loads : {T E : Type 0} (r : Result T E) (old new : Session) (l : Loading) (row : RowView) (config : Config) (before after : List Token)

@@ -208,7 +208,8 @@ class Live:
             # (each finish wakes again)
             return
         now, due = self.clock.now(), self.call("next_due")["at"]
-        if due is not None and due > now and not (self.wakes_at and now < self.wakes_at <= due):
+        # (it may have become due since the last begin: then this is called again at once)
+        if due is not None and not (self.wakes_at and now < self.wakes_at <= due):
             self.wakes_at = due
             self.clock.at(due, self.wake)
 

@@ -21,6 +21,10 @@ abbrev pub IsReportOn : NoticeData → Report → Type 0
 IsReportOn notice report =
     (report.desk ≡ notice.desk) × (report.ticket ≡ notice.ticket) × (report.integration ≡ notice.integration)
 
+-- a notice with this deadline in place of its own
+abbrev pub with_deadline : ℕ → NoticeData → NoticeData
+with_deadline deadline notice = record notice { deadline = deadline }
+
 -- from a start on, a notice was sent by a courier that had made these tries and refusals, and has made those since: there are answers
 -- whose tries, as those of the notice, are just the ones that were appended, and whose outcome, number and end the report tells; the
 -- courier refused one more attempt exactly where the outcome is Starved, which says that an attempt was due

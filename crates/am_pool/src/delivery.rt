@@ -1,8 +1,10 @@
-//! The delivery of one notice. Embedders, `am_rehearsal` and the pool's workers call `deliver`.
+//! The delivery of one notice. Embedders and the pool's workers call `deliver`, and `am_rehearsal`
+//! calls `deliver_by`.
 ghost use Rattle.std.specs.Prelude.{◌≡◌, ◌≤◌, false};
 ghost use Rattle.am_alerts.specs.declared.limits.TheConstants.{MAX_MOMENT};
 ghost use Rattle.am_model.specs.Notice.{is_nothing};
-ghost use Rattle.am_pool.specs.Delivery.{IsDelivery, IsReportOn};
+ghost use Rattle.am_model.specs.declared.notice.TheConstants.{MAX_DEADLINE};
+ghost use Rattle.am_pool.specs.Delivery.{IsDelivery, IsReportOn, with_deadline};
 
 use crate::Courier;
 use am_board::notice::{Notice, Report};
@@ -23,7 +25,23 @@ pub fn deliver<C: Courier>(courier: &mut C, notice: &Notice, start: u64) -> Repo
         (C.tries courier.new) (C.refusals courier.new) result }
 {
     prove!(!notice.nothing());
-    let mut retry = Retry::start(start, notice.deadline);
+    deliver_by(courier, notice, notice.deadline, start)
+}
+
+/// Sends a notice as `deliver` does, up to `deadline` (milliseconds) in place of its own deadline.
+///
+/// A dispatcher that is to stop before the notice's deadline sends it so.
+///
+/// Never allocates itself. Cost: the attempts, at most one for each half second up to the deadline.
+pub fn deliver_by<C: Courier>(courier: &mut C, notice: &Notice, deadline: u64, start: u64) -> Report
+    requires something { is_nothing notice.now ≡ false }
+    requires deadline { deadline ≤ MAX_DEADLINE }
+    requires start { start ≤ MAX_MOMENT }
+    ensures of_notice { IsReportOn notice.now result }
+    ensures delivery { IsDelivery (with_deadline deadline notice.now) start (C.tries courier.old) (C.refusals courier.old)
+        (C.tries courier.new) (C.refusals courier.new) result }
+{
+    let mut retry = Retry::start(start, deadline);
     loop {
         match retry.next() {
             Step::Over(outcome) => return report(notice, &retry, outcome),

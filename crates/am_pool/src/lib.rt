@@ -16,7 +16,7 @@ mod trace;
 mod worker;
 
 pub use courier::{Courier, Sent, Tried};
-pub use delivery::deliver;
+pub use delivery::{deliver, deliver_by};
 pub use fault::PoolFault;
 pub use law::{fault_numbers_are, limits_are, queue_deals_each_number_once};
 pub use limits::{MAX_JOBS, MAX_WORKERS};

@@ -12,7 +12,7 @@ use Rattle.am_board.specs.History.{BoardData, records_at, state_at, with_record}
 use Rattle.am_model.proofs.configuration.Faultless.{few_integrations}
 use Rattle.am_model.proofs.configuration.FewAsked.{few_asked}
 use Rattle.am_model.specs.Begin.{asked_of, begun, notice_for, reply_asking, reply_taking, taken}
-use Rattle.am_model.specs.Causes.{is_full, note_cause}
+use Rattle.am_model.specs.Causes.{insert_cause, is_full, note_cause, silence_cause}
 use Rattle.am_model.specs.Config.{config_fault}
 use Rattle.am_model.specs.Configured.{HaveFewIntegrations}
 use Rattle.am_model.specs.Insert.{inserted}
@@ -36,20 +36,21 @@ use Rattle.am_mute.specs.Silence.{silence_of}
 use Rattle.am_pool.specs.Sendings.{note_at}
 use Rattle.am_pool.specs.declared.courier.Sent.{Sent}
 use Rattle.am_rehearsal.proofs.Coming.{next_there}
+use Rattle.am_rehearsal.proofs.Loading.{load_taken, load_told, load_unfull, no_cause}
 use Rattle.am_rehearsal.specs.Answers.{AreEndsOf}
 use Rattle.am_rehearsal.specs.Courses.{IsAllowed, IsThereFor}
 use Rattle.am_rehearsal.specs.Next.{next}
-use Rattle.am_rehearsal.specs.Planned.{call_of}
+use Rattle.am_rehearsal.specs.Planned.{call_of, refuses}
 use Rattle.am_rehearsal.specs.Scene.{Scene, SendingData, Setting}
 use Rattle.am_rehearsal.specs.Steps.{IsBegun, IsDone, IsPlanDone, IsReplied, Steps, after_end, after_end_of, after_finish, after_maintenance, after_nothing, after_plan, after_taking, after_too_many, answers_for, is_success, with_call, with_note, with_report, with_sending}
 use Rattle.am_rehearsal.specs.Taking.{why_not}
-use Rattle.am_rehearsal.specs.WhyNot.{action_cause, own_cause, plan_cause}
+use Rattle.am_rehearsal.specs.WhyNot.{own_cause}
 use Rattle.am_rehearsal.specs.declared.next.End.{End}
 use Rattle.am_rehearsal.specs.declared.next.Next.{Next}
 use Rattle.am_rehearsal.specs.declared.next.Step.{Step}
 use Rattle.am_rehearsal.specs.declared.next.Step.TheVariants as step
 use Rattle.am_terms.specs.declared.rehearsal.Action.{Action}
-use Rattle.am_terms.specs.declared.rehearsal.Action.TheVariants.{Insert, Silence}
+use Rattle.am_terms.specs.declared.rehearsal.Action.TheVariants.{Insert, Silence, Load}
 use Rattle.am_terms.specs.declared.rehearsal.TimedAction.{TimedAction}
 
 -- the ends and the finish that are to come of a flush
@@ -106,10 +107,11 @@ called_adds : (b : BoardData) (c : Call) (told : Reply) → reply_to b.config b.
 called_adds b c told is =
     ap (λ (o : Option Reply). calls_of (option_map_or (λ t. with_record b (entry 0 c t)) o b)) is ∙ length_push b.history (entry 0 c told)
 
-planned_adds : (b : BoardData) (at : ℕ) (act : Action) → calls_of (with_call b (call_of at act)) ≡ calls_of b + 1
-planned_adds b at (Insert alert) = called_adds b (call.Insert at alert) (reply.Inserted (inserted b.config (state_at b) alert)) refl
-planned_adds b at (Silence silence) =
+planned_adds : (b : BoardData) (at : ℕ) (act : Action) → refuses b at act ≡ false → calls_of (with_call b (call_of at act)) ≡ calls_of b + 1
+planned_adds b at (Insert alert) taken = called_adds b (call.Insert at alert) (reply.Inserted (inserted b.config (state_at b) alert)) refl
+planned_adds b at (Silence silence) taken =
     called_adds b (call_of_silence at silence) (reply.Silenced (silenced (state_at b) (silence_of silence.id silence.matchers silence.start silence.end))) refl
+planned_adds b at (Load row) taken = called_adds b (call.Load at row) (load_told b at row) (load_taken b at row taken)
 
 -- a history that isn't full has room
 room_of : (config : Config) (records : ℕ) (s : State) (more : ℕ) → 0 < more → is_full config records s more ≡ false → records < config.limits.history
@@ -136,9 +138,12 @@ module _ (b : BoardData) where
     has_room more some free =
         subst (λ (n : ℕ). n < b.config.limits.history) all_kept (room_of b.config (records_at b) (state_at b) more some free)
 
-    action_room : (act : Action) → action_cause b act ≡ None → HasRoom
-    action_room (Insert alert) none = has_room 1 (omega arith) (unfull (is_full_for 1) fault.HistoryFull _ none)
-    action_room (Silence silence) none = has_room 1 (omega arith) (unfull (is_full_for 1) fault.HistoryFull _ none)
+    action_room : (at : ℕ) (act : Action) → refuses b at act ≡ false → HasRoom
+    action_room at (Insert alert) taken =
+        has_room 1 (omega arith) (unfull (is_full_for 1) fault.HistoryFull _ (no_cause (insert_cause b.config (records_at b) (state_at b) alert) taken))
+    action_room at (Silence silence) taken =
+        has_room 1 (omega arith) (unfull (is_full_for 1) fault.HistoryFull _ (no_cause (silence_cause b.config (records_at b) (state_at b) silence) taken))
+    action_room at (Load row) taken = has_room 1 (omega arith) (load_unfull b at row taken)
 
     maintain_room : (at : ℕ) → own_cause b at step.Maintenance ≡ None → HasRoom
     maintain_room at none = has_room 1 (omega arith) (unfull (is_full_for 1) fault.HistoryFull None none)
@@ -176,11 +181,11 @@ module _ (config : Config) (id : ℕ) (s : State) (t : ℕ) (few : HaveFewIntegr
   few_notices = few_taking (taken s t)
 
 -- as many notices have as many ends
-ends_counted : (answer : ℕ → ℕ → ℕ → ℕ → Sent) (at place : ℕ) (ns : List NoticeData) (es : List End) → AreEndsOf answer at place ns es → length es ≡ length ns
-ends_counted answer at place [] [] are = refl
-ends_counted answer at place [] (e ∷ es) are = absurd are
-ends_counted answer at place (n ∷ ns) [] are = absurd are
-ends_counted answer at place (n ∷ ns) (e ∷ es) are = ap (λ (k : ℕ). suc k) (ends_counted answer at (place + 1) ns es are.1)
+ends_counted : (answer : ℕ → ℕ → ℕ → ℕ → Sent) (cut : Option ℕ) (at place : ℕ) (ns : List NoticeData) (es : List End) → AreEndsOf answer cut at place ns es → length es ≡ length ns
+ends_counted answer cut at place [] [] are = refl
+ends_counted answer cut at place [] (e ∷ es) are = absurd are
+ends_counted answer cut at place (n ∷ ns) [] are = absurd are
+ends_counted answer cut at place (n ∷ ns) (e ∷ es) are = ap (λ (k : ℕ). suc k) (ends_counted answer cut at (place + 1) ns es are.1)
 
 some_of : {X : Type 0} (o : Option X) (P : X → Type 0) → IsSomeAnd o P → (x : X) × (o ≡ Some x) × P x
 some_of None P h = absurd h
@@ -258,11 +263,11 @@ module _ (r : Setting) (c d : Scene) (whole : c.board.handed ≡ []) where
       (falls_beside limit records _ flight (in_flight (remove c.sendings position)) comes 1 goes goes
       (called_grows c.board (call.Finish c.clock s.ticket.number s.ticket.outcomes)) (omega (arith, less)))
 
-  acted : (ps : List TimedAction) → plan_cause c.board ps ≡ None → IsPlanDone c d ps → Falls
-  acted [] none done = absurd done
-  acted (p ∷ ps) none is =
-      falls_to (after_plan c p ps) is
-      (falls_recorded limit records _ flight flight comes comes goes goes (action_room c.board whole p.act none) (planned_adds c.board p.at p.act) (omega arith))
+  acted : (ps : List TimedAction) → IsPlanDone c d ps → Falls
+  acted [] done = absurd done
+  acted (p ∷ ps) done =
+      falls_to (after_plan c p ps) done.1
+      (falls_recorded limit records _ flight flight comes comes goes goes (action_room c.board whole p.at p.act done.0) (planned_adds c.board p.at p.act done.0) (omega arith))
 
   maintained_falls : (at : ℕ) → own_cause c.board at step.Maintenance ≡ None → IsDone r c at d step.Maintenance → Falls
   maintained_falls at none is =
@@ -286,7 +291,7 @@ module _ (r : Setting) (c d : Scene) (whole : c.board.handed ≡ []) where
         let flush : Reply = reply.Flush number group deadline notices in
         let s : SendingData = sent.0 in
         let taking : Scene = after_taking c at flush in
-        let count : length s.ends ≡ length notices = ends_counted (answers_for r taking.board group) at 0 notices s.ends sent.3 in
+        let count : length s.ends ≡ length notices = ends_counted (answers_for r taking.board group) r.span.cut at 0 notices s.ends sent.3 in
         let most : length notices ≤ MAX_INTEGRATIONS =
         subst (λ (q : Reply). notices_in q ≤ MAX_INTEGRATIONS) told (few_notices c.board.config c.board.id (state_at c.board) (moment (state_at c.board) at) few)
         in
@@ -318,7 +323,7 @@ module _ (r : Setting) (c d : Scene) (whole : c.board.handed ≡ []) where
     done_falls : (n : Next) (what : Step) → IsThereFor r c n what → IsAllowed c n what → IsDone r c n.at d what → Falls
     done_falls n (step.End position index) there allowed done = ended position index done
     done_falls n (step.Finish position) there allowed done = finished position done
-    done_falls n step.Plan there allowed done = acted c.plans allowed done
+    done_falls n step.Plan there allowed done = acted c.plans done
     done_falls n step.Maintenance there allowed done = maintained_falls n.at allowed done
     done_falls n step.Begin there allowed done = begun_by n.at few (why_not c.board n.at) refl there.1 done
 

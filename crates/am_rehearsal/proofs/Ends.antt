@@ -1,35 +1,35 @@
 -- One more end of a ticket's notices.
-use Rattle.std.proofs.Common.{◌≡◌, ℕ, ◌+◌, ◌<◌, suc, List, [], ◌∷◌, ◌++◌, length, take, get_or, subst, sym, ap, ◌∙◌, arith}
+use Rattle.std.proofs.Common.{◌≡◌, ℕ, ◌+◌, ◌<◌, suc, List, [], ◌∷◌, ◌++◌, Option, length, take, get_or, subst, sym, ap, ◌∙◌, arith}
 use Rattle.std.proofs.lemmas.List.{length-take-le, take_more}
 use Rattle.am_model.specs.Notice.{NoticeData}
 use Rattle.am_pool.specs.declared.courier.Sent.{Sent}
 use Rattle.am_rehearsal.specs.Answers.{AreEndsOf, IsEndOf}
 use Rattle.am_rehearsal.specs.declared.next.End.{End}
 
-module _ (answer : ℕ → ℕ → ℕ → ℕ → Sent) (at : ℕ) where
-  pub ends_more : (place : ℕ) (ns : List NoticeData) (es : List End) (n : NoticeData) (e : End) → AreEndsOf answer at place ns es
-      → IsEndOf answer at (place + length ns) n e → AreEndsOf answer at place (ns ++ n ∷ []) (es ++ e ∷ [])
+module _ (answer : ℕ → ℕ → ℕ → ℕ → Sent) (cut : Option ℕ) (at : ℕ) where
+  pub ends_more : (place : ℕ) (ns : List NoticeData) (es : List End) (n : NoticeData) (e : End) → AreEndsOf answer cut at place ns es
+      → IsEndOf answer cut at (place + length ns) n e → AreEndsOf answer cut at place (ns ++ n ∷ []) (es ++ e ∷ [])
   ends_more place [] [] n e are is =
       let same : place + 0 ≡ place = omega arith in
-      (subst (λ (p : ℕ). IsEndOf answer at p n e) same is, tt)
+      (subst (λ (p : ℕ). IsEndOf answer cut at p n e) same is, tt)
   ends_more place [] (f ∷ es) n e are is = absurd are
   ends_more place (m ∷ ns) [] n e are is = absurd are
   ends_more place (m ∷ ns) (f ∷ es) n e are is =
       let same : place + suc (length ns) ≡ place + 1 + length ns = omega arith in
-      (are.0, ends_more (place + 1) ns es n e are.1 (subst (λ (p : ℕ). IsEndOf answer at p n e) same is))
+      (are.0, ends_more (place + 1) ns es n e are.1 (subst (λ (p : ℕ). IsEndOf answer cut at p n e) same is))
 
   -- one more, of the notice at the next place
   pub ends_next : (ns : List NoticeData) (place : ℕ) (n : NoticeData) (es : List End) (e : End) → place < length ns → n ≡ get_or ns place n
-      → AreEndsOf answer at 0 (take place ns) es → IsEndOf answer at place n e → AreEndsOf answer at 0 (take (place + 1) ns) (es ++ e ∷ [])
+      → AreEndsOf answer cut at 0 (take place ns) es → IsEndOf answer cut at place n e → AreEndsOf answer cut at 0 (take (place + 1) ns) (es ++ e ∷ [])
   ends_next ns place n es e within here are is =
       let front : length (take place ns) ≡ place = length-take-le place ns (omega arith) in
       let count : place ≡ 0 + length (take place ns) = omega (arith, front) in
-      subst (λ (l : List NoticeData). AreEndsOf answer at 0 l (es ++ e ∷ []))
+      subst (λ (l : List NoticeData). AreEndsOf answer cut at 0 l (es ++ e ∷ []))
       (sym (take_more ns place n within ∙ ap (λ (x : NoticeData). take place ns ++ x ∷ []) (sym here)))
-      (ends_more 0 (take place ns) es n e are (subst (λ (p : ℕ). IsEndOf answer at p n e) count is))
+      (ends_more 0 (take place ns) es n e are (subst (λ (p : ℕ). IsEndOf answer cut at p n e) count is))
 
   -- the same, where the ends were made longer
   pub ends_pushed : (ns : List NoticeData) (place : ℕ) (n : NoticeData) (es more : List End) (e : End) → more ≡ es ++ e ∷ [] → place < length ns
-      → n ≡ get_or ns place n → AreEndsOf answer at 0 (take place ns) es → IsEndOf answer at place n e → AreEndsOf answer at 0 (take (place + 1) ns) more
+      → n ≡ get_or ns place n → AreEndsOf answer cut at 0 (take place ns) es → IsEndOf answer cut at place n e → AreEndsOf answer cut at 0 (take (place + 1) ns) more
   ends_pushed ns place n es more e pushed within here are is =
-      subst (AreEndsOf answer at 0 (take (place + 1) ns)) (sym pushed) (ends_next ns place n es e within here are is)
+      subst (AreEndsOf answer cut at 0 (take (place + 1) ns)) (sym pushed) (ends_next ns place n es e within here are is)

@@ -18,9 +18,10 @@ use Rattle.am_rehearsal.proofs.PlansLeft.{plans_left}
 use Rattle.am_rehearsal.specs.Courses.{IsAllowed, IsHindered, IsOwnFault, IsPlanFault, IsStopped}
 use Rattle.am_rehearsal.specs.Faults.{fault_of_board, fault_of_call}
 use Rattle.am_rehearsal.specs.Next.{next}
+use Rattle.am_rehearsal.specs.Planned.{refuses}
 use Rattle.am_rehearsal.specs.Scene.{Scene, Setting, opening_scene}
 use Rattle.am_rehearsal.specs.Taking.{why_not}
-use Rattle.am_rehearsal.specs.WhyNot.{IsPlanRefused, IsWhyNot, action_cause, own_cause, plan_cause}
+use Rattle.am_rehearsal.specs.WhyNot.{IsPlanRefused, IsWhyNot, own_cause, refuses_first}
 use Rattle.am_rehearsal.specs.declared.next.Next.{Next}
 use Rattle.am_rehearsal.specs.declared.next.Step.{Step}
 use Rattle.am_rehearsal.specs.declared.next.Step.TheVariants as step
@@ -43,11 +44,6 @@ pub config_refused : (fault : Option ConfigFault) (told : BoardFault) → option
     → (fault_of_board told ≡ play.BadConfig) × (fault ≢ None)
 config_refused None told is = absurd (none-some told is)
 config_refused (Some f) told is = (sym (ap fault_of_board (same_Some (board.BadConfig f) told is)), λ none. absurd (cc))
-
--- what is answered where memory wasn't refused has a cause
-pub has_cause : (cause : Option Fault) (told : Fault) → (told ≡ NoMemory → ⊥) → IsAnswer cause told → cause ≢ None
-has_cause None told other answer = absurd (other answer)
-has_cause (Some why) told other answer = λ none. absurd (cc)
 
 -- a maintenance that isn't done
 maintain_own : (full : Bool) (told : Fault) → IsAnswer (if full then Some HistoryFull else None) told
@@ -90,25 +86,25 @@ module _ (count : ℕ) (c : Scene) (n : Next) where
   pub own_hindered : (what : Step) → n.what ≡ what → (fault : PlayFault) → IsOwnFault (own_cause c.board n.at what) fault → IsHindered count c n fault
   own_hindered what is play.NoMemory own = tt
   own_hindered what is play.BadConfig own = absurd own
-  own_hindered what is (play.PlanFull k) own = absurd own
+  own_hindered what is (play.PlanRefused k) own = absurd own
   own_hindered what is play.Full own = ap (own_cause c.board n.at) is ∙ own
 
   pub plan_hindered : n.what ≡ step.Plan → (p : TimedAction) (rest : List TimedAction) → c.plans ≡ p ∷ rest → (fault : PlayFault)
-      → IsPlanFault (action_cause c.board p.act) (count - (length rest + 1)) fault → IsHindered count c n fault
+      → IsPlanFault (refuses c.board p.at p.act) (count - (length rest + 1)) fault → IsHindered count c n fault
   plan_hindered is p rest left play.NoMemory own = tt
   plan_hindered is p rest left play.BadConfig own = absurd own
-  plan_hindered is p rest left (play.PlanFull k) own =
+  plan_hindered is p rest left (play.PlanRefused k) own =
       let more : length c.plans ≡ length rest + 1 = omega (arith, ap length left) in
-      (is, own.0 ∙ ap (λ (m : ℕ). count - m) (sym more), subst (λ (l : List TimedAction). plan_cause c.board l ≢ None) (sym left) own.1)
+      (is, own.0 ∙ ap (λ (m : ℕ). count - m) (sym more), subst (λ (l : List TimedAction). refuses_first c.board l ≡ true) (sym left) own.1)
   plan_hindered is p rest left play.Full own = absurd own
 
   -- what is allowed of a kind of step is allowed of the one that comes
   pub allowed_by : (what : Step) → n.what ≡ what → IsAllowed c n what → IsAllowed c n n.what
   allowed_by what is allowed = subst (IsAllowed c n) (sym is) allowed
 
-  pub plan_allowed : n.what ≡ step.Plan → (p : TimedAction) (rest : List TimedAction) → c.plans ≡ p ∷ rest → action_cause c.board p.act ≡ None → IsAllowed c n n.what
+  pub plan_allowed : n.what ≡ step.Plan → (p : TimedAction) (rest : List TimedAction) → c.plans ≡ p ∷ rest → refuses c.board p.at p.act ≡ false → IsAllowed c n n.what
   plan_allowed is p rest left free =
-      allowed_by step.Plan is (subst (λ (l : List TimedAction). plan_cause c.board l ≡ None) (sym left) free)
+      allowed_by step.Plan is (subst (λ (l : List TimedAction). refuses_first c.board l ≡ false) (sym left) free)
 
 some_weaker : {X : Type 0} (o : Option X) (P Q : X → Type 0) → ((x : X) → P x → Q x) → IsSomeAnd o P → IsSomeAnd o Q
 some_weaker None P Q weaker h = absurd h
@@ -129,12 +125,12 @@ pub stopped_why : (r : Setting) (config : Config) (plans : List TimedAction) (fa
     → IsStopped r (length plans) (opening_scene r config plans) fault → IsWhyNot r config plans fault
 stopped_why r config plans play.NoMemory stopped = tt
 stopped_why r config plans play.BadConfig stopped = absurd (never (next r stopped.0) stopped.2)
-stopped_why r config plans (play.PlanFull k) stopped =
+stopped_why r config plans (play.PlanRefused k) stopped =
     let c : Scene = stopped.0 in
     let left = plans_left r stopped.1.0 (opening_scene r config plans) c stopped.1.1 in (
       c,
       stopped.1,
-      some_weaker (next r c) (λ n. IsHindered (length plans) c n (play.PlanFull k)) (IsPlanRefused plans k c)
+      some_weaker (next r c) (λ n. IsHindered (length plans) c n (play.PlanRefused k)) (IsPlanRefused plans k c)
           (λ (n : Next) h. (h.0, from_position plans left.0 c.plans k left.1 h.1, h.2)) stopped.2,
     )
 stopped_why r config plans play.Full stopped = stopped

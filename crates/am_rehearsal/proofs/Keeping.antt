@@ -25,7 +25,7 @@ use Rattle.am_model.specs.Ticket.{TicketData}
 use Rattle.am_pool.specs.Sendings.{note_at}
 use Rattle.am_rehearsal.specs.Courses.{IsThereFor}
 use Rattle.am_rehearsal.specs.Next.{next, next_at, next_plan}
-use Rattle.am_rehearsal.specs.Planned.{InputTrace, call_of, input_of, inputs_in, input_trace, no_inputs, planned, with_inputs}
+use Rattle.am_rehearsal.specs.Planned.{InputTrace, call_of, input_of, inputs_in, input_trace, no_inputs, planned, refuses, with_inputs}
 use Rattle.am_rehearsal.specs.Play.{PlaysTo, LeadsIn}
 use Rattle.am_rehearsal.specs.Scene.{Scene, SendingData, Setting, opening_scene}
 use Rattle.am_rehearsal.specs.Steps.{IsBegun, IsDone, IsPlanDone, IsReplied, Steps, after_end, after_finish, is_success, with_call, with_note, with_report}
@@ -37,9 +37,10 @@ use Rattle.am_rehearsal.specs.declared.next.Next.{Next}
 use Rattle.am_rehearsal.specs.declared.next.Step.{Step}
 use Rattle.am_rehearsal.specs.declared.next.Step.TheVariants as step
 use Rattle.am_terms.specs.declared.rehearsal.Action.{Action}
-use Rattle.am_terms.specs.declared.rehearsal.Action.TheVariants.{Insert, Silence}
+use Rattle.am_terms.specs.declared.rehearsal.Action.TheVariants.{Insert, Silence, Load}
 use Rattle.am_terms.specs.declared.rehearsal.TimedAction.{TimedAction}
 use Rattle.am_rehearsal.proofs.Coming.{next_none, next_there}
+use Rattle.am_rehearsal.proofs.Loading.{load_taken, load_told}
 use Rattle.am_rehearsal.proofs.Doing.{acted_of-input_trace, config_of-input_trace, input_trace-more, input_trace-opening, input_trace-same}
 
 -- a call that isn't planned adds nothing to the inputs
@@ -65,10 +66,11 @@ called_by b c told is planned =
     ap (λ (o : Option Reply). input_trace (option_map_or (λ t. with_record b (entry 0 c t)) o b)) is
     ∙ input_trace-more b (with_record b (entry 0 c told)) (entry 0 c told) planned refl
 
-called_more : (b : BoardData) (at : ℕ) (act : Action) → input_trace (with_call b (call_of at act)) ≡ with_inputs (input_trace b) (call_of at act ∷ [])
-called_more b at (Insert alert) = called_by b (call.Insert at alert) (reply.Inserted (inserted b.config (state_at b) alert)) refl refl
-called_more b at (Silence silence) =
+called_more : (b : BoardData) (at : ℕ) (act : Action) → refuses b at act ≡ false → input_trace (with_call b (call_of at act)) ≡ with_inputs (input_trace b) (call_of at act ∷ [])
+called_more b at (Insert alert) taken = called_by b (call.Insert at alert) (reply.Inserted (inserted b.config (state_at b) alert)) refl refl
+called_more b at (Silence silence) taken =
     called_by b (call_of_silence at silence) (reply.Silenced (silenced (state_at b) (silence_of silence.id silence.matchers silence.start silence.end))) refl refl
+called_more b at (Load row) taken = called_by b (call.Load at row) (load_told b at row) (load_taken b at row taken) refl
 
 begun_same : (b : BoardData) (at : ℕ) (told : Reply) → input_trace (with_record b (entry 0 (call.Begin at) told)) ≡ input_trace b
 begun_same b at told = input_trace-same b (with_record b (entry 0 (call.Begin at) told)) (entry 0 (call.Begin at) told, refl, refl)
@@ -113,11 +115,11 @@ module _ (r : Setting) where
     -- a plan that is done is no longer left
     acted : (ps : List TimedAction) → c.plans ≡ ps → IsSomeAnd (slice_get ps 0) (λ p. p.at ≤ r.until) → IsPlanDone c d ps → Stays
     acted [] left there done = absurd done
-    acted (p ∷ ps) left within is =
+    acted (p ∷ ps) left within done =
         let now : List Call = call_of p.at p.act ∷ [] in
         let later : List Call = planned r.until ps in
-        ap all_inputs is
-        ∙ ap (λ (i : InputTrace). both i ps) (called_more c.board p.at p.act)
+        ap all_inputs done.1
+        ∙ ap (λ (i : InputTrace). both i ps) (called_more c.board p.at p.act done.0)
         ∙ ap (λ (acts : List Call). let all : InputTrace = record { config = (input_trace c.board).config; acts = acts } in all)
         (append_assoc (input_trace c.board).acts now later
         ∙ ap (λ (acts : List Call). (input_trace c.board).acts ++ acts)

@@ -4,6 +4,8 @@ pub mod Beginning
 pub mod Calling
 -- what comes next: what it is about is there, and where nothing comes, nothing is in flight
 pub mod Coming
+-- sendings end by the cut
+pub mod CutOff
 -- a notice that a courier delivered which answers so and never refuses
 pub mod Delivered
 -- what a board does over each call
@@ -18,14 +20,20 @@ pub mod Happening
 pub mod Hindering
 -- what each step keeps: the configuration, and what is done and left of the plans
 pub mod Keeping
+-- a load that a board doesn't refuse
+pub mod Loading
 -- a rehearsal has one play
 pub mod OnePlay
 -- the scene with which a rehearsal starts
 pub mod Opened
+-- the parts of a rehearsal: one handover more, and one played part more
+pub mod Parting
 -- the plans that are left are the last of those that were planned
 pub mod PlansLeft
 -- scenes by their parts
 pub mod Scenes
+-- what is set again at a handover, with one plan more in front
+pub mod SetAgain
 -- what is told of a board stands over each call
 pub mod Standing
 -- the next step, when it is done

@@ -15,7 +15,7 @@ use Rattle.am_model.specs.Ticket.{TicketData}
 use Rattle.am_pool.proofs.Determined.{apart, same_report}
 use Rattle.am_pool.specs.Sendings.{end_on}
 use Rattle.am_pool.specs.declared.courier.Sent.{Sent}
-use Rattle.am_rehearsal.specs.Answers.{AreEndsOf, IsEndOf, IsOutcome}
+use Rattle.am_rehearsal.specs.Answers.{AreEndsOf, IsEndOf, IsOutcome, tried_by}
 use Rattle.am_rehearsal.specs.Laws.{RehearsalsHaveOnePlay}
 use Rattle.am_rehearsal.specs.Next.{next}
 use Rattle.am_rehearsal.specs.Play.{LeadsIn}
@@ -34,21 +34,21 @@ both_some : {X : Type 0} (o : Option X) (P Q : X → Type 0) (R : Type 0) → ((
 both_some None P Q R both p q = absurd p
 both_some (Some x) P Q R both p q = both x p q
 
-module _ (answer : ℕ → ℕ → ℕ → ℕ → Sent) (at : ℕ) where
-  outcome_once : (n : NoticeData) (one other : Option Report) → IsOutcome answer at n one → IsOutcome answer at n other → one ≡ other
+module _ (answer : ℕ → ℕ → ℕ → ℕ → Sent) (cut : Option ℕ) (at : ℕ) where
+  outcome_once : (n : NoticeData) (one other : Option Report) → IsOutcome answer cut at n one → IsOutcome answer cut at n other → one ≡ other
   outcome_once n None None a b = refl
   outcome_once n None (Some r) a b = absurd (cc (a, b.0))
   outcome_once n (Some r) None a b = absurd (cc (a.0, b))
-  outcome_once n (Some r) (Some q) a b = ap (λ (x : Report). Some x) (same_report answer at n r q a.1 b.1)
+  outcome_once n (Some r) (Some q) a b = ap (λ (x : Report). Some x) (same_report answer at (tried_by cut n) r q a.1 b.1)
 
-  end_once : (place : ℕ) (n : NoticeData) (one other : End) → IsEndOf answer at place n one → IsEndOf answer at place n other → one ≡ other
+  end_once : (place : ℕ) (n : NoticeData) (one other : End) → IsEndOf answer cut at place n one → IsEndOf answer cut at place n other → one ≡ other
   end_once place n one other a b =
       let report : one.report ≡ other.report = outcome_once n one.report other.report a.2 b.2 in
       let ended : one.at ≡ other.at = a.1 ∙ ap (end_on at) report ∙ sym b.1 in
       let placed : one.place ≡ other.place = a.0 ∙ sym b.0 in
       λ i. record { at = ended i; place = placed i; report = report i }
 
-  ends_once : (place : ℕ) (ns : List NoticeData) (ones others : List End) → AreEndsOf answer at place ns ones → AreEndsOf answer at place ns others → ones ≡ others
+  ends_once : (place : ℕ) (ns : List NoticeData) (ones others : List End) → AreEndsOf answer cut at place ns ones → AreEndsOf answer cut at place ns others → ones ≡ others
   ends_once place [] [] [] a b = refl
   ends_once place [] [] (e ∷ es) a b = absurd b
   ends_once place [] (e ∷ es) others a b = absurd a
@@ -64,7 +64,7 @@ module _ (r : Setting) where
   added_once at ticket begin c d e a b =
       let tickets : a.0.ticket ≡ b.0.ticket = a.1 ∙ sym b.1 in
       let begins : a.0.begin ≡ b.0.begin = a.2 ∙ sym b.2 in
-      let ends : a.0.ends ≡ b.0.ends = ends_once (answers_for r c.board ticket.group) at 0 ticket.notices a.0.ends b.0.ends a.3 b.3 in
+      let ends : a.0.ends ≡ b.0.ends = ends_once (answers_for r c.board ticket.group) r.span.cut at 0 ticket.notices a.0.ends b.0.ends a.3 b.3 in
       let same : a.0 ≡ b.0 = λ i. record { ticket = tickets i; begin = begins i; ends = ends i } in
       a.4 ∙ ap (λ (s : SendingData). with_sending s c) same ∙ sym b.4
 
@@ -94,7 +94,7 @@ module _ (r : Setting) where
 
     planned_once : (ps : List TimedAction) → IsPlanDone c d ps → IsPlanDone c e ps → d ≡ e
     planned_once [] a b = absurd a
-    planned_once (p ∷ ps) a b = a ∙ sym b
+    planned_once (p ∷ ps) a b = a.1 ∙ sym b.1
 
     done_once : (at : ℕ) (what : Step) → IsDone r c at d what → IsDone r c at e what → d ≡ e
     done_once at (step.End position index) a b =

@@ -47,7 +47,7 @@ module _ (r : Setting) where
 
     acted : (ps : List TimedAction) → c.plans ≡ ps → IsPlanDone c d ps → Leaves
     acted [] left done = absurd done
-    acted (p ∷ ps) left is = (p ∷ [], left ∙ ap (λ (l : List TimedAction). p ∷ l) (sym (ap (λ (s : Scene). s.plans) is)))
+    acted (p ∷ ps) left done = (p ∷ [], left ∙ ap (λ (l : List TimedAction). p ∷ l) (sym (ap (λ (s : Scene). s.plans) done.1)))
 
     replied : (at : ℕ) (told : Reply) → IsReplied r c at d told → Leaves
     replied at reply.NothingDue is = same_plans _ is refl

@@ -1,5 +1,5 @@
 -- The next step, when it is done.
-use Rattle.std.proofs.Common.{◌≡◌, ℕ, ◌<◌, suc, false, length, List, [], ◌∷◌, ◌++◌, Option, Some, None, refl, sym, ap, ◌∙◌, subst}
+use Rattle.std.proofs.Common.{◌≡◌, ℕ, ◌<◌, suc, false, length, List, [], ◌∷◌, ◌++◌, Option, Some, None, Result, Ok, Err, OnOk, refl, sym, ap, ◌∙◌, subst}
 use Rattle.std.specs.Prelude.{remove, slice_get, slice_set, if◌then◌else◌}
 use Rattle.std.specs.Option.{IsSomeAnd}
 use Rattle.std.proofs.lemmas.Option.{slice_get_within}
@@ -33,6 +33,11 @@ module _ (r : Setting) (c : Scene) (n : Next) (what : Step) (comes : next r c �
   unfolding Steps
   steps_by d done =
       subst (λ (o : Option Next). IsSomeAnd o (λ m. IsDone r c m.at d m.what)) (sym comes) (subst (IsDone r c n.at d) (sym is) done)
+
+-- what follows from two facts of a success
+pub on_ok_both : {T E P Q R : Type 0} (r : Result T E) → (P → Q → R) → OnOk r P → OnOk r Q → OnOk r R
+on_ok_both (Ok x) both p q = both p q
+on_ok_both (Err e) both p q = tt
 
 -- the first of these plans is done
 pub plan_done : (c d : Scene) (ps rest : List TimedAction) (p : TimedAction) → ps ≡ p ∷ rest → IsPlanDone c d (p ∷ rest) → IsPlanDone c d ps
@@ -98,6 +103,6 @@ pub maintenance_is : (r : Setting) (c : Scene) (at next : ℕ) (b : BoardData) (
 maintenance_is r c at next b es board events due = λ i. scene_of (board i) (events i) c.plans c.sendings at (due i) c.begins c.blocked
 
 -- a flush is one more in flight
-pub sending_added : (r : Setting) (c : Scene) (at : ℕ) (s : SendingData) (ss : List SendingData) → AreEndsOf (answers_for r c.board s.ticket.group) at 0 s.ticket.notices s.ends
+pub sending_added : (r : Setting) (c : Scene) (at : ℕ) (s : SendingData) (ss : List SendingData) → AreEndsOf (answers_for r c.board s.ticket.group) r.span.cut at 0 s.ticket.notices s.ends
     → ss ≡ c.sendings ++ s ∷ [] → IsSendingAdded r at s.ticket s.begin c (scene_of c.board c.events c.plans ss c.clock c.maintenance c.begins c.blocked)
 sending_added r c at s ss ends sendings = (s, refl, refl, ends, same_scene c.plans c.clock c.maintenance c.begins c.blocked refl refl sendings)

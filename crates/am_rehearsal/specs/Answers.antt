@@ -1,10 +1,11 @@
 -- Answers: how integrations answer in a rehearsal, and how the sendings of a flush end.
-use Rattle.std.specs.Prelude.{◌≡◌, ◌==◌, ◌&&◌, ℕ, ◌+◌, Bool, true, false, not, nat_le, List, [], ◌∷◌, Option, Some, None}
+use Rattle.std.specs.Prelude.{◌≡◌, ◌==◌, ◌&&◌, ℕ, ◌+◌, min, max, Bool, true, false, not, nat_le, nat_lt, List, [], ◌∷◌, Option, Some, None, if◌then◌else◌}
 use Rattle.std.specs.List.{find}
 use Rattle.std.specs.Str.{bytes_eq}
 use Rattle.am_model.specs.Notice.{NoticeData, is_nothing}
 use Rattle.am_model.specs.declared.notice.Report.{Report}
-use Rattle.am_retry.specs.declared.outcome.Answer.TheVariants.{Done}
+use Rattle.am_retry.specs.declared.outcome.Answer.TheVariants.{Done, Never}
+use Rattle.am_pool.specs.Delivery.{with_deadline}
 use Rattle.am_pool.specs.Sendings.{IsAnsweredBy, IsSentFrom, end_on, later}
 use Rattle.am_pool.specs.declared.courier.Sent.{Sent}
 use Rattle.am_rehearsal.specs.declared.next.End.{End}
@@ -30,22 +31,38 @@ abbrev pub sent_by : ℕ → Option Outage → Sent
 sent_by at None = record { answer = Done; ended = at }
 sent_by at (Some o) = record { answer = o.answer; ended = later at o.takes }
 
--- how the attempts for a receiver go: the first outage counts that covers them
-abbrev pub answer_of : List Outage → List ℕ → ℕ → ℕ → ℕ → ℕ → Sent
-answer_of outages receiver ticket integration attempt at = sent_by at (find (covers receiver integration at) outages)
+-- how an attempt at a time goes, where the dispatcher may be stopped: one that would end after the cut ends there, and isn't made again
+-- (Alertmanager's Dispatcher.Stop, which cancels what is in flight)
+abbrev pub cut_short : Option ℕ → ℕ → Sent → Sent
+cut_short None at sent = sent
+cut_short (Some cut) at sent = if nat_lt cut sent.ended then record { answer = Never; ended = max at cut } else sent
+
+-- how the attempts for a receiver go: the first outage counts that covers them, and none ends after the cut
+abbrev pub answer_of : Option ℕ → List Outage → List ℕ → ℕ → ℕ → ℕ → ℕ → Sent
+answer_of cut outages receiver ticket integration attempt at =
+    cut_short cut at (sent_by at (find (covers receiver integration at) outages))
+
+-- up to when a notice is tried: up to its deadline, or up to the cut if that is sooner
+abbrev pub tried_until : Option ℕ → ℕ → ℕ
+tried_until None deadline = deadline
+tried_until (Some cut) deadline = min deadline cut
+
+-- a notice as it is sent, where no attempt is to begin after the cut
+abbrev pub tried_by : Option ℕ → NoticeData → NoticeData
+tried_by cut n = with_deadline (tried_until cut n.deadline) n
 
 -- with attempts that go so, the report of the sending of a notice from a time on; none where there is nothing to send
-abbrev pub IsOutcome : (ℕ → ℕ → ℕ → ℕ → Sent) → ℕ → NoticeData → Option Report → Type 0
-IsOutcome answer at n None = is_nothing n ≡ true
-IsOutcome answer at n (Some report) = (is_nothing n ≡ false) × IsSentFrom (IsAnsweredBy answer) at n report
+abbrev pub IsOutcome : (ℕ → ℕ → ℕ → ℕ → Sent) → Option ℕ → ℕ → NoticeData → Option Report → Type 0
+IsOutcome answer cut at n None = is_nothing n ≡ true
+IsOutcome answer cut at n (Some report) = (is_nothing n ≡ false) × IsSentFrom (IsAnsweredBy answer) at (tried_by cut n) report
 
 -- the end of the notice at a place of a ticket that was sent from a time on: when its sending is over
-abbrev pub IsEndOf : (ℕ → ℕ → ℕ → ℕ → Sent) → ℕ → ℕ → NoticeData → End → Type 0
-IsEndOf answer at place n e = (e.place ≡ place) × (e.at ≡ end_on at e.report) × IsOutcome answer at n e.report
+abbrev pub IsEndOf : (ℕ → ℕ → ℕ → ℕ → Sent) → Option ℕ → ℕ → ℕ → NoticeData → End → Type 0
+IsEndOf answer cut at place n e = (e.place ≡ place) × (e.at ≡ end_on at e.report) × IsOutcome answer cut at n e.report
 
 -- the ends of notices, the first of which is at this place
-abbrev pub AreEndsOf : (ℕ → ℕ → ℕ → ℕ → Sent) → ℕ → ℕ → List NoticeData → List End → Type 0
-AreEndsOf answer at place [] [] = Unit {0}
-AreEndsOf answer at place [] (e ∷ es) = ⊥
-AreEndsOf answer at place (n ∷ ns) [] = ⊥
-AreEndsOf answer at place (n ∷ ns) (e ∷ es) = IsEndOf answer at place n e × AreEndsOf answer at (place + 1) ns es
+abbrev pub AreEndsOf : (ℕ → ℕ → ℕ → ℕ → Sent) → Option ℕ → ℕ → ℕ → List NoticeData → List End → Type 0
+AreEndsOf answer cut at place [] [] = Unit {0}
+AreEndsOf answer cut at place [] (e ∷ es) = ⊥
+AreEndsOf answer cut at place (n ∷ ns) [] = ⊥
+AreEndsOf answer cut at place (n ∷ ns) (e ∷ es) = IsEndOf answer cut at place n e × AreEndsOf answer cut at (place + 1) ns es

@@ -1,5 +1,5 @@
 -- Courses: the scene of a rehearsal that is being played.
-use Rattle.std.specs.Prelude.{◌≡◌, ◌≢◌, ◌<◌, ◌≤◌, ◌-◌, ◌||◌, ℕ, IsTrue, not, length, slice_get, Option, Some, None}
+use Rattle.std.specs.Prelude.{◌≡◌, ◌<◌, ◌≤◌, ◌-◌, ◌||◌, ℕ, Bool, true, false, IsTrue, not, length, slice_get, Option, Some, None}
 use Rattle.std.specs.Option.{IsSomeAnd}
 use Rattle.am_model.specs.declared.fault.Fault.{Fault}
 use Rattle.am_model.specs.declared.fault.Fault.TheVariants.{HistoryFull}
@@ -9,14 +9,14 @@ use Rattle.am_rehearsal.specs.declared.next.Step.TheVariants as step
 use Rattle.am_rehearsal.specs.Next.{next}
 use Rattle.am_rehearsal.specs.Play.{Reaches}
 use Rattle.am_rehearsal.specs.Scene.{Scene, Setting, setting_with}
-use Rattle.am_rehearsal.specs.WhyNot.{IsHistoryFull, own_cause, plan_cause}
+use Rattle.am_rehearsal.specs.WhyNot.{IsHistoryFull, own_cause, refuses_first}
 use Rattle.am_rehearsal.specs.declared.play.Course.{Course}
 use Rattle.am_rehearsal.specs.declared.play.PlayFault.{PlayFault}
 use Rattle.am_rehearsal.specs.declared.play.PlayFault.TheVariants as play
 
 -- what doesn't change in it
 abbrev pub setting_in : Course → Setting
-setting_in course = setting_with course.until course.maintain course.outages.now
+setting_in course = setting_with course.until course.maintain course.outages.now course.span
 
 -- how far it has come
 abbrev pub scene_in : Course → Scene
@@ -44,33 +44,34 @@ IsThereFor r c n step.Begin = (n.at ≤ r.until) × IsTrue (c.begins || not c.bl
 abbrev pub IsThere : Setting → Scene → Next → Type 0
 IsThere r c n = IsThereFor r c n n.what
 
--- the board has no cause against a step of this kind, if it is a plan or a maintenance
+-- the board doesn't refuse a step of this kind, if it is a plan or a maintenance
 abbrev pub IsAllowed : Scene → Next → Step → Type 0
-IsAllowed c n step.Plan = plan_cause c.board c.plans ≡ None
+IsAllowed c n step.Plan = refuses_first c.board c.plans ≡ false
 IsAllowed c n step.Maintenance = own_cause c.board n.at step.Maintenance ≡ None
 IsAllowed c n step.Begin = Unit {0}
 IsAllowed c n (step.Finish position) = Unit {0}
 IsAllowed c n (step.End position index) = Unit {0}
 
--- a plan at a position isn't done for this fault, where this is the board's cause against it
-abbrev pub IsPlanFault : Option Fault → ℕ → PlayFault → Type 0
-IsPlanFault cause k play.NoMemory = Unit {0}
-IsPlanFault cause k play.BadConfig = ⊥
-IsPlanFault cause k (play.PlanFull position) = (position ≡ k) × (cause ≢ None)
-IsPlanFault cause k play.Full = ⊥
+-- a plan at a position isn't done for this fault, where the board refuses it or doesn't
+abbrev pub IsPlanFault : Bool → ℕ → PlayFault → Type 0
+IsPlanFault refused k play.NoMemory = Unit {0}
+IsPlanFault refused k play.BadConfig = ⊥
+IsPlanFault refused k (play.PlanRefused position) = (position ≡ k) × (refused ≡ true)
+IsPlanFault refused k play.Full = ⊥
 
 -- a maintenance or a begin isn't done for this fault, where this is the board's cause against it
 abbrev pub IsOwnFault : Option Fault → PlayFault → Type 0
 IsOwnFault cause play.NoMemory = Unit {0}
 IsOwnFault cause play.BadConfig = ⊥
-IsOwnFault cause (play.PlanFull position) = ⊥
+IsOwnFault cause (play.PlanRefused position) = ⊥
 IsOwnFault cause play.Full = cause ≡ Some HistoryFull
 
 -- what comes next isn't done for this fault, where so many actions were planned
 abbrev pub IsHindered : ℕ → Scene → Next → PlayFault → Type 0
 IsHindered count c n play.NoMemory = Unit {0}
 IsHindered count c n play.BadConfig = ⊥
-IsHindered count c n (play.PlanFull k) = (n.what ≡ step.Plan) × (k ≡ count - length c.plans) × (plan_cause c.board c.plans ≢ None)
+IsHindered count c n (play.PlanRefused k) =
+    (n.what ≡ step.Plan) × (k ≡ count - length c.plans) × (refuses_first c.board c.plans ≡ true)
 IsHindered count c n play.Full = IsHistoryFull c n
 
 -- from a scene on, steps lead to one where what comes next isn't done for this fault

@@ -1,6 +1,6 @@
 -- what each begin of a history was to do, by the records before it
 pub mod Previews
--- what a history has of the planned actions, and of the clock
+-- what a history has of the planned actions, and whether a board refuses one
 pub mod Planned
 -- what the events of a rehearsal say of its begins
 pub mod EventOrder
@@ -12,6 +12,8 @@ pub mod WhyNot
 pub mod Answers
 -- what is known of a rehearsal between two steps
 pub mod Scene
+-- why a planned action isn't done
+pub mod Acting
 -- what comes next, and when
 pub mod Next
 -- the steps of a rehearsal, each with its call of the board
@@ -22,5 +24,13 @@ pub mod Play
 pub mod Taking
 -- a rehearsal has one play
 pub mod Laws
+-- what a new dispatcher is told before its own plans
+pub mod Handover
+-- what was seen, while plans are gone through from the end
+pub mod Seen
+-- a rehearsal with handovers, as a list of parts
+pub mod Parts
+-- the parts of a rehearsal, played one after another
+pub mod Playing
 -- the state of the loop that plays
 pub mod Courses

@@ -3,21 +3,25 @@ use Rattle.std.specs.Prelude.{ℕ, Bool, false, List, []}
 use Rattle.am_model.specs.declared.config.Config.{Config}
 use Rattle.am_model.specs.Ticket.{TicketData}
 use Rattle.am_board.specs.History.{BoardData, opening}
+use Rattle.am_pool.specs.Sendings.{later}
 use Rattle.am_terms.specs.declared.event.Event.{Event}
 use Rattle.am_rehearsal.specs.declared.limits.TheConstants.{BOARD_ID}
 use Rattle.am_rehearsal.specs.declared.next.End.{End}
+use Rattle.am_rehearsal.specs.declared.span.Span.{Span}
 use Rattle.am_terms.specs.declared.rehearsal.Outage.{Outage}
 use Rattle.am_terms.specs.declared.rehearsal.TimedAction.{TimedAction}
 
--- what doesn't change in a rehearsal: its end, the time between two maintenances, and its outages
+-- what doesn't change in a rehearsal: its end, the time between two maintenances, its outages, and since when and up to which cut its
+-- dispatcher runs
 pub record Setting : Type 0 where
   pub until : ℕ
   pub maintain : ℕ
   pub outages : List Outage
+  pub span : Span
 
--- the setting with this end, this time between two maintenances and these outages
-abbrev pub setting_with : ℕ → ℕ → List Outage → Setting
-setting_with until maintain outages = record { until = until; maintain = maintain; outages = outages }
+-- the setting with this end, this time between two maintenances, these outages and this span
+abbrev pub setting_with : ℕ → ℕ → List Outage → Span → Setting
+setting_with until maintain outages span = record { until = until; maintain = maintain; outages = outages; span = span }
 
 -- a flush whose notices are in flight: its ticket, which of the begins that took a group opened it, and the ends still to come, by place
 pub record SendingData : Type 0 where
@@ -37,7 +41,7 @@ pub record Scene : Type 0 where
   pub begins : Bool
   pub blocked : Bool
 
--- the scene at the start, with these plans
+-- the scene at the start, with these plans: the first maintenance comes its time after the dispatcher's start
 abbrev pub opening_scene : Setting → Config → List TimedAction → Scene
 opening_scene r config plans =
     record {
@@ -45,8 +49,8 @@ opening_scene r config plans =
       events = [];
       plans = plans;
       sendings = [];
-      clock = 0;
-      maintenance = r.maintain;
+      clock = r.span.since;
+      maintenance = later r.span.since r.maintain;
       begins = false;
       blocked = false;
     }

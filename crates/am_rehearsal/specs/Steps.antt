@@ -25,7 +25,7 @@ use Rattle.am_pool.specs.declared.courier.Sent.{Sent as SentAttempt}
 use Rattle.am_rehearsal.specs.Answers.{AreEndsOf, answer_of}
 use Rattle.am_rehearsal.specs.EventOrder.{begin_indices}
 use Rattle.am_rehearsal.specs.Next.{next}
-use Rattle.am_rehearsal.specs.Planned.{call_of}
+use Rattle.am_rehearsal.specs.Planned.{call_of, refuses}
 use Rattle.am_rehearsal.specs.Scene.{Scene, SendingData, Setting}
 use Rattle.am_terms.specs.declared.event.Event.{Event}
 use Rattle.am_terms.specs.declared.event.Event.TheVariants.{Begun, Sent}
@@ -116,13 +116,13 @@ with_sending s c = record c { sendings = c.sendings ++ s ∷ [] }
 
 -- the answers to the attempts for a group's receiver
 abbrev pub answers_for : Setting → BoardData → GroupName → ℕ → ℕ → ℕ → ℕ → SentAttempt
-answers_for r b group = answer_of r.outages (route_of b.config group).receiver
+answers_for r b group = answer_of r.span.cut r.outages (route_of b.config group).receiver
 
 -- a flush of this ticket, which this begin opened at a time, is one more in flight, and each of its notices was sent from that time on
 abbrev pub IsSendingAdded : Setting → ℕ → TicketData → ℕ → Scene → Scene → Type 0
 IsSendingAdded r at ticket begin c d =
     (s : SendingData) × (s.ticket ≡ ticket) × (s.begin ≡ begin)
-    × AreEndsOf (answers_for r c.board ticket.group) at 0 ticket.notices s.ends × (d ≡ with_sending s c)
+    × AreEndsOf (answers_for r c.board ticket.group) r.span.cut at 0 ticket.notices s.ends × (d ≡ with_sending s c)
 
 -- what a begin does that gets this reply
 abbrev pub IsReplied : Setting → Scene → ℕ → Scene → Reply → Type 0
@@ -151,10 +151,10 @@ IsBegun r c at d (Some fault.TooManyGroups) = ⊥
 IsBegun r c at d (Some fault.TooManySilences) = ⊥
 IsBegun r c at d (Some fault.HistoryFull) = ⊥
 
--- the first of these plans is done
+-- the first of these plans is done, which the board doesn't refuse
 abbrev pub IsPlanDone : Scene → Scene → List TimedAction → Type 0
 IsPlanDone c d [] = ⊥
-IsPlanDone c d (p ∷ ps) = d ≡ after_plan c p ps
+IsPlanDone c d (p ∷ ps) = (refuses c.board p.at p.act ≡ false) × (d ≡ after_plan c p ps)
 
 -- a step at a time leads from one scene to another
 abbrev pub IsDone : Setting → Scene → ℕ → Scene → Step → Type 0

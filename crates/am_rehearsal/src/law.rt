@@ -1,6 +1,7 @@
-//! The limits of a rehearsal, and that it has one play, as laws that verifiers read.
+//! The limits of a rehearsal, that it has one play, and that sendings end by a cut, as laws that
+//! verifiers read.
 ghost use Rattle.std.specs.Prelude.{◌≡◌};
-ghost use Rattle.am_rehearsal.specs.Laws.{RehearsalsHaveOnePlay};
+ghost use Rattle.am_rehearsal.specs.Laws.{RehearsalsHaveOnePlay, SendingsEndByCut};
 ghost use Rattle.am_rehearsal.specs.declared.limits.TheConstants.{BOARD_ID};
 ghost use Rattle.am_terms.specs.declared.rehearsal.TheConstants.{MAX_UNTIL};
 
@@ -16,4 +17,12 @@ pub fn limits_are()
 /// events to which it comes.
 pub fn rehearsals_have_one_play()
     ensures { RehearsalsHaveOnePlay }
+{}
+
+/// States that a sending ends by the time at which its dispatcher is stopped.
+///
+/// Exception: a sending that begins later ends at once, without an attempt. So no notice is
+/// delivered after that time.
+pub fn sendings_end_by_the_cut()
+    ensures { SendingsEndByCut }
 {}

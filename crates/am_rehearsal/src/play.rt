@@ -10,7 +10,7 @@
 //! soon as it is begun, and their reports wait until the clock comes to their ends. When as many
 //! flushes are open as the limit allows, groups stay due, and no begin is tried until a flush is
 //! finished.
-ghost use Rattle.std.specs.Prelude.{◌≡◌, ◌≢◌, ◌<◌, ◌≤◌, ◌+◌, ◌-◌, ◌++◌, [], IfErr, IfOk, OnOk, None, Some, if◌then◌else◌};
+ghost use Rattle.std.specs.Prelude.{◌≡◌, ◌≢◌, ◌<◌, ◌≤◌, ◌+◌, ◌-◌, ◌++◌, [], false, IfErr, IfOk, OnOk, None, Some, if◌then◌else◌};
 ghost use Rattle.std.specs.Prelude.{length, slice_get, vec_len, vec_capacity};
 ghost use Rattle.std.specs.List.{range_with_len};
 ghost use Rattle.std.specs.Option.{IsSomeAnd};
@@ -21,20 +21,22 @@ ghost use Rattle.am_rehearsal.specs.Courses.{scene_in, setting_in, IsAllowed, Is
 ghost use Rattle.am_rehearsal.specs.EventOrder.{begin_indices};
 ghost use Rattle.am_rehearsal.specs.Faults.{fault_of_call};
 ghost use Rattle.am_rehearsal.specs.Next.{begins_on, next, next_but_begins, next_begin, next_plan};
-ghost use Rattle.am_rehearsal.specs.Planned.{inputs_in, planned};
-ghost use Rattle.am_rehearsal.specs.Play.{setting_of, PlaysTo, Reaches};
+ghost use Rattle.am_rehearsal.specs.Planned.{inputs_in, planned, refuses};
+ghost use Rattle.am_rehearsal.specs.Play.{setting_in_span, setting_of, PlaysTo, Reaches};
 ghost use Rattle.am_rehearsal.specs.Previews.{previews_of};
 ghost use Rattle.am_rehearsal.specs.Scene.{opening_scene, setting_with};
 ghost use Rattle.am_rehearsal.specs.Steps.{after_plan, is_success, sent_events, with_note, with_report, IsDone, IsSendingAdded, Steps};
-ghost use Rattle.am_rehearsal.specs.WhyNot.{action_cause, own_cause, IsWhyNot};
+ghost use Rattle.am_rehearsal.specs.WhyNot.{own_cause, IsWhyNot};
 ghost use Rattle.am_rehearsal.specs.declared.limits.TheConstants.{BOARD_ID};
 ghost use Rattle.am_terms.specs.declared.rehearsal.TheConstants.{MAX_UNTIL};
 ghost use Rattle.am_rehearsal.specs.declared.next.Step.TheVariants as step;
 
+use crate::acting::ActFault;
 use crate::limits::BOARD_ID;
 use crate::next::{End, Next, Step, comes_by, earlier, in_time};
 use crate::previewing::PreviewingBoard;
 use crate::sending::{Sending, ends_of, next_end, next_finish};
+use crate::span::Span;
 use crate::taken::Taken;
 use am_board::board::Board;
 use am_board::config::Config;
@@ -58,6 +60,9 @@ pub struct Played {
     pub begins: Vec<PreviewedBegin>,
     pub events: Vec<Event>,
     ghost whole: { board.handed ≡ [] },
+    ghost ours: { board.id ≡ BOARD_ID },
+    ghost previews: { begins.items ≡ previews_of board.config board.history },
+    ghost begun: { begin_indices events.items ≡ range_with_len 0 (vec_len begins) },
 }
 
 impl Played {
@@ -77,17 +82,18 @@ pub enum PlayFault {
     NoMemory,
     /// No dispatcher may have the configuration.
     BadConfig,
-    /// A limit of the configuration leaves no capacity for the planned action at this position.
-    PlanFull(usize),
+    /// The board refuses the planned action at this position: at a limit of the configuration, or a
+    /// log row that doesn't fit.
+    PlanRefused(usize),
     /// The history has no capacity for the begins or maintenances until then.
     Full,
 }
 
 /// Runs a rehearsal to its end. Notices that are in flight then are sent to their own end. `watch` is called at each step.
 ///
-/// Clause `planned`: the inserts and silences of the history are the planned ones, in order and at
-/// their times, up to the first that is after the end. Clause `previews`: the reasons of each begin
-/// are those that the history before it gives. Clause `begun`: the events have each begin that took
+/// Clause `planned`: the inserts, silences and loads of the history are the planned ones, in order
+/// and at their times, up to the first that is after the end. Clause `previews`: the reasons of each
+/// begin are those that the history before it gives. Clause `begun`: the events have each begin that took
 /// a group, once and in order. Clause `played`: board and events are those to which the rehearsal
 /// plays (`PlaysTo`), step by step. `law::rehearsals_have_one_play`: there is only one such pair. The
 /// board has the id `BOARD_ID`. Clause `refused`: a fault other than `NoMemory` comes only where it is
@@ -97,7 +103,8 @@ pub enum PlayFault {
 ///
 /// The first of these on the way:
 /// - `BadConfig`: no board takes the configuration.
-/// - `PlanFull`: the planned action at this position comes next, and the board refuses it at a limit.
+/// - `PlanRefused`: the planned action at this position comes next, and the board refuses it: at a
+///   limit, or a log row that doesn't fit.
 /// - `Full`: a begin or a maintenance comes next, and the history has no capacity for it.
 /// - `NoMemory`.
 ///
@@ -118,6 +125,35 @@ pub fn play<W: Watch>(
         PlaysTo (setting_of rehearsal) rehearsal.config rehearsal.plans.items played.board played.events.items) }
     ensures refused { IfErr result (IsWhyNot (setting_of rehearsal) rehearsal.config rehearsal.plans.items) }
 {
+    play_span(alloc, rehearsal, Span::whole(), watch)
+}
+
+/// Runs the part of a rehearsal that one dispatcher has, to its end. It starts with an empty board.
+///
+/// The clock starts at `span.since`, and the first maintenance comes its time after that. An attempt
+/// that would end after `span.cut` fails at the cut, without another try. No attempt begins from the
+/// cut on. All else is as in `play`, with the same clauses.
+///
+/// # Errors
+///
+/// Those of `play`.
+pub fn play_span<W: Watch>(
+    alloc: Global,
+    rehearsal: Rehearsal,
+    span: Span,
+    watch: &mut W,
+) -> Result<Played, PlayFault>
+    ensures configured { IfOk result (λ played. played.board.config ≡ rehearsal.config) }
+    ensures ours { IfOk result (λ played. played.board.id ≡ BOARD_ID) }
+    ensures planned { IfOk result (λ played.
+        inputs_in played.board.history ≡ planned rehearsal.until rehearsal.plans.items) }
+    ensures previews { IfOk result (λ played. played.begins.items ≡ previews_of played.board.config played.board.history) }
+    ensures begun { IfOk result (λ played.
+        begin_indices played.events.items ≡ range_with_len 0 (vec_len played.begins)) }
+    ensures played { IfOk result (λ played.
+        PlaysTo (setting_in_span span rehearsal) rehearsal.config rehearsal.plans.items played.board played.events.items) }
+    ensures refused { IfErr result (IsWhyNot (setting_in_span span rehearsal) rehearsal.config rehearsal.plans.items) }
+{
     let Rehearsal {
         config,
         until,
@@ -125,7 +161,36 @@ pub fn play<W: Watch>(
         plans,
         outages,
     } = rehearsal;
-    let mut course = Course::open(alloc, config, until, maintain, plans, outages.as_slice())?;
+    play_pieces(
+        alloc,
+        config,
+        until,
+        maintain,
+        plans,
+        outages.as_slice(),
+        span,
+        watch,
+    )
+}
+
+/// Runs the part of a rehearsal that one dispatcher has, given by its pieces, to its end. The
+/// outages are borrowed: the parts of a rehearsal share them.
+pub(crate) fn play_pieces<W: Watch>(
+    alloc: Global,
+    config: Config,
+    until: u64,
+    maintain: u64,
+    plans: Vec<TimedAction>,
+    outages: &[Outage],
+    span: Span,
+    watch: &mut W,
+) -> Result<Played, PlayFault>
+    requires until { until ≤ MAX_UNTIL }
+    ensures played { IfOk result (λ played.
+        PlaysTo (setting_with until maintain outages.now span) config plans.items played.board played.events.items) }
+    ensures refused { IfErr result (IsWhyNot (setting_with until maintain outages.now span) config plans.items) }
+{
+    let mut course = Course::open(alloc, config, until, maintain, plans, outages, span)?;
     match course.run(watch) {
         Ok(()) => Ok(course.into_played()),
         Err(fault) => {
@@ -143,6 +208,7 @@ struct Course<'o> {
     /// The last time of plans, maintenances and begins.
     until: u64,
     maintain: u64,
+    span: Span,
     /// How many actions were planned.
     count: usize,
     /// The planned actions that are still to come.
@@ -167,10 +233,11 @@ impl<'o> Course<'o> {
         maintain: u64,
         plans: Vec<TimedAction>,
         outages: &'o [Outage],
+        span: Span,
     ) -> Result<Course<'o>, PlayFault>
-        ensures setting { IfOk result (λ course. setting_in course ≡ setting_with until maintain outages.now) }
+        ensures setting { IfOk result (λ course. setting_in course ≡ setting_with until maintain outages.now span) }
         ensures scene { IfOk result (λ course.
-            scene_in course ≡ opening_scene (setting_with until maintain outages.now) config plans.items) }
+            scene_in course ≡ opening_scene (setting_with until maintain outages.now span) config plans.items) }
         ensures counted { IfOk result (λ course. course.count ≡ length plans.items) }
         ensures faultless { OnOk result (config_fault config ≡ None) }
         ensures refused { IfErr result (λ fault. (fault ≡ PlayFault.BadConfig) × (config_fault config ≢ None)) }
@@ -181,11 +248,12 @@ impl<'o> Course<'o> {
             outages,
             until,
             maintain,
+            span,
             count: plans.len(),
             plans: VecDeque::from_vec(plans),
             sendings: Vec::new(alloc),
-            clock: 0,
-            next_maintenance: maintain,
+            clock: span.since,
+            next_maintenance: span.since.saturating_add(maintain),
             is_beginning: false,
             is_blocked: false,
         })
@@ -330,21 +398,19 @@ impl<'o> Course<'o> {
         ensures same { setting_in self.new ≡ setting_in self.old }
         ensures counted { self.new.count ≡ self.old.count }
         ensures done { OnOk result (scene_in self.new ≡ after_plan (scene_in self.old) plan self.old.plans.items) }
-        ensures allowed { OnOk result (action_cause self.old.board.board plan.act ≡ None) }
+        ensures allowed { OnOk result (refuses self.old.board.board plan.at plan.act ≡ false) }
         ensures hindered { IfErr result
-            (IsPlanFault (action_cause self.old.board.board plan.act) (self.old.count - (length self.old.plans.items + 1))) }
+            (IsPlanFault (refuses self.old.board.board plan.at plan.act) (self.old.count - (length self.old.plans.items + 1))) }
     {
         let TimedAction { at, act } = plan;
         self.clock = at;
         match self.board.act(self.alloc, at, act) {
             Ok(()) => Ok(()),
-            Err(fault) => match fault {
-                Fault::NoMemory => Err(PlayFault::NoMemory),
-                _ => {
-                    let index = self.count.saturating_sub(self.plans.len() + 1);
-                    Err(PlayFault::PlanFull(index))
-                }
-            },
+            Err(ActFault::NoMemory) => Err(PlayFault::NoMemory),
+            Err(ActFault::Refused) => {
+                let index = self.count.saturating_sub(self.plans.len() + 1);
+                Err(PlayFault::PlanRefused(index))
+            }
         }
     }
 
@@ -410,7 +476,14 @@ impl<'o> Course<'o> {
     {
         let ticket = own.ticket();
         let receiver = &self.board.config().route_of(ticket.group()).receiver;
-        match ends_of::<Brand>(self.alloc, self.outages, receiver, ticket, at) {
+        match ends_of::<Brand>(
+            self.alloc,
+            self.outages,
+            receiver,
+            self.span.cut,
+            ticket,
+            at,
+        ) {
             Ok(ends) => {
                 self.sendings.push_reserved(Sending { own, begin, ends });
                 Ok(())
@@ -437,6 +510,7 @@ impl<'o> Course<'o> {
             outages: _,
             until: _,
             maintain: _,
+            span: _,
             count: _,
             plans: _,
             sendings,

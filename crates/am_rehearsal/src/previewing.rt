@@ -7,31 +7,34 @@ ghost use Rattle.std.specs.Prelude.{◌≡◌, ◌≤◌, ◌+◌, ◌++◌, ◌
 ghost use Rattle.std.specs.List.{range_with_len};
 ghost use Rattle.std.specs.Option.{option_map};
 ghost use Rattle.am_board.specs.History.{records_at, opening, reply_of, state_at, IsFresh};
-ghost use Rattle.am_board.specs.Step.{IsCaused};
+ghost use Rattle.am_board.specs.Step.{IsCaused, IsLoadCaused};
 ghost use Rattle.am_model.specs.Begin.{next_due};
-ghost use Rattle.am_model.specs.Causes.{insert_cause, maintain_cause, silence_cause};
+ghost use Rattle.am_model.specs.Causes.{insert_cause, load_cause, maintain_cause, silence_cause};
 ghost use Rattle.am_model.specs.Config.{config_fault};
 ghost use Rattle.am_model.specs.Records.{call_of_silence};
+ghost use Rattle.am_model.specs.State.{moment};
 ghost use Rattle.am_model.specs.declared.record.Call.TheVariants as call;
+ghost use Rattle.am_rehearsal.specs.Acting.{IsActed};
 ghost use Rattle.am_rehearsal.specs.EventOrder.{begin_indices};
-ghost use Rattle.am_rehearsal.specs.Planned.{call_of, input_trace, no_inputs, with_inputs};
+ghost use Rattle.am_rehearsal.specs.Planned.{call_of, input_trace, no_inputs, refuses, with_inputs};
 ghost use Rattle.am_rehearsal.specs.Previews.{takes_group, previews_of, preview_where};
 ghost use Rattle.am_rehearsal.specs.Steps.{with_call, with_note};
 ghost use Rattle.am_rehearsal.specs.Taking.{begun_where, why_not, IsOwn, IsTaken};
-ghost use Rattle.am_rehearsal.specs.WhyNot.{action_cause};
 ghost use Rattle.am_terms.specs.declared.event.Event.TheVariants.{Sent};
 ghost use Rattle.am_rehearsal.specs.declared.limits.TheConstants.{BOARD_ID};
 
+use crate::acting::ActFault;
 use crate::limits::BOARD_ID;
 use crate::taken::Taken;
 use am_alerts::alert::Alert;
 use am_board::begin::Begun;
 use am_board::board::Board;
 use am_board::config::Config;
-use am_board::fault::{BoardFault, Fault, NoteFault};
+use am_board::fault::{BoardFault, Fault, LoadFault, NoteFault};
 use am_board::notice::Report;
 use am_board::own_ticket::OwnTicket;
 use am_board::preview::Preview;
+use am_board::views::RowView;
 use am_mute::silence::Silence;
 use am_terms::event::{Event, PreviewedBegin};
 use am_terms::rehearsal::Action;
@@ -107,15 +110,17 @@ impl PreviewingBoard {
     }
 
     /// Does what is planned.
-    pub(crate) fn act(&mut self, alloc: Global, now: u64, act: Action) -> Result<(), Fault>
+    pub(crate) fn act(&mut self, alloc: Global, now: u64, act: Action) -> Result<(), ActFault>
         ensures called { IfOk result (λ _. self.new.board ≡ with_call self.old.board (call_of now act)) }
         ensures events { self.new.events ≡ self.old.events }
-        ensures cause { IsCaused (action_cause self.old.board act) result }
+        ensures cause { IsActed (refuses self.old.board now act) result }
     {
         match act {
-            Action::Insert(alert) => self.insert(alloc, now, alert),
-            Action::Silence(silence) => self.silence(alloc, now, silence),
+            Action::Insert(alert) => self.insert(alloc, now, alert)?,
+            Action::Silence(silence) => self.silence(alloc, now, silence)?,
+            Action::Load(row) => self.load(alloc, now, row)?,
         }
+        Ok(())
     }
 
     pub(crate) fn insert(&mut self, alloc: Global, now: u64, alert: Alert) -> Result<(), Fault>
@@ -139,6 +144,19 @@ impl PreviewingBoard {
             (silence_cause self.old.board.config (records_at self.old.board) (state_at self.old.board) silence) result }
     {
         let _silenced = self.board.silence(alloc, PASS, now, silence)?;
+        Ok(())
+    }
+
+    pub(crate) fn load(&mut self, alloc: Global, now: u64, row: RowView) -> Result<(), LoadFault>
+        ensures input_trace { IfOk result (λ _.
+            input_trace self.new.board ≡ with_inputs (input_trace self.old.board) (call.Load now row ∷ [])) }
+        ensures called { IfOk result (λ _. self.new.board ≡ with_call self.old.board (call.Load now row)) }
+        ensures events { self.new.events ≡ self.old.events }
+        ensures cause { IsLoadCaused
+            (load_cause self.old.board.config (records_at self.old.board) (state_at self.old.board)
+            (moment (state_at self.old.board) now) row) result }
+    {
+        let _loaded = self.board.load(alloc, PASS, row, now)?;
         Ok(())
     }
 

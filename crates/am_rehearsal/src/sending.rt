@@ -13,7 +13,7 @@ use am_alerts::text::Text;
 use am_board::notice::{Notice, Report};
 use am_board::own_ticket::OwnTicket;
 use am_board::ticket::Ticket;
-use am_pool::deliver;
+use am_pool::deliver_by;
 use am_terms::rehearsal::Outage;
 use std::alloc::{AllocError, Global};
 use std::marker::Model;
@@ -105,21 +105,25 @@ pub(crate) fn next_finish(now: u64, position: usize, sendings: &[Sending]) -> Op
 
 /// Sends the notices of a ticket from `start` (milliseconds) on, and returns their ends.
 ///
-/// The outages and the receiver are those that the type names.
+/// The outages, the receiver and the time at which the dispatcher is stopped (`cut`) are those that
+/// the type names.
 pub(crate) fn ends_of<O: Outages>(
     alloc: Global,
     outages: &[Outage],
     receiver: &Text,
+    cut: Option<u64>,
     ticket: &Ticket,
     start: u64,
 ) -> Result<Vec<End>, AllocError>
     requires start { start ≤ MAX_MOMENT }
     requires outages { outages.now ≡ O.outages }
     requires receiver { receiver.now ≡ O.receiver }
-    ensures { IfOk result (λ ends. AreEndsOf (answer_of O.outages O.receiver) start 0 ticket.now.notices ends.items) }
+    requires cut { cut ≡ O.cut }
+    ensures { IfOk result (λ ends.
+        AreEndsOf (answer_of O.cut O.outages O.receiver) O.cut start 0 ticket.now.notices ends.items) }
 {
     let notices = ticket.notices();
-    let mut courier = OutageCourier::<O>::new(outages, receiver);
+    let mut courier = OutageCourier::<O>::new(outages, receiver, cut);
     let mut ends = Vec::with_capacity(alloc, notices.len())?;
     for (place, notice) in notices.iter().enumerate() {
         ends.push(end_of(&mut courier, place, notice, start))?;
@@ -135,7 +139,7 @@ fn end_of<O: Outages>(
     start: u64,
 ) -> End
     requires { start ≤ MAX_MOMENT }
-    ensures { IsEndOf (answer_of O.outages O.receiver) start place notice.now result }
+    ensures { IsEndOf (answer_of O.cut O.outages O.receiver) O.cut start place notice.now result }
 {
     if notice.nothing() {
         return End {
@@ -144,7 +148,8 @@ fn end_of<O: Outages>(
             report: None,
         };
     }
-    let report = deliver(courier, notice, start);
+    let deadline = courier.tried_until(notice.deadline);
+    let report = deliver_by(courier, notice, deadline, start);
     End {
         at: report.ended,
         place,

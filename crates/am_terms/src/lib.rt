@@ -8,6 +8,7 @@ pub mod clock;
 pub mod dated;
 pub mod event;
 pub mod expectation;
+pub mod handover;
 pub mod law;
 pub mod rehearsal;
 pub mod watch;

@@ -5,6 +5,7 @@ ghost use Rattle.am_terms.specs.declared.rehearsal.TheConstants.{MAX_UNTIL};
 use am_alerts::alert::Alert;
 use am_alerts::text::Text;
 use am_model::config::Config;
+use am_model::views::RowView;
 use am_mute::silence::Silence;
 use am_retry::Answer;
 
@@ -37,13 +38,15 @@ pub struct TimedAction {
     pub act: Action,
 }
 
-/// An alert or a silence that a rehearsal puts into its board.
+/// An alert, a silence or a log row that a rehearsal puts into its board.
 #[derive(Debug, Drop)]
 pub enum Action {
     /// An alert is inserted, for the first time or again, as when it is resolved.
     Insert(Alert),
     /// A silence is set.
     Silence(Silence),
+    /// A row that the log of the dispatcher before it had is put into the log.
+    Load(RowView),
 }
 
 /// How an integration answers the attempts of a span.

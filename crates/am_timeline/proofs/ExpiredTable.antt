@@ -1,5 +1,6 @@
 -- A table of expired entries, with those of one more integration and of one more record.
-use Rattle.std.proofs.Common.{◌≡◌, ◌∙◌, ◌<◌, ◌≤◌, ◌+◌, ◌==◌, ◌&&◌, ℕ, Bool, true, false, cond, List, [], ◌∷◌, Option, Some, None, ap, sym, refl, eqb-true, arith, length, max, min, take, if◌then◌else◌}
+use Rattle.std.proofs.Common.{◌≡◌, ◌∙◌, ◌≤◌, ◌+◌, ◌==◌, ◌&&◌, ℕ, Bool, true, false, cond, List, ◌∷◌, Option, Some, None}
+use Rattle.std.proofs.Common.{ap, sym, refl, eqb-true, arith, length, max, min, take, if◌then◌else◌}
 use Rattle.std.specs.Prelude.{nat_lt, slice_get}
 use Rattle.std.specs.HashMap.{get}
 use Rattle.std.specs.Option.{option_and_then, option_or}
@@ -12,8 +13,9 @@ use Rattle.am_model.specs.declared.group.GroupName.{GroupName}
 use Rattle.am_model.specs.declared.record.Record.{Record}
 use Rattle.am_model.specs.look_back.Past.{Past, moment_at, past_of}
 use Rattle.am_model.specs.Records.{now_of}
+use Rattle.am_timeline.specs.declared.logbook.log.LastEntry.{LastEntry}
 use Rattle.am_timeline.specs.declared.logbook.log.Log.{Log}
-use Rattle.am_timeline.specs.Expiry.{count_integrations, expired, expired_at, expired_before, expiry_of, flush_group, last_logged}
+use Rattle.am_timeline.specs.Expiry.{count_integrations, expired, expired_at, expired_before, expiry_of, flush_group}
 use Rattle.am_timeline.specs.Log.{Follows, same_log_key}
 
 -- an entry that is there is what the table has, and one that isn't leaves what it had
@@ -67,8 +69,9 @@ table-more config history place x p i at = by (place == p) refl
         let is : place ≡ p = eqb-true place p e in
         let before : nat_lt p place ≡ false = le-ltb p place (omega arith) in
         let within : nat_lt p (place + 1) ≡ true = lt-ltb p (place + 1) (omega arith) in
-        ap (λ (b : Bool). option_or (expired_before config i (past_of (take place history)) x) (if b then expired config history p i else None)) before
-        ∙ option_or-None (expired_before config i (past_of (take place history)) x)
+        let here : Option ℕ = expired_before config i (past_of (take place history)) x in
+        ap (λ (b : Bool). option_or here (if b then expired config history p i else None)) before
+        ∙ option_or-None here
         ∙ sym (ap (λ (o : Option Record). option_and_then (expired_before config i (past_of (take place history))) o) at)
         ∙ ap (λ (n : ℕ). expired config history n i) is
         ∙ ap (λ (b : Bool). if b then expired config history p i else None) (sym within)
@@ -83,7 +86,8 @@ table-all config history n p i all = by (nat_lt p n) refl
     by true e = refl
     by false e =
         let past : length history ≤ p = omega (arith, ltb-false p n e) in
-        sym (ap (λ (o : Option Record). option_and_then (expired_before config i (past_of (take p history))) o) (slice_get_past history p past))
+        sym (ap (λ (o : Option Record). option_and_then (expired_before config i (past_of (take p history))) o)
+        (slice_get_past history p past))
 
 -- the entry of an integration that had expired when a record began a flush, by what is kept of the past
 pub expired_before-is : (config : Config) (log : Log) (past : Past) (r : Record) (name : GroupName) (t place p i : ℕ)
@@ -100,7 +104,8 @@ expired_before-is config log past r name t place p i f group clock = by (place =
         then expiry_of config name t (get same_log_key log.logged (record { group = name; integration = i })) else None)
         ≡ expired_before config i past r
     value =
-        ap (λ (o : Option ℕ). if nat_lt i (count_integrations config name) then expiry_of config name t o else None) (f.logged name i)
+        ap (λ (o : Option LastEntry). if nat_lt i (count_integrations config name) then expiry_of config name t o else None)
+        (f.logged name i)
         ∙ ap (λ (c : ℕ). expired_at config i c past name) at
         ∙ sym (ap (λ (o : Option GroupName). option_and_then (expired_at config i (moment_at (r ∷ past)) past) o) group)
 
@@ -115,5 +120,6 @@ expired_before-is config log past r name t place p i f group clock = by (place =
 pub expired_before-none : (config : Config) (past : Past) (r : Record) (place p i : ℕ) (old : Option ℕ) → flush_group r.reply ≡ None
     → old ≡ option_or (if place == p then expired_before config i past r else None) old
 expired_before-none config past r place p i old none =
+    let at : GroupName → Option ℕ = expired_at config i (moment_at (r ∷ past)) past in
     keep-is (place == p) old
-    ∙ ap (λ (o : Option GroupName). option_or (if place == p then option_and_then (expired_at config i (moment_at (r ∷ past)) past) o else None) old) (sym none)
+    ∙ ap (λ (o : Option GroupName). option_or (if place == p then option_and_then at o else None) old) (sym none)

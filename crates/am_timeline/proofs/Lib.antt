@@ -24,5 +24,7 @@ pub mod Filters
 pub mod Unfiltered
 -- what is kept of a history is what looking back finds in it
 pub mod Logged
+-- while the log has a row of a group and an integration, the last entry is that row's
+pub mod LastEntries
 -- a table of expired entries, with those of one more integration and of one more record
 pub mod ExpiredTable

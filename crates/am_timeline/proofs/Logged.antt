@@ -1,9 +1,10 @@
 -- What is kept of a history is what looking back finds in it.
-use Rattle.std.proofs.Common.{◌≡◌, ◌∙◌, ◌<◌, ◌+◌, ◌==◌, ◌&&◌, ◌||◌, ℕ, Bool, true, false, not, cond, List, [], ◌∷◌, Option, Some, None, ap, sym, refl, eqb-true, find, get_or, length, max, min, nat_eq, take, if◌then◌else◌}
+use Rattle.std.proofs.Common.{◌≡◌, ◌∙◌, ◌<◌, ◌+◌, ◌==◌, ◌&&◌, ◌||◌, ℕ, Bool, true, false, not, cond, List, [], ◌∷◌, Option, Some}
+use Rattle.std.proofs.Common.{ap, sym, refl, eqb-true, find, get_or, length, max, min, nat_eq, take, if◌then◌else◌}
 use Rattle.std.specs.HashMap.{get}
 use Rattle.std.specs.HashSet.{contains}
 use Rattle.std.specs.List.{list_any}
-use Rattle.std.specs.Option.{option_map_or}
+use Rattle.std.specs.Option.{option_map_or, option_or}
 use Rattle.std.proofs.lemmas.Bool.{and_parts}
 use Rattle.std.proofs.lemmas.List.Folds.{list_any_more}
 use Rattle.am_alerts.specs.declared.limits.TheConstants.{MAX_MOMENT}
@@ -16,8 +17,10 @@ use Rattle.am_model.specs.look_back.Entry.{asked_and_succeeded, begins_group, lo
 use Rattle.am_model.specs.look_back.Past.{Past, begin_of, is_flush, is_flush_of, is_note, moment_at, was_noted}
 use Rattle.am_model.specs.Notice.{NoticeData}
 use Rattle.am_model.specs.Records.{now_of}
+use Rattle.am_timeline.specs.declared.logbook.log.LastEntry.{LastEntry}
+use Rattle.am_timeline.specs.declared.logbook.log.LastEntry.TheVariants as entries
 use Rattle.am_timeline.specs.declared.logbook.log.Log.{Log}
-use Rattle.am_timeline.specs.Expiry.{last_logged}
+use Rattle.am_timeline.specs.LastEntry.{entry_loaded}
 use Rattle.am_timeline.specs.Log.{Follows, finish_logs, has_success, is_logged, logs_by, same_log_key, same_note_key}
 
 -- a test of one more
@@ -26,7 +29,7 @@ cond_or true b = refl
 cond_or false b = refl
 
 -- a success that is new is logged
-new_success : (named before same noted : Bool) → (same ≡ true → noted ≡ false) → (x old : Option ℕ)
+new_success : (named before same noted : Bool) → (same ≡ true → noted ≡ false) → (x old : Option LastEntry)
     → (if named && same then x else (if named && (before && not noted) then x else old))
     ≡ (if named && ((before || (same && true)) && not noted) then x else old)
 new_success false before same noted f x old = refl
@@ -53,18 +56,19 @@ not_true false e = refl
 
 -- the successes of some notices, and of one more that is a new success
 pub logged-success : (noted : ℕ → Bool) (outcomes : List (ℕ × Outcome)) (i : ℕ) (notices : List NoticeData) (j : ℕ) (n : NoticeData)
-    (named : Bool) (x old : Option ℕ)
+    (named : Bool) (x old : Option LastEntry)
     → j < length notices → n ≡ get_or notices j n → (has_success noted outcomes n && not (noted n.integration)) ≡ true
     → (if named && (n.integration == i) then x else (if named && is_logged noted outcomes i (take j notices) then x else old))
     ≡ (if named && is_logged noted outcomes i (take (j + 1) notices) then x else old)
 logged-success noted outcomes i notices j n named x old inside is new =
     let parts = and_parts (has_success noted outcomes n) (not (noted n.integration)) new in
     let p : NoticeData → Bool = λ (m : NoticeData). (m.integration == i) && has_success noted outcomes m in
+    let before : Bool = list_any p (take j notices) in
     let here : (n.integration == i) ≡ true → noted i ≡ false =
     λ (e : (n.integration == i) ≡ true). ap noted (sym (eqb-true n.integration i e)) ∙ not_true (noted n.integration) parts.1 in
-    new_success named (list_any p (take j notices)) (n.integration == i) (noted i) here x old
-    ∙ ap (λ (s : Bool). if named && ((list_any p (take j notices) || ((n.integration == i) && s)) && not (noted i)) then x else old) (sym parts.0)
-    ∙ ap (λ (m : NoticeData). if named && ((list_any p (take j notices) || p m) && not (noted i)) then x else old) is
+    new_success named before (n.integration == i) (noted i) here x old
+    ∙ ap (λ (s : Bool). if named && ((before || ((n.integration == i) && s)) && not (noted i)) then x else old) (sym parts.0)
+    ∙ ap (λ (m : NoticeData). if named && ((before || p m) && not (noted i)) then x else old) is
     ∙ ap (λ (b : Bool). if named && (b && not (noted i)) then x else old) (sym (list_any_more p notices j n inside))
 
 -- and of one that isn't
@@ -80,42 +84,57 @@ logged-none noted outcomes i notices j n inside is none =
     ∙ ap (λ (m : NoticeData). (list_any p (take j notices) || p m) && not (noted i)) is
     ∙ ap (λ (b : Bool). b && not (noted i)) (sym (list_any_more p notices j n inside))
 
+-- the flush of a number in a past
+abbrev flush_in : Past → ℕ → Option Record
+flush_in past number = find (λ (r : Record). is_flush number r.reply) past
+
+-- what a finish logs, by the record of its flush, if that is there
+abbrev finish_by : Past → ℕ → List (ℕ × Outcome) → GroupName → ℕ → Option Record → Bool
+finish_by last number outcomes name integration flush =
+    option_map_or (finish_logs (λ (i : ℕ). was_noted number i last) outcomes name integration) flush false
+
+-- and by the past that begins with its begin
+abbrev finish_in : Past → ℕ → List (ℕ × Outcome) → GroupName → ℕ → Past → Bool
+finish_in last number outcomes name integration begin =
+    begins_group name begin
+    && (asked_and_succeeded number outcomes last integration begin && not (was_noted number integration last))
+
 -- a finish logs by the record of its flush what it logs by looking back
 finish_logs-is : (last : Past) (number : ℕ) (outcomes : List (ℕ × Outcome)) (name : GroupName) (integration : ℕ) (past : Past)
-    → option_map_or (finish_logs (λ (i : ℕ). was_noted number i last) outcomes name integration) (find (λ (r : Record). is_flush number r.reply) past) false
-    ≡ (begins_group name (begin_of number past)
-    && (asked_and_succeeded number outcomes last integration (begin_of number past) && not (was_noted number integration last)))
+    → finish_by last number outcomes name integration (flush_in past number)
+    ≡ finish_in last number outcomes name integration (begin_of number past)
 finish_logs-is last number outcomes name integration [] = refl
-finish_logs-is last number outcomes name integration (r ∷ past) = by (is_flush number r.reply) (finish_logs-is last number outcomes name integration past)
+finish_logs-is last number outcomes name integration (r ∷ past) =
+    by (is_flush number r.reply) (finish_logs-is last number outcomes name integration past)
   where
     by : (here : Bool)
-        → option_map_or (finish_logs (λ (i : ℕ). was_noted number i last) outcomes name integration) (find (λ (x : Record). is_flush number x.reply) past) false
-        ≡ (begins_group name (begin_of number past)
-        && (asked_and_succeeded number outcomes last integration (begin_of number past) && not (was_noted number integration last)))
-        → option_map_or (finish_logs (λ (i : ℕ). was_noted number i last) outcomes name integration)
-        (cond here (Some r) (find (λ (x : Record). is_flush number x.reply) past)) false
-        ≡ (begins_group name (if here then r ∷ past else begin_of number past)
-        && (asked_and_succeeded number outcomes last integration (if here then r ∷ past else begin_of number past) && not (was_noted number integration last)))
+        → finish_by last number outcomes name integration (flush_in past number)
+        ≡ finish_in last number outcomes name integration (begin_of number past)
+        → finish_by last number outcomes name integration (cond here (Some r) (flush_in past number))
+        ≡ finish_in last number outcomes name integration (if here then r ∷ past else begin_of number past)
     by true rest = refl
     by false rest = rest
 
+-- whether a flush is of a group, if it is there
+abbrev is_of_group : GroupName → Option Record → Bool
+is_of_group name flush = option_map_or (λ (r : Record). is_flush_of name r.reply) flush false
+
 -- and so does a note
 note_logs-is : (number : ℕ) (name : GroupName) (past : Past)
-    → option_map_or (λ (r : Record). is_flush_of name r.reply) (find (λ (r : Record). is_flush number r.reply) past) false ≡ begins_group name (begin_of number past)
+    → is_of_group name (flush_in past number) ≡ begins_group name (begin_of number past)
 note_logs-is number name [] = refl
 note_logs-is number name (r ∷ past) = by (is_flush number r.reply) (note_logs-is number name past)
   where
     by : (here : Bool)
-        → option_map_or (λ (x : Record). is_flush_of name x.reply) (find (λ (x : Record). is_flush number x.reply) past) false ≡ begins_group name (begin_of number past)
-        → option_map_or (λ (x : Record). is_flush_of name x.reply) (cond here (Some r) (find (λ (x : Record). is_flush number x.reply) past)) false
+        → is_of_group name (flush_in past number) ≡ begins_group name (begin_of number past)
+        → is_of_group name (cond here (Some r) (flush_in past number))
         ≡ begins_group name (if here then r ∷ past else begin_of number past)
     by true rest = refl
     by false rest = rest
 
 -- a call logs by what is kept of a past what it logs by looking back
 logs_by-is : (name : GroupName) (integration : ℕ) (past : Past) (call : Call)
-    → logs_by (λ (k : ℕ). find (λ (r : Record). is_flush k r.reply) past) (λ (k i : ℕ). was_noted k i past) name integration call
-    ≡ logs name integration past call
+    → logs_by (flush_in past) (λ (k i : ℕ). was_noted k i past) name integration call ≡ logs name integration past call
 logs_by-is name integration past (Insert now alert) = refl
 logs_by-is name integration past (Silence now id matchers start end) = refl
 logs_by-is name integration past (Begin now) = refl
@@ -123,32 +142,49 @@ logs_by-is name integration past (Finish now number outcomes) = finish_logs-is p
 logs_by-is name integration past (Maintain now) = refl
 logs_by-is name integration past (Forget now) = refl
 logs_by-is name integration past (Load now row) = refl
-logs_by-is name integration past (Note now number i outcome) = ap (λ (b : Bool). b && (i == integration)) (note_logs-is number name past)
+logs_by-is name integration past (Note now number i outcome) =
+    ap (λ (b : Bool). b && (i == integration)) (note_logs-is number name past)
+
+-- the entry that a table has
+abbrev in_table : Log → GroupName → ℕ → Option LastEntry
+in_table log name integration = get same_log_key log.logged (record { group = name; integration = integration })
+
+-- whether a log's table of notes has an integration of a flush
+abbrev is_noted : Log → ℕ → ℕ → Bool
+is_noted log number integration = contains same_note_key log.noted (record { number = number; integration = integration })
+
+-- the entry after a record, where it logs a success at this moment or doesn't, and this was the entry before
+abbrev entry_after : GroupName → ℕ → Record → ℕ → Option LastEntry → Bool → Option LastEntry
+entry_after name integration r moment old success =
+    if success then Some (entries.Logged moment) else option_or (entry_loaded name integration r) old
 
 -- what is kept of a past, and of one more record
 pub follows-more : (log new : Log) (r : Record) (past : Past)
     → ((number : ℕ) → get nat_eq new.begun number ≡ (if is_flush number r.reply then Some r else get nat_eq log.begun number))
-    → ((number integration : ℕ) → contains same_note_key new.noted (record { number = number; integration = integration })
-    ≡ (is_note number integration r.call || contains same_note_key log.noted (record { number = number; integration = integration })))
-    → ((name : GroupName) (integration : ℕ) → get same_log_key new.logged (record { group = name; integration = integration })
-    ≡ (if logs_by (λ (k : ℕ). get nat_eq log.begun k) (λ (k i : ℕ). contains same_note_key log.noted (record { number = k; integration = i })) name integration r.call
-    then Some new.clock else get same_log_key log.logged (record { group = name; integration = integration })))
+    → ((number integration : ℕ) → is_noted new number integration ≡ (is_note number integration r.call || is_noted log number integration))
+    → ((name : GroupName) (integration : ℕ) → in_table new name integration
+    ≡ entry_after name integration r new.clock (in_table log name integration)
+    (logs_by (λ (k : ℕ). get nat_eq log.begun k) (is_noted log) name integration r.call))
     → new.clock ≡ max log.clock (min (now_of r.call) MAX_MOMENT)
     → Follows log past → Follows new (r ∷ past)
 follows-more log new r past begun noted logged clock f =
     let at : new.clock ≡ moment_at (r ∷ past) = clock ∙ ap (λ (t : ℕ). max t (min (now_of r.call) MAX_MOMENT)) f.clock in
-    let flushes : (λ (k : ℕ). get nat_eq log.begun k) ≡ (λ (k : ℕ). find (λ (x : Record). is_flush k x.reply) past) = λ j k. f.begun k j in
-    let notes : (λ (k i : ℕ). contains same_note_key log.noted (record { number = k; integration = i })) ≡ (λ (k i : ℕ). was_noted k i past) =
-    λ j k i. f.noted k i j in
+    let flushes : (λ (k : ℕ). get nat_eq log.begun k) ≡ flush_in past = λ j k. f.begun k j in
+    let notes : is_noted log ≡ (λ (k i : ℕ). was_noted k i past) = λ j k i. f.noted k i j in
     record {
       begun = λ number. begun number ∙ ap (λ (o : Option Record). if is_flush number r.reply then Some r else o) (f.begun number);
-      noted = λ number integration. noted number integration ∙ ap (λ (b : Bool). is_note number integration r.call || b) (f.noted number integration);
+      noted = λ number integration.
+          noted number integration ∙ ap (λ (b : Bool). is_note number integration r.call || b) (f.noted number integration);
       logged = λ name integration.
+          let old : Option LastEntry = in_table log name integration in
           logged name integration
-          ∙ ap (λ (b : ℕ → Option Record). if logs_by b (λ (k i : ℕ). contains same_note_key log.noted (record { number = k; integration = i })) name integration r.call then Some new.clock else get same_log_key log.logged (record { group = name; integration = integration })) flushes
-          ∙ ap (λ (n : ℕ → ℕ → Bool). if logs_by (λ (k : ℕ). find (λ (x : Record). is_flush k x.reply) past) n name integration r.call then Some new.clock else get same_log_key log.logged (record { group = name; integration = integration })) notes
-          ∙ ap (λ (b : Bool). if b then Some new.clock else get same_log_key log.logged (record { group = name; integration = integration })) (logs_by-is name integration past r.call)
-          ∙ ap (λ (t : ℕ). if logs name integration past r.call then Some t else get same_log_key log.logged (record { group = name; integration = integration })) at
-          ∙ ap (λ (o : Option ℕ). if logs name integration past r.call then Some (moment_at (r ∷ past)) else o) (f.logged name integration);
+          ∙ ap (λ (b : ℕ → Option Record). entry_after name integration r new.clock old (logs_by b (is_noted log) name integration r.call))
+          flushes
+          ∙ ap (λ (n : ℕ → ℕ → Bool). entry_after name integration r new.clock old (logs_by (flush_in past) n name integration r.call))
+          notes
+          ∙ ap (λ (b : Bool). entry_after name integration r new.clock old b) (logs_by-is name integration past r.call)
+          ∙ ap (λ (t : ℕ). entry_after name integration r t old (logs name integration past r.call)) at
+          ∙ ap (λ (o : Option LastEntry). entry_after name integration r (moment_at (r ∷ past)) o (logs name integration past r.call))
+          (f.logged name integration);
       clock = at;
     }

@@ -1,5 +1,5 @@
 -- Expiry: when the entry of the notification log expired for whose lack a notice is a first one. It is computed by looking back.
-use Rattle.std.specs.Prelude.{ℕ, nat_le, nat_lt, List, [], ◌∷◌, length, take, Option, Some, None, slice_get, if◌then◌else◌}
+use Rattle.std.specs.Prelude.{ℕ, nat_le, nat_lt, List, ◌∷◌, length, take, Option, Some, None, slice_get, if◌then◌else◌}
 use Rattle.std.specs.Option.{option_and_then}
 use Rattle.am_model.specs.declared.config.Config.{Config}
 use Rattle.am_model.specs.declared.group.GroupName.{GroupName}
@@ -7,23 +7,18 @@ use Rattle.am_model.specs.declared.record.Record.{Record}
 use Rattle.am_model.specs.declared.record.Reply.{Reply}
 use Rattle.am_model.specs.declared.record.Reply.TheVariants.{Inserted, Silenced, NothingDue, Quiet, Flush}
 use Rattle.am_model.specs.declared.record.Reply.TheVariants.{Finished, Maintained, Forgotten, Loaded, Noted}
-use Rattle.am_model.specs.Configured.{expiry_at, route_of, integrations_named}
-use Rattle.am_model.specs.look_back.Entry.{logs}
+use Rattle.am_model.specs.Configured.{route_of, integrations_named}
 use Rattle.am_model.specs.look_back.Past.{Past, moment_at, past_of}
-
--- when a success of an integration was logged last for a group; rows that were loaded don't count, since a rehearsal loads none
-abbrev pub last_logged : GroupName → ℕ → Past → Option ℕ
-last_logged name integration [] = None
-last_logged name integration (r ∷ past) =
-    if logs name integration past r.call then Some (moment_at (r ∷ past)) else last_logged name integration past
+use Rattle.am_timeline.specs.declared.logbook.log.LastEntry.{LastEntry}
+use Rattle.am_timeline.specs.LastEntry.{expiry_in, last_entry}
 
 -- an expiry, if it is reached at t
 abbrev pub if_reached : ℕ → ℕ → Option ℕ
 if_reached t expiry = if nat_le expiry t then Some expiry else None
 
--- when the entry expired that was logged at a moment, if it was and had expired by t
-abbrev pub expiry_of : Config → GroupName → ℕ → Option ℕ → Option ℕ
-expiry_of config name t logged = option_and_then (λ at. if_reached t (expiry_at config name at)) logged
+-- when an entry of a group expired, if there is one and it had expired by t
+abbrev pub expiry_of : Config → GroupName → ℕ → Option LastEntry → Option ℕ
+expiry_of config name t entry = option_and_then (λ e. if_reached t (expiry_in config name e)) entry
 
 -- the group of the flush that a reply begins
 abbrev pub flush_group : Reply → Option GroupName
@@ -42,10 +37,10 @@ flush_group Noted = None
 abbrev pub count_integrations : Config → GroupName → ℕ
 count_integrations config name = length (integrations_named (route_of config name).receiver config.receivers)
 
--- when the entry of the success logged last for a group and an integration of its receiver expired, if it had expired by t
+-- when the last entry of a group and an integration of its receiver expired, if it had expired by t
 abbrev pub expired_at : Config → ℕ → ℕ → Past → GroupName → Option ℕ
 expired_at config integration t past name =
-    if nat_lt integration (count_integrations config name) then expiry_of config name t (last_logged name integration past) else None
+    if nat_lt integration (count_integrations config name) then expiry_of config name t (last_entry name integration past) else None
 
 -- the same by the record that begins a flush of the group, after a past
 abbrev pub expired_before : Config → ℕ → Past → Record → Option ℕ

@@ -1,4 +1,4 @@
--- Log: what is kept of a history while its expired entries are found: the flushes, their notes, and when successes were logged.
+-- Log: what is kept of a history while its expired entries are found: the flushes, their notes, and the last entries.
 use Rattle.std.specs.Prelude.{◌≡◌, ℕ, Bool, false, not, ◌&&◌, ◌||◌, ◌==◌, nat_eq, List, find, Option}
 use Rattle.std.specs.HashMap.{get}
 use Rattle.std.specs.HashSet.{contains}
@@ -17,7 +17,7 @@ use Rattle.am_model.specs.Ticket.{outcome_of}
 use Rattle.am_timeline.specs.declared.logbook.log.Log.{Log}
 use Rattle.am_timeline.specs.declared.logbook.log.LogKey.{LogKey}
 use Rattle.am_timeline.specs.declared.logbook.log.NoteKey.{NoteKey}
-use Rattle.am_timeline.specs.Expiry.{last_logged}
+use Rattle.am_timeline.specs.LastEntry.{last_entry}
 
 -- whether two keys are of one group and integration
 abbrev pub same_log_key : LogKey → LogKey → Bool
@@ -41,8 +41,7 @@ abbrev pub finish_logs : (ℕ → Bool) → List (ℕ × Outcome) → GroupName 
 finish_logs noted outcomes name integration r =
     is_flush_of name r.reply && is_logged noted outcomes integration (notices_in r.reply)
 
--- whether a call logs a success of an integration for a group, by the record of each flush, and by what was noted for it; a load logs
--- none, whatever becomes of its row
+-- whether a call logs a success of an integration for a group, by the record of each flush, and by what was noted for it
 abbrev pub logs_by : (ℕ → Option Record) → (ℕ → ℕ → Bool) → GroupName → ℕ → Call → Bool
 logs_by flush noted name integration (Insert now alert) = false
 logs_by flush noted name integration (Silence now id matchers start end) = false
@@ -61,5 +60,5 @@ pub record Follows (log : Log) (past : Past) : Type 0 where
   pub noted : (number integration : ℕ)
       → contains same_note_key log.noted (record { number = number; integration = integration }) ≡ was_noted number integration past
   pub logged : (name : GroupName) (integration : ℕ)
-      → get same_log_key log.logged (record { group = name; integration = integration }) ≡ last_logged name integration past
+      → get same_log_key log.logged (record { group = name; integration = integration }) ≡ last_entry name integration past
   pub clock : log.clock ≡ moment_at past

@@ -1,5 +1,6 @@
-//! Worked rows, and the law of escaped texts. Verifiers read them.
+//! Worked rows, and the laws of escaped texts and of last entries. Verifiers read them.
 ghost use Rattle.am_timeline.specs.Escaped.{CutIsContent, EscapedIsContent};
+ghost use Rattle.am_timeline.specs.LastEntry.{LastEntriesAreRows};
 ghost use Rattle.am_timeline.specs.Rows.{TextsAreShown};
 
 /// States that texts are shown as they were computed by hand. Does nothing.
@@ -11,4 +12,9 @@ pub fn texts_are_shown()
 pub fn escaped_text_is_content()
     ensures whole { EscapedIsContent }
     ensures cut { CutIsContent }
+{}
+
+/// States that the last entry of a group and an integration expires when their row of the log does, while there is one. Does nothing.
+pub fn last_entries_are_rows()
+    ensures { LastEntriesAreRows }
 {}

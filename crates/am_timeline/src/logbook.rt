@@ -51,7 +51,7 @@ impl<'s> Model for Logbook<'s> {
 
 impl<'s> Logbook<'s> {
     /// Returns the logbook of this configuration, this history and the previews of its begins. Its expired entries are those of logged
-    /// successes: rows that a history loads don't count, since a rehearsal loads none. Cost: the history.
+    /// successes and of loaded rows. Cost: the history.
     pub fn new(
         alloc: Global,
         config: &'s Config,

@@ -2,12 +2,13 @@
 ghost use Rattle.std.specs.Prelude.{◌≡◌, ◌+◌, drop, option_copied};
 ghost use Rattle.am_timeline.specs.Expiry.{expired};
 ghost use Rattle.am_timeline.specs.Playback.{notice_for, notices_at};
+ghost use Rattle.am_model.specs.look_back.Entry.{tells_put};
 ghost use Rattle.am_model.specs.look_back.Past.{notices_in};
 
 use crate::logbook::Logbook;
 use am_model::config::Config;
 use am_model::notice::Notice;
-use am_model::record::{Record, Reply};
+use am_model::record::{Loaded, Record, Reply};
 use am_terms::event::{Event, PreviewedBegin};
 use std::marker::Model;
 
@@ -129,6 +130,16 @@ pub fn notices_in(reply: &Reply) -> &[Notice]
     match reply {
         Reply::Flush { notices, .. } => notices.as_slice(),
         _ => &[],
+    }
+}
+
+/// Returns whether a reply is that the row that was handed in was put into the log.
+pub fn is_put(reply: &Reply) -> bool
+    ensures { result ≡ tells_put reply.now }
+{
+    match reply {
+        Reply::Loaded(Loaded::Put) => true,
+        _ => false,
     }
 }
 

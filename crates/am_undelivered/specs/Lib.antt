@@ -1,2 +1,2 @@
--- the alerts that no delivered notice has, for how long they fired, and why
+-- the alerts that nobody was notified of, for how long they fired, and why
 pub mod Undelivered

@@ -1,7 +1,7 @@
--- Undelivered: the alerts that no delivered notice has, for how long they fired, and why.
-use Rattle.std.specs.Prelude.{ℕ, ◌-◌, Bool, false, ◌==◌, List, [], ◌∷◌, ◌++◌, length, codes, find, min, reverse, sum_by, Option, Some, None}
-use Rattle.std.specs.Prelude.{nat_le, slice_get, unwrap_or, if◌then◌else◌}
-use Rattle.std.specs.List.{flat_map, list_all}
+-- Undelivered: the alerts that nobody was notified of, for how long they fired, and why.
+use Rattle.std.specs.Prelude.{ℕ, ◌-◌, Bool, false, ◌==◌, List, [], ◌∷◌, ◌++◌, length, codes, find, map, min, reverse, sum_by}
+use Rattle.std.specs.Prelude.{Option, Some, None, nat_le, slice_get, unwrap_or, if◌then◌else◌}
+use Rattle.std.specs.List.{flat_map, list_all, list_any}
 use Rattle.std.specs.Option.{option_and_then, option_map, option_map_or, option_or}
 use Rattle.am_alerts.specs.AlertData.{AlertData}
 use Rattle.am_alerts.specs.Labels.{same_label_set}
@@ -17,10 +17,11 @@ use Rattle.am_model.specs.declared.reason.Reason.{Reason}
 use Rattle.am_model.specs.declared.reason.Reason.TheVariants.{FirstNotice, NewAlert, AllResolved, NewlyResolved, Repeat, NothingLeft}
 use Rattle.am_model.specs.declared.reason.Reason.TheVariants.{NothingFiring, NotYet, RouteMuted}
 use Rattle.am_model.specs.declared.record.Record.{Record}
+use Rattle.am_model.specs.declared.views.RowView.{RowView}
 use Rattle.am_model.specs.Configured.{integrations_named}
 use Rattle.am_model.specs.Insert.{name_in}
 use Rattle.am_model.specs.Lists.{without}
-use Rattle.am_model.specs.look_back.Entry.{known_in}
+use Rattle.am_model.specs.look_back.Entry.{known_in, row_in, tells_put}
 use Rattle.am_model.specs.look_back.Past.{notices_in, past_of}
 use Rattle.am_model.specs.Notice.{NoticeData}
 use Rattle.am_model.specs.State.{same_name}
@@ -33,40 +34,56 @@ use Rattle.am_timeline.specs.Playback.{has_set}
 use Rattle.am_timeline.specs.Playback.{PlaybackData, is_delivered}
 use Rattle.am_timeline.specs.Filtered.{inserted_in}
 use Rattle.am_timeline.specs.Shown.{set_shown}
-use Rattle.am_timeline.specs.Timeline.{cause_text}
+use Rattle.am_timeline.specs.Timeline.{cause_text, labels_of}
 use Rattle.am_terms.specs.TimeFormatData.{TimeFormatData, counted_text}
 
--- the alerts that a notice has, those that fire and those that are resolved
-abbrev pub alerts_in : NoticeData → List AlertData
-alerts_in n = n.firing ++ n.resolved
+-- the label sets of the alerts that a notice has, those that fire and those that are resolved
+abbrev pub sets_in : NoticeData → List (List Label)
+sets_in n = map labels_of n.firing ++ map labels_of n.resolved
 
 -- whether a notice was delivered, as the finish of its flush in the later records says
 abbrev pub is_delivered_in : List Record → NoticeData → Bool
 is_delivered_in later n = option_map_or is_delivered (outcome_of (outcomes_in n.ticket later) n.integration) false
 
--- the alerts that a notice has, if it was delivered
-abbrev pub alerts_delivered : List Record → NoticeData → List AlertData
-alerts_delivered later n = if is_delivered_in later n then alerts_in n else []
+-- the label sets that a notice has, if it was delivered
+abbrev pub sets_delivered : List Record → NoticeData → List (List Label)
+sets_delivered later n = if is_delivered_in later n then sets_in n else []
 
--- the alerts in the notices of a history
-abbrev pub sent_in : List Record → List AlertData
+-- the label sets that a log row has: those that the notice had for which it was logged
+abbrev pub row_sets : RowView → List (List Label)
+row_sets row = row.firing ++ row.resolved
+
+-- the label sets of the row that a record put into the log, if it did: the dispatcher before notified of them
+abbrev pub sets_loaded : Record → List (List Label)
+sets_loaded r = if tells_put r.reply then option_map_or row_sets (row_in r.call) [] else []
+
+-- the label sets in the notices of a history
+abbrev pub sent_in : List Record → List (List Label)
 sent_in [] = []
-sent_in (r ∷ later) = flat_map alerts_in (notices_in r.reply) ++ sent_in later
+sent_in (r ∷ later) = flat_map sets_in (notices_in r.reply) ++ sent_in later
 
--- the alerts in the delivered notices of a history
-abbrev pub delivered_in : List Record → List AlertData
-delivered_in [] = []
-delivered_in (r ∷ later) = flat_map (alerts_delivered later) (notices_in r.reply) ++ delivered_in later
+-- the label sets that a receiver was notified of, as a record says: those of the delivered notices of its flush, and those of its row
+abbrev pub sets_told : List Record → Record → List (List Label)
+sets_told later r = flat_map (sets_delivered later) (notices_in r.reply) ++ sets_loaded r
+
+-- told: the label sets that a receiver was notified of, by a delivered notice of the history or by the dispatcher before
+abbrev pub told_in : List Record → List (List Label)
+told_in [] = []
+told_in (r ∷ later) = sets_told later r ++ told_in later
+
+-- whether a label set is among these
+abbrev pub is_among : List Label → List (List Label) → Bool
+is_among labels sets = list_any (λ s. same_label_set s labels) sets
 
 -- alerts, with this one at the end unless one of them has its label set
 abbrev pub with_first : List AlertData → Option AlertData → List AlertData
 with_first alerts None = alerts
 with_first alerts (Some a) = if has_set alerts a.labels then alerts else alerts ++ a ∷ []
 
--- undelivered: of the alerts that were inserted, forgotten ones too, those that no delivered notice has, the one that was inserted last
--- at the end
+-- undelivered: of the alerts that were inserted, forgotten ones too, those that no delivered notice and no row that was put into the log
+-- has, the one that was inserted last at the end
 abbrev pub undelivered_in : List Record → List AlertData
-undelivered_in history = without (λ a. has_set (delivered_in history) a.labels) (reverse (known_in (past_of history)))
+undelivered_in history = without (λ a. is_among a.labels (told_in history)) (reverse (known_in (past_of history)))
 
 -- for how long an insert says that an alert of a label set fired: nothing where it has no end
 abbrev pub span_of : List Label → AlertData → ℕ
@@ -151,9 +168,9 @@ has_none_at config position = length (integrations_named (route_at config.routes
 abbrev pub has_no_integrations : Config → List Label → Bool
 has_no_integrations config labels = list_all (has_none_at config) (routes_of config.routes labels)
 
--- what looking back finds: the alerts in notices, the begins, and the alerts of all inserts
+-- what looking back finds: the label sets in notices, the begins, and the alerts of all inserts
 pub record FindingsData : Type 0 where
-  pub sent : List AlertData
+  pub sent : List (List Label)
   pub begins : List PreviewedBegin
   pub inserted : List AlertData
 
@@ -219,23 +236,23 @@ abbrev pub unsent_by_route_text : TimeFormatData → Option ℕ → Option Mute 
 unsent_by_route_text times None mute a = unsent_text times mute a.starts a.ends
 unsent_by_route_text times (Some until) mute a = route_muted_text times until mute
 
--- why no delivered notice has an alert: its receivers have no integrations, each notice that has it failed, its route or itself was
+-- why nobody was notified of an alert: its receivers have no integrations, each notice that has it failed, its route or itself was
 -- muted, or no flush came while it fired
 abbrev pub undelivered_cause : Config → TimeFormatData → FindingsData → AlertData → List ℕ
 undelivered_cause config times found a =
     if has_no_integrations config a.labels then codes "no integrations"
-    else (if has_set found.sent a.labels then failed_each_text a.ends
+    else (if is_among a.labels found.sent then failed_each_text a.ends
     else unsent_by_route_text times (alert_route_mute config found.begins a) (last_mute a.labels found.begins) a)
 
 -- for how long an alert fired, as looking back finds it
 abbrev pub alert_fired_text : TimeFormatData → FindingsData → AlertData → List ℕ
 alert_fired_text times found a = fired_text times (fired_for a.labels found.inserted) a.starts a.ends
 
--- that no delivered notice has an alert, and for how long it fired
+-- that nobody was notified of an alert, and for how long it fired
 unfoldable pub undelivered_front : TimeFormatData → FindingsData → AlertData → List ℕ
 undelivered_front times found a = codes "undelivered " ++ set_shown a.labels ++ codes ": " ++ alert_fired_text times found a
 
--- an alert that no delivered notice has, and why
+-- an alert that nobody was notified of, and why
 unfoldable pub undelivered_line : Config → TimeFormatData → FindingsData → AlertData → List ℕ
 undelivered_line config times found a =
     undelivered_front times found a ++ codes "; " ++ undelivered_cause config times found a ++ codes "\n"
@@ -245,7 +262,7 @@ abbrev pub behind_empty_line : List ℕ → List ℕ
 behind_empty_line [] = []
 behind_empty_line (c ∷ lines) = codes "\n" ++ c ∷ lines
 
--- the alerts that no delivered notice has, a line for each, behind an empty line
+-- the alerts that nobody was notified of, a line for each, behind an empty line
 abbrev pub undelivered_text : PlaybackData → TimeFormatData → List ℕ
 undelivered_text playback times =
     behind_empty_line

@@ -1,13 +1,12 @@
 //! `Findings`: what looking back on a rehearsal finds of its alerts. `report` calls it.
 ghost use Rattle.std.specs.Prelude.{◌≡◌, ◌≤◌, IfOk, option_copied};
-ghost use Rattle.am_timeline.specs.Playback.{has_set};
-ghost use Rattle.am_undelivered.specs.Undelivered.{alert_route_mute, findings_of, fired_for, last_mute};
+ghost use Rattle.am_undelivered.specs.Undelivered.{alert_route_mute, findings_of, fired_for, is_among, last_mute};
 
-use crate::alert_set::AlertSet;
-use crate::delivered::sent_alerts;
 use crate::durations::Durations;
+use crate::label_sets::LabelSets;
 use crate::muted_alerts::{Mute, MutedAlerts};
 use crate::route_mutes::RouteMutes;
+use crate::told::sent_sets;
 use am_alerts::alert::Alert;
 use am_alerts::labels::Labels;
 use am_model::config::Config;
@@ -15,10 +14,10 @@ use am_timeline::playback::Playback;
 use std::alloc::{AllocError, Global};
 use std::marker::Model;
 
-/// What looking back finds: the alerts in notices, why alerts and routes were muted, and for how long alerts fired.
+/// What looking back finds: the label sets in notices, why alerts and routes were muted, and for how long alerts fired.
 #[derive(Drop)]
 pub(crate) struct Findings {
-    sent: AlertSet,
+    sent: LabelSets,
     muted: MutedAlerts,
     begins: RouteMutes,
     inserted: Durations,
@@ -40,7 +39,7 @@ impl Findings {
     pub(crate) fn of(alloc: Global, playback: &Playback) -> Result<Findings, AllocError>
         ensures { IfOk result (λ found. found ≡ findings_of playback.now) }
     {
-        let sent = sent_alerts(alloc, playback.history())?;
+        let sent = sent_sets(alloc, playback.history())?;
         let muted = MutedAlerts::of(alloc, playback.begins())?;
         let mut begins = RouteMutes::new(alloc);
         begins.add_all(playback.begins())?;
@@ -56,7 +55,7 @@ impl Findings {
 
     /// Returns whether a notice has this label set.
     pub(crate) fn was_sent(&self, labels: &Labels) -> bool
-        ensures { result ≡ has_set self.now.sent labels.now }
+        ensures { result ≡ is_among labels.now self.now.sent }
     {
         self.sent.has(labels)
     }

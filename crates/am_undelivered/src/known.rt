@@ -1,10 +1,11 @@
 //! The alerts of a history, forgotten ones too: the last insert of each label set. `report` calls it.
-ghost use Rattle.std.specs.Prelude.{◌≡◌, IfOk, OnOk, Some, reverse};
+ghost use Rattle.std.specs.Prelude.{◌≡◌, IfOk, OnOk, Some, map, reverse};
 ghost use Rattle.am_model.specs.look_back.Entry.{alert_in, known_in};
 ghost use Rattle.am_model.specs.look_back.Past.{past_of};
+ghost use Rattle.am_timeline.specs.Timeline.{labels_of};
 ghost use Rattle.am_undelivered.specs.Undelivered.{with_first};
 
-use crate::alert_set::AlertSet;
+use crate::label_sets::LabelSets;
 use am_alerts::alert::Alert;
 use am_model::record::{Call, Record};
 use std::alloc::{AllocError, Global};
@@ -22,7 +23,7 @@ pub(crate) fn known_alerts(alloc: Global, history: &[Record]) -> Result<Vec<Aler
 fn latest_alerts(alloc: Global, history: &[Record]) -> Result<Vec<Alert>, AllocError>
     ensures { IfOk result (λ alerts. alerts.items ≡ known_in (past_of history.now)) }
 {
-    let mut seen = AlertSet::new(alloc);
+    let mut seen = LabelSets::new(alloc);
     let mut alerts = Vec::new(alloc);
     for place in (0..history.len()).rev() {
         add_first(alloc, &history[place].call, &mut seen, &mut alerts)?;
@@ -34,11 +35,11 @@ fn latest_alerts(alloc: Global, history: &[Record]) -> Result<Vec<Alert>, AllocE
 fn add_first(
     alloc: Global,
     call: &Call,
-    seen: &mut AlertSet,
+    seen: &mut LabelSets,
     alerts: &mut Vec<Alert>,
 ) -> Result<(), AllocError>
-    requires { seen.old ≡ alerts.old.items }
-    ensures same { OnOk result (seen.new ≡ alerts.new.items) }
+    requires { seen.old ≡ map labels_of alerts.old.items }
+    ensures same { OnOk result (seen.new ≡ map labels_of alerts.new.items) }
     ensures first { OnOk result (alerts.new.items ≡ with_first alerts.old.items (alert_in call.now)) }
 {
     match call {
@@ -50,17 +51,17 @@ fn add_first(
 fn add_unless_seen(
     alloc: Global,
     alert: &Alert,
-    seen: &mut AlertSet,
+    seen: &mut LabelSets,
     alerts: &mut Vec<Alert>,
 ) -> Result<(), AllocError>
-    requires { seen.old ≡ alerts.old.items }
-    ensures same { OnOk result (seen.new ≡ alerts.new.items) }
+    requires { seen.old ≡ map labels_of alerts.old.items }
+    ensures same { OnOk result (seen.new ≡ map labels_of alerts.new.items) }
     ensures first { OnOk result (alerts.new.items ≡ with_first alerts.old.items (Some alert.now)) }
 {
     if seen.has(alert.labels()) {
         return Ok(());
     }
-    seen.add(alert)?;
+    seen.add(alert.labels())?;
     alerts.push(alert.copy(alloc)?)?;
     Ok(())
 }

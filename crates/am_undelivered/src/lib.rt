@@ -1,12 +1,11 @@
-//! The alerts of a rehearsal that no delivered notice has: for how long they fired, and why nobody was
-//! told of them. `am_rehearse` prints them.
+//! The alerts of a rehearsal that nobody was notified of: for how long they fired, and why. `am_rehearse` prints them.
 #![tactic(auto)]
 
-mod alert_set;
-mod delivered;
 mod durations;
 mod findings;
 mod known;
+mod label_sets;
 mod muted_alerts;
 pub mod report;
 mod route_mutes;
+mod told;

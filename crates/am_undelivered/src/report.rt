@@ -1,4 +1,4 @@
-//! The alerts that no delivered notice has. `am_rehearse` prints them below the table.
+//! The alerts that nobody was notified of. `am_rehearse` prints them below the table.
 //!
 //! Each has for how long it fired, and why nobody was notified. All follows from the history and
 //! from what the begins were to do. Cost: the history and the previews, and for each notice the
@@ -6,18 +6,17 @@
 ghost use Rattle.std.specs.Prelude.{◌≡◌, ◌++◌, IfOk, None, OnOk, Some, option_copied, string_bytes};
 ghost use Rattle.std.specs.List.{flat_map, list_all};
 ghost use Rattle.am_model.specs.Lists.{without};
-ghost use Rattle.am_timeline.specs.Playback.{has_set};
 ghost use Rattle.am_undelivered.specs.Undelivered.{alert_fired_text, before_text, behind_empty_line, failed_each_text, fired_text};
-ghost use Rattle.am_undelivered.specs.Undelivered.{has_no_integrations, has_none_at, muted_each_text, undelivered_cause};
+ghost use Rattle.am_undelivered.specs.Undelivered.{has_no_integrations, has_none_at, is_among, muted_each_text, undelivered_cause};
 ghost use Rattle.am_undelivered.specs.Undelivered.{undelivered_front, undelivered_in, undelivered_line, undelivered_text};
 ghost use Rattle.am_undelivered.specs.Undelivered.{muted_before_text, muted_besides_text, route_muted_text, unseen_text};
 ghost use Rattle.am_undelivered.specs.Undelivered.{unsent_by_route_text, unsent_text};
 
-use crate::alert_set::AlertSet;
-use crate::delivered::delivered_alerts;
 use crate::findings::Findings;
 use crate::known::known_alerts;
+use crate::label_sets::LabelSets;
 use crate::muted_alerts::Mute;
+use crate::told::told_sets;
 use am_alerts::alert::Alert;
 use am_alerts::labels::Labels;
 use am_model::config::Config;
@@ -30,36 +29,33 @@ use am_timeline::playback::Playback;
 use am_timeline::shown::push_set;
 use std::alloc::{AllocError, Global};
 
-/// Returns the alerts that no delivered notice has, forgotten ones too, as they were inserted last, the latest at the end.
+/// Returns the alerts that nobody was notified of, forgotten ones too, as they were inserted last, the latest at the end.
 ///
 /// A notice counts if the finish of its flush says that it was delivered. It has the alerts that it
-/// lists as firing and those that it lists as resolved.
+/// lists as firing and those that it lists as resolved. So does a row that was loaded and put into
+/// the log: the dispatcher before notified of its alerts.
 pub fn undelivered_alerts(alloc: Global, history: &[Record]) -> Result<Vec<Alert>, AllocError>
     ensures { IfOk result (λ alerts. alerts.items ≡ undelivered_in history.now) }
 {
-    let delivered = delivered_alerts(alloc, history)?;
+    let told = told_sets(alloc, history)?;
     let known = known_alerts(alloc, history)?;
-    without_delivered(alloc, &delivered, known.as_slice())
+    without_told(alloc, &told, known.as_slice())
 }
 
-/// The alerts whose label sets no delivered alert has.
-fn without_delivered(
-    alloc: Global,
-    delivered: &AlertSet,
-    known: &[Alert],
-) -> Result<Vec<Alert>, AllocError>
-    ensures { IfOk result (λ alerts. alerts.items ≡ without (λ a. has_set delivered.now a.labels) known.now) }
+/// The alerts whose label sets aren't among these.
+fn without_told(alloc: Global, told: &LabelSets, known: &[Alert]) -> Result<Vec<Alert>, AllocError>
+    ensures { IfOk result (λ alerts. alerts.items ≡ without (λ a. is_among a.labels told.now) known.now) }
 {
     let mut alerts = Vec::new(alloc);
     for alert in known {
-        if !delivered.has(alert.labels()) {
+        if !told.has(alert.labels()) {
             alerts.push(alert.copy(alloc)?)?;
         }
     }
     Ok(alerts)
 }
 
-/// Returns an empty line and a line for each alert that no delivered notice has; nothing where there
+/// Returns an empty line and a line for each alert that nobody was notified of; nothing where there
 /// is none.
 pub fn undelivered_text<C: TimeFormat>(
     alloc: Global,
@@ -103,7 +99,7 @@ fn behind_empty_line(alloc: Global, lines: String) -> Result<String, AllocError>
     Ok(text)
 }
 
-/// Adds the line on an alert that no delivered notice has.
+/// Adds the line on an alert that nobody was notified of.
 #[tactic(auto, unfolding(crate::specs::Undelivered::undelivered_line))]
 fn push_line<C: TimeFormat>(
     alloc: Global,
@@ -122,7 +118,7 @@ fn push_line<C: TimeFormat>(
     out.push_str("\n")
 }
 
-/// Adds that no delivered notice has an alert, and for how long it fired.
+/// Adds that nobody was notified of an alert, and for how long it fired.
 #[tactic(auto, unfolding(crate::specs::Undelivered::undelivered_front))]
 fn push_front<C: TimeFormat>(
     clock: &C,
@@ -211,7 +207,7 @@ fn push_before(total: u64, out: &mut String) -> Result<(), AllocError>
     out.push_str(" before")
 }
 
-/// Adds why no delivered notice has an alert.
+/// Adds why nobody was notified of an alert.
 fn push_cause_of<C: TimeFormat>(
     alloc: Global,
     config: &Config,

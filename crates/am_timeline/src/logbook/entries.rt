@@ -7,9 +7,10 @@ ghost use Rattle.am_model.specs.Configured.{expiry_at, route_of};
 ghost use Rattle.am_model.specs.look_back.Past.{Past};
 ghost use Rattle.am_timeline.specs.Entries.{same_flush_key};
 ghost use Rattle.am_timeline.specs.Expiry.{count_integrations, expired, expired_at, expired_before, expiry_of, flush_group, if_reached};
+ghost use Rattle.am_timeline.specs.LastEntry.{expiry_in};
 ghost use Rattle.am_timeline.specs.Log.{Follows, same_log_key};
 
-use crate::logbook::log::{Log, LogKey, add_record, empty_log, next_moment};
+use crate::logbook::log::{LastEntry, Log, LogKey, add_record, empty_log, next_moment};
 use am_model::config::Config;
 use am_model::group::GroupName;
 use am_model::record::{Record, Reply};
@@ -23,8 +24,8 @@ pub struct FlushKey {
     pub integration: usize,
 }
 
-/// Returns when the entries expired whose lack flushes of a history found: those of an integration that a success was logged
-/// for, and that had expired when the flush began.
+/// Returns when the entries expired whose lack flushes of a history found: the last ones, by a logged success or a loaded row,
+/// that had expired when the flush began.
 pub fn expired_entries(
     alloc: Global,
     config: &Config,
@@ -82,7 +83,7 @@ fn add_each(
     config: &Config,
     group: &GroupName,
     t: u64,
-    logged: &HashMap<LogKey, u64>,
+    logged: &HashMap<LogKey, LastEntry>,
     place: usize,
     table: &mut HashMap<FlushKey, u64>,
 ) -> Result<(), AllocError>
@@ -116,14 +117,14 @@ fn add_entry(
     Ok(())
 }
 
-/// When the entry of a group and an integration expired, if it was logged and had expired by `t`.
+/// When the last entry of a group and an integration expired, if there is one and it had expired by `t`.
 fn expiry_of(
     alloc: Global,
     config: &Config,
     group: &GroupName,
     integration: usize,
     t: u64,
-    logged: &HashMap<LogKey, u64>,
+    logged: &HashMap<LogKey, LastEntry>,
 ) -> Result<Option<u64>, AllocError>
     ensures { IfOk result (λ expiry. expiry
         ≡ expiry_of config.now group.now t (get same_log_key logged.now (record { group = group.now; integration = integration }))) }
@@ -134,15 +135,18 @@ fn expiry_of(
     };
     match logged.get(&key) {
         None => Ok(None),
-        Some(at) => Ok(if_reached(config, group, t, *at)),
+        Some(entry) => Ok(if_reached(config, group, t, *entry)),
     }
 }
 
-/// When an entry that was logged at a time expires, if that is reached at `t`.
-fn if_reached(config: &Config, group: &GroupName, t: u64, at: u64) -> Option<u64>
-    ensures { result ≡ if_reached t (expiry_at config.now group.now at) }
+/// When an entry of a group expires, if that is reached at `t`.
+fn if_reached(config: &Config, group: &GroupName, t: u64, entry: LastEntry) -> Option<u64>
+    ensures { result ≡ if_reached t (expiry_in config.now group.now entry) }
 {
-    let expiry = at.checked_add(kept_for(config, group))?;
+    let expiry = match entry {
+        LastEntry::Logged(at) => at.checked_add(kept_for(config, group))?,
+        LastEntry::Loaded(expiry) => expiry,
+    };
     if expiry <= t { Some(expiry) } else { None }
 }
 

@@ -3,19 +3,25 @@ ghost use Rattle.std.specs.Prelude.{◌≡◌, ◌∷◌, ◌&&◌, ◌||◌, �
 ghost use Rattle.std.specs.Prelude.{max, min, nat_eq, option_copied};
 ghost use Rattle.std.specs.HashMap.{get};
 ghost use Rattle.std.specs.HashSet.{contains};
+ghost use Rattle.std.specs.Option.{option_map, option_or};
 ghost use Rattle.am_alerts.specs.declared.limits.TheConstants.{MAX_MOMENT};
 ghost use Rattle.am_model.specs.Finish.{is_delivered};
 ghost use Rattle.am_model.specs.State.{same_name};
 ghost use Rattle.am_model.specs.Records.{now_of};
+ghost use Rattle.am_model.specs.look_back.Entry.{row_put};
 ghost use Rattle.am_model.specs.look_back.Past.{Past, is_flush, is_flush_of, is_note, notices_in};
 ghost use Rattle.am_model.specs.declared.group.GroupName as named;
+ghost use Rattle.am_timeline.specs.declared.logbook.log.LastEntry.TheVariants as entries;
+ghost use Rattle.am_timeline.specs.LastEntry.{entry_loaded, entry_of_row};
 ghost use Rattle.am_timeline.specs.Log.{Follows, finish_logs, has_success, is_logged, logs_by, same_log_key, same_note_key};
 
+use crate::playback::is_put;
 use am_alerts::limits::MAX_MOMENT;
 use am_model::group::GroupName;
 use am_model::notice::Notice;
 use am_model::outcome::outcome_of;
 use am_model::record::{Call, Record, Reply};
+use am_model::views::RowView;
 use am_retry::Outcome;
 use std::alloc::{AllocError, Global};
 use std::collections::{HashMap, HashSet};
@@ -26,6 +32,15 @@ use std::marker::Model;
 pub struct LogKey {
     pub group: GroupName,
     pub integration: usize,
+}
+
+/// What gave a group and an integration their entry of the log last.
+#[derive(Clone, Copy)]
+pub enum LastEntry {
+    /// A success, which was logged at this time, in milliseconds.
+    Logged(u64),
+    /// A row that was loaded, with its expiry, in milliseconds.
+    Loaded(u64),
 }
 
 /// The number of a flush, and the position of an integration that it notifies.
@@ -49,14 +64,14 @@ impl<'h> Model for Begun<'h> {
     ghost view = { λ b. b.begin.now };
 }
 
-/// What is kept of a history: the flushes, their notes, and when successes were logged.
+/// What is kept of a history: the flushes, their notes, and the last entries.
 #[derive(Drop)]
 pub struct Log<'h> {
     /// The last flush of each number.
     pub begun: HashMap<u64, Begun<'h>>,
     pub noted: HashSet<NoteKey>,
-    /// When a success was logged last, in milliseconds.
-    pub logged: HashMap<LogKey, u64>,
+    /// The last entry of each group and integration.
+    pub logged: HashMap<LogKey, LastEntry>,
     /// The time of the last record, in milliseconds.
     pub clock: u64,
 }
@@ -82,7 +97,7 @@ pub fn add_record<'h>(alloc: Global, added: &'h Record, log: &mut Log<'h>) -> Re
         alloc,
         &log.begun,
         &log.noted,
-        &added.call,
+        added,
         moment,
         &mut log.logged,
     )?;
@@ -147,21 +162,23 @@ fn add_noted(call: &Call, noted: &mut HashSet<NoteKey>) -> Result<(), AllocError
     Ok(())
 }
 
-/// Adds when a call logs successes, if it does.
+/// Adds the entries that a record gives: by the successes that its call logs, or by the row that it loads.
 fn add_logged(
     alloc: Global,
     begun: &HashMap<u64, Begun<'_>>,
     noted: &HashSet<NoteKey>,
-    call: &Call,
+    added: &Record,
     moment: u64,
-    logged: &mut HashMap<LogKey, u64>,
+    logged: &mut HashMap<LogKey, LastEntry>,
 ) -> Result<(), AllocError>
     ensures { OnOk result ((name : named.GroupName) (integration : ℕ)
         → get same_log_key logged.new (record { group = name; integration = integration })
         ≡ (if logs_by (λ k. get nat_eq begun.now k) (λ k i. contains same_note_key noted.now (record { number = k; integration = i }))
-        name integration call.now then Some moment else get same_log_key logged.old (record { group = name; integration = integration }))) }
+        name integration added.now.call then Some (entries.Logged moment)
+        else option_or (entry_loaded name integration added.now)
+        (get same_log_key logged.old (record { group = name; integration = integration })))) }
 {
-    match call {
+    match &added.call {
         Call::Finish {
             number,
             outcomes,
@@ -186,8 +203,28 @@ fn add_logged(
             None => Ok(()),
             Some(flush) => log_note(alloc, flush.begin, *integration as usize, moment, logged),
         },
+        Call::Load { row, .. } => log_load(alloc, row.row(), &added.reply, logged),
         _ => Ok(()),
     }
+}
+
+/// Adds the entry of a row that was handed in, if the reply to its load says that it was put into the log.
+fn log_load(
+    alloc: Global,
+    row: &RowView,
+    reply: &Reply,
+    logged: &mut HashMap<LogKey, LastEntry>,
+) -> Result<(), AllocError>
+    ensures { OnOk result ((name : named.GroupName) (i : ℕ)
+        → get same_log_key logged.new (record { group = name; integration = i })
+        ≡ option_or (option_map entry_of_row (row_put name i reply.now (Some row.now)))
+        (get same_log_key logged.old (record { group = name; integration = i }))) }
+{
+    if !is_put(reply) {
+        return Ok(());
+    }
+    let entry = LastEntry::Loaded(row.expiry);
+    add_entry(alloc, &row.group, row.integration as usize, entry, logged)
 }
 
 /// Logs a success of an integration at this time, for the group of a flush.
@@ -196,37 +233,39 @@ fn log_note(
     flush: &Record,
     integration: usize,
     moment: u64,
-    logged: &mut HashMap<LogKey, u64>,
+    logged: &mut HashMap<LogKey, LastEntry>,
 ) -> Result<(), AllocError>
     ensures { OnOk result ((name : named.GroupName) (i : ℕ)
         → get same_log_key logged.new (record { group = name; integration = i })
         ≡ (if is_flush_of name flush.now.reply && (integration == i)
-        then Some moment else get same_log_key logged.old (record { group = name; integration = i }))) }
+        then Some (entries.Logged moment) else get same_log_key logged.old (record { group = name; integration = i }))) }
 {
     match &flush.reply {
-        Reply::Flush { group, .. } => log_success(alloc, group, integration, moment, logged),
+        Reply::Flush { group, .. } => {
+            add_entry(alloc, group, integration, LastEntry::Logged(moment), logged)
+        }
         _ => Ok(()),
     }
 }
 
-/// Logs a success of an integration at this time, for a group.
-fn log_success(
+/// Adds the entry of a group and an integration.
+fn add_entry(
     alloc: Global,
     group: &GroupName,
     integration: usize,
-    moment: u64,
-    logged: &mut HashMap<LogKey, u64>,
+    entry: LastEntry,
+    logged: &mut HashMap<LogKey, LastEntry>,
 ) -> Result<(), AllocError>
     ensures { OnOk result ((name : named.GroupName) (i : ℕ)
         → get same_log_key logged.new (record { group = name; integration = i })
         ≡ (if same_name name group.now && (integration == i)
-        then Some moment else get same_log_key logged.old (record { group = name; integration = i }))) }
+        then Some entry else get same_log_key logged.old (record { group = name; integration = i }))) }
 {
     let key = LogKey {
         group: group.copy(alloc)?,
         integration,
     };
-    logged.insert(key, moment)?;
+    logged.insert(key, entry)?;
     Ok(())
 }
 
@@ -238,12 +277,12 @@ fn log_finish(
     outcomes: &[(u32, Outcome)],
     noted: &HashSet<NoteKey>,
     moment: u64,
-    logged: &mut HashMap<LogKey, u64>,
+    logged: &mut HashMap<LogKey, LastEntry>,
 ) -> Result<(), AllocError>
     ensures { OnOk result ((name : named.GroupName) (i : ℕ)
         → get same_log_key logged.new (record { group = name; integration = i })
         ≡ (if finish_logs (λ k. contains same_note_key noted.now (record { number = number; integration = k })) outcomes.now name i
-        flush.now then Some moment else get same_log_key logged.old (record { group = name; integration = i }))) }
+        flush.now then Some (entries.Logged moment) else get same_log_key logged.old (record { group = name; integration = i }))) }
 {
     match &flush.reply {
         Reply::Flush { group, notices, .. } => log_notices(
@@ -269,17 +308,18 @@ fn log_notices(
     outcomes: &[(u32, Outcome)],
     noted: &HashSet<NoteKey>,
     moment: u64,
-    logged: &mut HashMap<LogKey, u64>,
+    logged: &mut HashMap<LogKey, LastEntry>,
 ) -> Result<(), AllocError>
     ensures { OnOk result ((name : named.GroupName) (i : ℕ)
         → get same_log_key logged.new (record { group = name; integration = i })
         ≡ (if same_name name group.now
         && is_logged (λ k. contains same_note_key noted.now (record { number = number; integration = k })) outcomes.now i notices.now
-        then Some moment else get same_log_key logged.old (record { group = name; integration = i }))) }
+        then Some (entries.Logged moment) else get same_log_key logged.old (record { group = name; integration = i }))) }
 {
     for notice in notices {
         if is_new_success(noted, number, outcomes, notice) {
-            log_success(alloc, group, notice.integration as usize, moment, logged)?;
+            let entry = LastEntry::Logged(moment);
+            add_entry(alloc, group, notice.integration as usize, entry, logged)?;
         }
     }
     Ok(())

@@ -4,4 +4,4 @@ use Rattle.am_rehearsal.proofs.sending.ends_of.Given as goal
 
 -- the ends so far are those of the first notices
 abbrev pub invariant-loop-place : goal.invariant-loop-place
-invariant-loop-place g l = AreEndsOf (answer_of g.O.Outages.outages g.O.Outages.receiver) l.start 0 (take l.place l.notices) l.ends.items
+invariant-loop-place g l = AreEndsOf (answer_of g.O.Outages.cut g.O.Outages.outages g.O.Outages.receiver) g.O.Outages.cut l.start 0 (take l.place l.notices) l.ends.items

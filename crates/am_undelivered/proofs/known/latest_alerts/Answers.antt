@@ -1,8 +1,9 @@
-use Rattle.std.proofs.Common.{◌≡◌, ◌∙◌, ◌-◌, List, ap, sym, get_or, length, reverse, take, arith}
+use Rattle.std.proofs.Common.{◌≡◌, ◌∙◌, ◌-◌, List, ap, sym, get_or, length, map, reverse, take, arith}
 use Rattle.std.proofs.lemmas.List.{take_all}
 use Rattle.am_alerts.specs.AlertData.{AlertData}
 use Rattle.am_model.specs.declared.record.Record.{Record}
 use Rattle.am_model.specs.look_back.Entry.{alert_in, known_in}
+use Rattle.am_timeline.specs.Timeline.{labels_of}
 use Rattle.am_undelivered.specs.Undelivered.{with_first}
 use Rattle.am_undelivered.proofs.KnownAlerts.{found_with, found_with-first, found_with-nothing, reverse_taken}
 use Rattle.am_undelivered.proofs.known.latest_alerts.Goals as goal
@@ -11,7 +12,7 @@ pub loop-place-init : goal.loop-place-init
 loop-place-init c =
     let history = c.args.history.now in
     record {
-      same = c.new-seen.ensures ∙ sym c.new-alerts.ensures.items;
+      same = c.new-seen.ensures ∙ sym (ap (λ (l : List AlertData). map labels_of l) c.new-alerts.ensures.items);
       known = ap (λ (l : List AlertData). found_with l (known_in (reverse (take (length history) history)))) c.new-alerts.ensures.items
           ∙ found_with-nothing (known_in (reverse (take (length history) history)))
           ∙ ap (λ (l : List Record). known_in (reverse l)) (take_all (length history) history (omega arith));
@@ -29,6 +30,8 @@ loop-place-preserved c =
       same = c.in_ok-add_first.ensures.same;
       known = ap (λ (l : List AlertData). found_with l known) first
           ∙ found_with-first before (alert_in here.call) known
-          ∙ ap (λ (l : List Record). found_with before (known_in l)) (sym (reverse_taken history place c.index-history-place.result (omega (arith, c.loop-place-test.true)) (omega (arith, c.loop-place.auto.place))))
+          ∙ ap (λ (l : List Record). found_with before (known_in l))
+          (sym (reverse_taken history place c.index-history-place.result (omega (arith, c.loop-place-test.true))
+          (omega (arith, c.loop-place.auto.place))))
           ∙ c.loop-place.invariant.known;
     }

@@ -1,7 +1,5 @@
 use Rattle.std.proofs.Common.{◌∙◌, ◌+◌, ◌-◌, ap}
 use Rattle.am_rehearsal.specs.Courses.{scene_in}
-use Rattle.am_rehearsal.specs.WhyNot.{action_cause}
-use Rattle.am_rehearsal.proofs.Hindering.{has_cause}
 use Rattle.am_rehearsal.proofs.Stepping.{plan_is}
 use Rattle.am_rehearsal.proofs.play.Course.act.Goals as goal
 
@@ -10,9 +8,9 @@ returns-in-Ok-clause-done c =
     let was = c.args.self.now in
     plan_is (scene_in was) c.args.plan was.plans.items c.act.new.self.board c.act.new.self.events.items c.in-Ok.ensures.called (ap (λ es. es.items) c.act.ensures.events)
 
-pub returns-in_default-clause-hindered : goal.returns-in_default-clause-hindered
-returns-in_default-clause-hindered c =
+pub returns-in-Err-Refused-clause-hindered : goal.returns-in-Err-Refused-clause-hindered
+returns-in-Err-Refused-clause-hindered c =
     let was = c.args.self.now in (
       c.saturating_sub-index.ensures ∙ ap (λ n. was.count - (n + 1)) (c.len.ensures ∙ was.plans.ok.0),
-      has_cause (action_cause was.board.board c.args.plan.act) c.in-Err.fault c.in_default.not-NoMemory c.in-Err.ensures.cause,
+      rw c.in-Err-Refused.field-0-is at c.in-Err-Refused.ensures.cause,
     )

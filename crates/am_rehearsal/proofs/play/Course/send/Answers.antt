@@ -20,6 +20,6 @@ returns-in-Ok-clause-sent c =
     in
     let s : SendingData = record { ticket = t; begin = c.args.begin; ends = c.in-Ok.ends.items } in
     sending_added (setting_in was) (scene_in was) c.args.at s c.push_reserved.new.self.items
-    (subst (λ (q : Route). AreEndsOf (answer_of was.outages.now q.receiver) c.args.at 0 t.notices c.in-Ok.ends.items) route
-    (subst (λ (u : TicketData). AreEndsOf (answer_of was.outages.now c.route_of.result.now.receiver) c.args.at 0 u.notices c.in-Ok.ends.items) ticket c.in-Ok.ensures))
+    (subst (λ (q : Route). AreEndsOf (answer_of was.span.cut was.outages.now q.receiver) was.span.cut c.args.at 0 t.notices c.in-Ok.ends.items) route
+    (subst (λ (u : TicketData). AreEndsOf (answer_of was.span.cut was.outages.now c.route_of.result.now.receiver) was.span.cut c.args.at 0 u.notices c.in-Ok.ends.items) ticket c.in-Ok.ensures))
     c.push_reserved.ensures.items

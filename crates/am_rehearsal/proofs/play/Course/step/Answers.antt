@@ -4,7 +4,7 @@ use Rattle.am_rehearsal.specs.Courses.{scene_in, setting_in}
 use Rattle.am_rehearsal.specs.declared.next.Step.TheVariants.{Begin, End, Finish, Maintenance, Plan}
 use Rattle.am_terms.specs.declared.rehearsal.TimedAction.{TimedAction}
 use Rattle.am_rehearsal.proofs.Hindering.{allowed_by, memory_hindered, own_hindered, plan_allowed, plan_hindered}
-use Rattle.am_rehearsal.proofs.Stepping.{plan_done, steps_by, there_for, within_some}
+use Rattle.am_rehearsal.proofs.Stepping.{on_ok_both, plan_done, steps_by, there_for, within_some}
 use Rattle.am_rehearsal.proofs.play.Course.step.Goals as goal
 
 pub end-requires : goal.end-requires
@@ -44,10 +44,10 @@ pub returns-in-Some-clause-done : goal.returns-in-Some-clause-done
 returns-in-Some-clause-done c =
     let was = c.args.self.now in
     let d = scene_in c.act.new.self in
-    on_ok_weaker c.act.result
-    (λ done. steps_by (setting_in was) (scene_in was) c.args.coming Plan c.requires.comes c.in-Plan.is d
-    (plan_done (scene_in was) d was.plans.items c.pop_front.new.self.items c.in-Some.plan c.in-Some.ensures.items done))
-    c.act.ensures.done
+    on_ok_both c.act.result
+    (λ free done. steps_by (setting_in was) (scene_in was) c.args.coming Plan c.requires.comes c.in-Plan.is d
+    (plan_done (scene_in was) d was.plans.items c.pop_front.new.self.items c.in-Some.plan c.in-Some.ensures.items (free, done)))
+    c.act.ensures.allowed c.act.ensures.done
 
 pub returns-in-Maintenance-clause-done : goal.returns-in-Maintenance-clause-done
 returns-in-Maintenance-clause-done c =

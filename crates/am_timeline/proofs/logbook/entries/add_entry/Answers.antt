@@ -1,4 +1,4 @@
-use Rattle.std.proofs.Common.{◌≡◌, ◌∙◌, ◌==◌, ◌&&◌, ℕ, Option, None, ap, sym, if◌then◌else◌}
+use Rattle.std.proofs.Common.{◌∙◌, ◌==◌, ◌&&◌, ℕ, Option, None, ap, sym, if◌then◌else◌}
 use Rattle.std.specs.HashMap.{get}
 use Rattle.std.specs.Option.{option_or}
 use Rattle.am_timeline.specs.Entries.{same_flush_key}

@@ -1,4 +1,5 @@
-use Rattle.std.proofs.Common.{◌≡◌, ◌∙◌, ◌<◌, ◌+◌, ◌==◌, ◌∷◌, ℕ, List, Option, None, Some, ap, sym, refl, subst, arith, length, take, if◌then◌else◌}
+use Rattle.std.proofs.Common.{◌≡◌, ◌∙◌, ◌<◌, ◌+◌, ◌==◌, ◌∷◌, ℕ, List, Option, None, Some, ap, sym, refl, subst, arith, length, take}
+use Rattle.std.proofs.Common.{if◌then◌else◌}
 use Rattle.std.specs.Prelude.{slice_get}
 use Rattle.std.specs.Option.{option_or}
 use Rattle.std.proofs.lemmas.Option.{slice_get_read}
@@ -17,14 +18,17 @@ loop-place-preserved c =
     let here = c.index-history-place.result in
     let past = past_of (take place history) in
     let inside : place < length history = omega (arith, c.loop-place-test.true) in
-    let at : slice_get history place ≡ Some here = slice_get_read history (length history) place here refl inside c.index-history-place.is in
+    let at : slice_get history place ≡ Some here =
+    slice_get_read history (length history) place here refl inside c.index-history-place.is in
     let more : past_of (take (place + 1) history) ≡ here ∷ past =
     reverse_more history place here inside ∙ ap (λ (r : Record). r ∷ past) (sym c.index-history-place.is) in
     record {
-      follows = subst (λ (l : List Record). Follows c.add_record.new.log l) (sym more) (c.in_ok-add_record.ensures past c.loop-place.invariant.follows);
+      follows = subst (λ (l : List Record). Follows c.add_record.new.log l) (sym more)
+          (c.in_ok-add_record.ensures past c.loop-place.invariant.follows);
       found = λ p i.
           c.in_ok-add_expired.ensures past c.loop-place.invariant.follows p i
-          ∙ ap (λ (o : Option ℕ). option_or (if place == p then expired_before c.args.config.now i past here else None) o) (c.loop-place.invariant.found p i)
+          ∙ ap (λ (o : Option ℕ). option_or (if place == p then expired_before c.args.config.now i past here else None) o)
+          (c.loop-place.invariant.found p i)
           ∙ table-more c.args.config.now history place here p i at;
     }
 
@@ -32,4 +36,5 @@ pub returns : goal.returns
 returns c =
     λ place integration.
     c.loop-place.invariant.found place integration
-    ∙ table-all c.args.config.now c.args.history.now c.loop-place.place place integration (omega (arith, c.loop-place-test.false, c.loop-place.auto.place-end))
+    ∙ table-all c.args.config.now c.args.history.now c.loop-place.place place integration
+    (omega (arith, c.loop-place-test.false, c.loop-place.auto.place-end))

@@ -1,4 +1,4 @@
-use Rattle.std.proofs.Common.{◌≡◌, ◌∙◌, ◌==◌, ◌&&◌, ◌||◌, Bool, ap, sym}
+use Rattle.std.proofs.Common.{◌∙◌, ◌==◌, ◌&&◌, ◌||◌, ap, sym}
 use Rattle.std.specs.HashSet.{contains}
 use Rattle.am_model.specs.declared.record.Call.{Call}
 use Rattle.am_model.specs.look_back.Past.{is_note}

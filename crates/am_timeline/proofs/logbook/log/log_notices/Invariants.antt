@@ -3,6 +3,7 @@ use Rattle.std.specs.HashMap.{get}
 use Rattle.std.specs.HashSet.{contains}
 use Rattle.am_model.specs.declared.group.GroupName.{GroupName}
 use Rattle.am_model.specs.State.{same_name}
+use Rattle.am_timeline.specs.declared.logbook.log.LastEntry.TheVariants.{Logged}
 use Rattle.am_timeline.specs.Log.{is_logged, same_log_key, same_note_key}
 use Rattle.am_timeline.proofs.logbook.log.log_notices.Given as goal
 
@@ -11,5 +12,6 @@ abbrev pub invariant-loop-notice : goal.invariant-loop-notice
 invariant-loop-notice l =
     (name : GroupName) (i : ℕ) → get same_log_key l.logged (record { group = name; integration = i })
     ≡ (if same_name name l.group
-    && is_logged (λ k. contains same_note_key l.noted (record { number = l.number; integration = k })) l.outcomes i (take l.notice-index l.notices)
-    then Some l.moment else get same_log_key l.fn.logged (record { group = name; integration = i }))
+    && is_logged (λ k. contains same_note_key l.noted (record { number = l.number; integration = k })) l.outcomes i
+    (take l.notice-index l.notices)
+    then Some (Logged l.moment) else get same_log_key l.fn.logged (record { group = name; integration = i }))

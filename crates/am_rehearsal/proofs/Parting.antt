@@ -1,0 +1,91 @@
+-- The parts of a rehearsal: one handover more, and one played part more.
+use Rattle.std.proofs.Common.{◌≡◌, ◌∙◌, ◌<◌, ℕ, ◌+◌, ◌-◌, suc, get_or, take, if◌then◌else◌, List, [], ◌∷◌, ◌++◌, length, Option, Some, None, Result, Ok, Err, ap, sym, refl, arith, subst}
+use Rattle.std.specs.List.{count_by, flat_map}
+use Rattle.std.specs.Option.{IsSomeAnd}
+use Rattle.std.specs.Prelude.{IfOk, slice_get}
+use Rattle.std.proofs.lemmas.List.{append_assoc, flat_map_more, take_more}
+use Rattle.std.proofs.lemmas.List.Sums.{sum_by_push}
+use Rattle.std.proofs.lemmas.Option.{none-some, same_Some, slice_get_read}
+use Rattle.am_board.specs.History.{BoardData}
+use Rattle.am_model.specs.Carry.{carried}
+use Rattle.am_model.specs.declared.config.Config.{Config}
+use Rattle.am_model.specs.declared.views.RowView.{RowView}
+use Rattle.am_rehearsal.specs.Parts.{PartData, after, cut_at, parts_from}
+use Rattle.am_rehearsal.specs.Playing.{ArePlayed, IsWhyNotPart, IsWhyNotParts, PlaysPart, is_carried, last_board}
+use Rattle.am_rehearsal.specs.declared.playing.PartFault.{PartFault}
+use Rattle.am_rehearsal.specs.declared.playing.PlayedPart.{PlayedPart}
+use Rattle.am_terms.specs.declared.handover.Handover.{Handover}
+use Rattle.am_terms.specs.declared.rehearsal.Outage.{Outage}
+
+-- these handovers led from the first part to these parts, and the part that is not cut yet
+abbrev pub ArePartsSoFar : PartData → List Handover → List PartData → PartData → Type 0
+ArePartsSoFar first done parts part = (rest : List Handover) → parts_from first (done ++ rest) ≡ parts ++ parts_from part rest
+
+-- one handover more
+pub parts_more : (first : PartData) (done : List Handover) (parts : List PartData) (part : PartData) (h : Handover)
+    → ArePartsSoFar first done parts part → ArePartsSoFar first (done ++ h ∷ []) (parts ++ cut_at h.at part ∷ []) (after h part)
+parts_more first done parts part h so_far rest =
+    ap (parts_from first) (append_assoc done (h ∷ []) rest) ∙ so_far (h ∷ rest) ∙ sym (append_assoc parts (cut_at h.at part ∷ []) (parts_from (after h part) rest))
+
+-- what is true of an answer that is weaker
+pub ok_weaker : {T E : Type 0} (r : Result T E) (P Q : T → Type 0) → ((x : T) → P x → Q x) → IfOk r P → IfOk r Q
+ok_weaker (Ok x) P Q weaker h = weaker x h
+ok_weaker (Err y) P Q weaker h = tt
+
+-- the board of the last played part
+pub board_of_last : (before : Option BoardData) (played : List PlayedPart) (q : PlayedPart) → slice_get played (length played - 1) ≡ Some q
+    → last_board before played ≡ Some q.played.value.board
+board_of_last before [] q is = absurd (none-some q is)
+board_of_last before (x ∷ []) q is = ap (λ (y : PlayedPart). Some y.played.value.board) (same_Some x q is)
+board_of_last before (x ∷ y ∷ ys) q is =
+    let less : length (x ∷ y ∷ ys) - 1 ≡ suc (length (y ∷ ys) - 1) = omega arith in
+    board_of_last (Some x.played.value.board) (y ∷ ys) q (sym (ap (slice_get (x ∷ y ∷ ys)) less) ∙ is)
+
+module _ (maintain : ℕ) (outages : List Outage) where
+  -- one played part more
+  pub played_more : (before : Option BoardData) (parts : List PartData) (played : List PlayedPart) (p : PartData) (q : PlayedPart)
+      → ArePlayed maintain outages before parts played → PlaysPart maintain outages (last_board before played) p q
+      → ArePlayed maintain outages before (parts ++ p ∷ []) (played ++ q ∷ [])
+  played_more before [] [] p q are plays = (plays, tt)
+  played_more before [] (y ∷ ys) p q are plays = absurd are
+  played_more before (x ∷ xs) [] p q are plays = absurd are
+  played_more before (x ∷ xs) (y ∷ ys) p q are plays = (are.0, played_more (Some y.played.value.board) xs ys p q are.1 plays)
+
+  -- as many parts are played as there are
+  pub as_many : (before : Option BoardData) (parts : List PartData) (played : List PlayedPart) → ArePlayed maintain outages before parts played
+      → length parts ≡ length played
+  as_many before [] [] are = refl
+  as_many before [] (y ∷ ys) are = absurd are
+  as_many before (x ∷ xs) [] are = absurd are
+  as_many before (x ∷ xs) (y ∷ ys) are = ap suc (as_many (Some y.played.value.board) xs ys are.1)
+
+  -- why the part that comes next isn't played to its end is why these parts aren't
+  pub stopped_at : (parts done : List PartData) (played : List PlayedPart) (p : PartData) (told : PartFault) → done ≡ take (length done) parts
+      → (length done < length parts) × (p ≡ get_or parts (length done) p) → told.part ≡ length played → ArePlayed maintain outages None done played
+      → IsWhyNotPart maintain outages (last_board None played) p told.fault → IsWhyNotParts maintain outages parts told
+  stopped_at parts done played p told so_far turn at are why =
+      let n : told.part ≡ length done = at ∙ sym (as_many None done played are) in
+      let first : done ≡ take told.part parts = so_far ∙ ap (λ (k : ℕ). take k parts) (sym n) in
+      let there : slice_get parts told.part ≡ Some p = ap (slice_get parts) n ∙ slice_get_read parts (length parts) (length done) p refl turn.0 turn.1 in
+      record {
+        played = played;
+        before = subst (λ (ps : List PartData). ArePlayed maintain outages None ps played) first are;
+        stopped = subst (λ (o : Option PartData). IsSomeAnd o (λ x. IsWhyNotPart maintain outages (last_board None played) x told.fault)) (sym there) why;
+      }
+
+-- what one more of these rows is carried over as, and whether it is
+module _ (old new : Config) (rows : List RowView) (i : ℕ) (row : RowView) (some : i < length rows) (is : row ≡ get_or rows i row) where
+  pub carried_more : (before more : List RowView) → before ≡ flat_map (carried old new) (take i rows) → more ≡ before ++ carried old new row
+      → more ≡ flat_map (carried old new) (take (i + 1) rows)
+  carried_more before more so_far now =
+      let one : take (i + 1) rows ≡ take i rows ++ row ∷ [] = take_more rows i row some ∙ ap (λ (r : RowView). take i rows ++ r ∷ []) (sym is) in
+      now ∙ ap (λ (rs : List RowView). rs ++ carried old new row) so_far ∙ flat_map_more (carried old new) [] (take i rows) row
+      ∙ ap (flat_map (carried old new)) (sym one)
+
+  pub counted_more : (before more : ℕ) → before ≡ count_by (is_carried old new) (take i rows) → more ≡ before + (if is_carried old new row then 1 else 0)
+      → more ≡ count_by (is_carried old new) (take (i + 1) rows)
+  counted_more before more so_far now =
+      let one : take (i + 1) rows ≡ take i rows ++ row ∷ [] = take_more rows i row some ∙ ap (λ (r : RowView). take i rows ++ r ∷ []) (sym is) in
+      now ∙ ap (λ (n : ℕ). n + (if is_carried old new row then 1 else 0)) so_far
+      ∙ sym (sum_by_push (λ (r : RowView). if is_carried old new r then 1 else 0) (take i rows) row)
+      ∙ ap (count_by (is_carried old new)) (sym one)

@@ -1,0 +1,98 @@
+-- Playing: the parts of a rehearsal, played one after another, each by a board of its own.
+use Rattle.std.specs.Prelude.{◌≡◌, ◌≢◌, ℕ, Bool, true, false, nat_lt, List, [], ◌∷◌, ◌++◌, length, take, slice_get, Option, Some, None, if◌then◌else◌}
+use Rattle.std.specs.List.{count_by, flat_map}
+use Rattle.std.specs.Option.{IsSomeAnd}
+use Rattle.am_model.specs.Carry.{carried}
+use Rattle.am_model.specs.Config.{config_fault}
+use Rattle.am_model.specs.Views.{row_views}
+use Rattle.am_model.specs.declared.config.Config.{Config}
+use Rattle.am_model.specs.declared.views.RowView.{RowView}
+use Rattle.am_board.specs.History.{BoardData, state_at}
+use Rattle.am_rehearsal.specs.Handover.{loads}
+use Rattle.am_rehearsal.specs.Parts.{PartData}
+use Rattle.am_rehearsal.specs.Play.{PlaysTo}
+use Rattle.am_rehearsal.specs.Scene.{Setting, setting_with}
+use Rattle.am_rehearsal.specs.WhyNot.{IsWhyNot}
+use Rattle.am_rehearsal.specs.declared.play.PlayFault.{PlayFault}
+use Rattle.am_rehearsal.specs.declared.play.PlayFault.TheVariants as play
+use Rattle.am_rehearsal.specs.declared.playing.PartFault.{PartFault}
+use Rattle.am_rehearsal.specs.declared.playing.PlayedPart.{PlayedPart}
+use Rattle.am_terms.specs.declared.handover.Keeps.{Keeps}
+use Rattle.am_terms.specs.declared.handover.Keeps.TheVariants.{All, Log, Nothing}
+use Rattle.am_terms.specs.declared.rehearsal.Outage.{Outage}
+use Rattle.am_terms.specs.declared.rehearsal.TimedAction.{TimedAction}
+
+-- whether the log is kept
+abbrev pub keeps_log : Keeps → Bool
+keeps_log All = true
+keeps_log Log = true
+keeps_log Nothing = false
+
+-- the log rows of the board before, if there is one
+abbrev pub rows_before : Option BoardData → List RowView
+rows_before None = []
+rows_before (Some b) = row_views (state_at b)
+
+-- whether a log under the new configuration takes anything over for a row of one under the old
+abbrev pub is_carried : Config → Config → RowView → Bool
+is_carried old new row = nat_lt 0 (length (carried old new row))
+
+-- taken_over: the log rows that a dispatcher takes over of the board before it: for each of that one's rows those that are carried over, if
+-- the log is kept
+abbrev pub taken_over : Keeps → Config → Option BoardData → List RowView
+taken_over keeps config None = []
+taken_over keeps config (Some b) = if keeps_log keeps then flat_map (carried b.config config) (row_views (state_at b)) else []
+
+-- how many log rows of the board before are taken over
+abbrev pub taken_count : Keeps → Config → Option BoardData → ℕ
+taken_count keeps config None = 0
+taken_count keeps config (Some b) = if keeps_log keeps then count_by (is_carried b.config config) (row_views (state_at b)) else 0
+
+-- the plans of a part with the loads of the log rows that its dispatcher takes over in front of them
+abbrev pub loaded_plans : Option BoardData → PartData → List TimedAction
+loaded_plans before p = loads p.span.since (taken_over p.keeps p.config before) ++ p.plans
+
+-- what doesn't change in a part: its end and its span, the time between two maintenances, and the outages
+abbrev pub setting_of_part : ℕ → List Outage → PartData → Setting
+setting_of_part maintain outages p = setting_with p.until maintain outages p.span
+
+-- a part plays so after the board before it, and so many of that board's log rows were taken over
+pub record PlaysPart (maintain : ℕ) (outages : List Outage) (before : Option BoardData) (p : PartData) (q : PlayedPart) : Type 0 where
+  pub plays : PlaysTo (setting_of_part maintain outages p) p.config (loaded_plans before p) q.played.value.board q.played.value.events.items
+  pub rows : q.rows ≡ length (rows_before before)
+  pub taken : q.taken ≡ taken_count p.keeps p.config before
+
+-- parts play so one after another: each after the board of the one before it, and the first after this board, if there is one
+abbrev pub ArePlayed : ℕ → List Outage → Option BoardData → List PartData → List PlayedPart → Type 0
+ArePlayed maintain outages before [] [] = Unit {0}
+ArePlayed maintain outages before [] (q ∷ qs) = ⊥
+ArePlayed maintain outages before (p ∷ ps) [] = ⊥
+ArePlayed maintain outages before (p ∷ ps) (q ∷ qs) =
+    PlaysPart maintain outages before p q × ArePlayed maintain outages (Some q.played.value.board) ps qs
+
+-- the board of the last of these played parts, or else this one
+abbrev pub last_board : Option BoardData → List PlayedPart → Option BoardData
+last_board before [] = before
+last_board before (q ∷ qs) = last_board (Some q.played.value.board) qs
+
+-- these played parts, and one more: so this part plays after the last of them
+abbrev pub IsPlayedNext : ℕ → List Outage → PartData → List PlayedPart → List PlayedPart → Type 0
+IsPlayedNext maintain outages p played more =
+    (q : PlayedPart) × (more ≡ played ++ q ∷ []) × PlaysPart maintain outages (last_board None played) p q
+
+-- why log rows aren't taken over: memory was refused, or no dispatcher may have the configuration
+abbrev pub IsTakeFault : Config → PlayFault → Type 0
+IsTakeFault config play.NoMemory = Unit {0}
+IsTakeFault config play.BadConfig = config_fault config ≢ None
+IsTakeFault config (play.PlanRefused k) = ⊥
+IsTakeFault config play.Full = ⊥
+
+-- why a part isn't played to its end after the board before it
+abbrev pub IsWhyNotPart : ℕ → List Outage → Option BoardData → PartData → PlayFault → Type 0
+IsWhyNotPart maintain outages before p = IsWhyNot (setting_of_part maintain outages p) p.config (loaded_plans before p)
+
+-- why parts aren't played to their ends: those before the part at this position play so, and after them that one isn't played to its end
+pub record IsWhyNotParts (maintain : ℕ) (outages : List Outage) (parts : List PartData) (told : PartFault) : Type 0 where
+  pub played : List PlayedPart
+  pub before : ArePlayed maintain outages None (take told.part parts) played
+  pub stopped : IsSomeAnd (slice_get parts told.part) (λ p. IsWhyNotPart maintain outages (last_board None played) p told.fault)

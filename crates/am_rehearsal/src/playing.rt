@@ -1,0 +1,263 @@
+//! Plays the parts of a rehearsal one after another, each by a board of its own. `am_rehearse` calls
+//! `play_parts` with what `parts::parts_of` returns.
+//!
+//! A dispatcher that keeps the log gets the rows of the board before it as loads, in front of its own
+//! plans. Boards are in boxes: a proof of a function with a whole board in its frame takes a minute.
+ghost use Rattle.std.specs.Prelude.{◌≡◌, ◌<◌, ◌≤◌, ◌+◌, ◌++◌, [], if◌then◌else◌, length, nat_lt, None, IfErr, IfOk, OnErr, OnOk};
+ghost use Rattle.std.specs.List.{count_by, flat_map};
+ghost use Rattle.std.specs.Option.{option_copied};
+ghost use Rattle.am_model.specs.Carry.{carried};
+ghost use Rattle.am_rehearsal.specs.Playing.{is_carried, keeps_log, last_board, rows_before, taken_count, taken_over};
+ghost use Rattle.am_rehearsal.specs.Playing.{ArePlayed, IsPlayedNext, IsTakeFault, IsWhyNotPart, IsWhyNotParts, PlaysPart};
+ghost use Rattle.am_rehearsal.specs.Scene.{setting_with};
+ghost use Rattle.am_rehearsal.specs.Play.{PlaysTo};
+ghost use Rattle.am_rehearsal.specs.WhyNot.{IsWhyNot};
+ghost use Rattle.am_terms.specs.declared.rehearsal.TheConstants.{MAX_UNTIL};
+
+use crate::handover::loads;
+use crate::parts::Part;
+use crate::play::{PlayFault, Played, play_pieces};
+use crate::span::Span;
+use am_board::board::Board;
+use am_board::config::Config;
+use am_model::carry::carried;
+use am_model::views::RowView;
+use am_terms::handover::Keeps;
+use am_terms::rehearsal::{Outage, TimedAction};
+use am_terms::watch::Watch;
+use std::alloc::{AllocError, Global};
+
+/// A part of a rehearsal that ran to its end.
+#[derive(Drop)]
+pub struct PlayedPart {
+    pub played: Box<Played>,
+    /// How many log rows the board before it had; zero for the first part.
+    pub rows: usize,
+    /// How many of these were taken over.
+    pub taken: usize,
+}
+
+/// Why a rehearsal of several dispatchers doesn't run to its end.
+#[derive(Clone, Copy)]
+pub struct PartFault {
+    /// The position of the part that doesn't.
+    pub part: usize,
+    pub fault: PlayFault,
+}
+
+/// Runs the parts of a rehearsal to their ends, one after another.
+///
+/// `maintain` is the time between two maintenances, in milliseconds. Each part is played as by
+/// `play_span`. Before its own plans come loads of the log rows that it takes over of the board
+/// before it, if it keeps the log (`am_model::carry::carried`). `watch` is called at each step.
+///
+/// Clause `played`: each part plays to its board and events (`PlaysTo`), and the numbers of log rows
+/// are right. Clause `refused`: the parts before the failing one are played, and for that one the
+/// fault is the cause (`IsWhyNot`).
+///
+/// # Errors
+///
+/// The first fault of `play_span` on the way, with the position of its part. The planned action that
+/// `PlanRefused` names counts with the loads in front.
+pub fn play_parts<W: Watch>(
+    alloc: Global,
+    parts: Vec<Part>,
+    maintain: u64,
+    outages: &[Outage],
+    watch: &mut W,
+) -> Result<Vec<PlayedPart>, PartFault>
+    ensures played { IfOk result (λ played. ArePlayed maintain outages.now None parts.items played.items) }
+    ensures refused { IfErr result (IsWhyNotParts maintain outages.now parts.items) }
+{
+    let mut played = Vec::new(alloc);
+    for part in parts {
+        match play_next(alloc, part, maintain, outages, &mut played, watch) {
+            Ok(()) => {}
+            Err(fault) => {
+                return Err(PartFault {
+                    part: played.len(),
+                    fault,
+                });
+            }
+        }
+    }
+    Ok(played)
+}
+
+/// Plays a part after these, and adds it.
+fn play_next<W: Watch>(
+    alloc: Global,
+    part: Part,
+    maintain: u64,
+    outages: &[Outage],
+    played: &mut Vec<PlayedPart>,
+    watch: &mut W,
+) -> Result<(), PlayFault>
+    ensures added { OnOk result (IsPlayedNext maintain outages.now part played.old.items played.new.items) }
+    ensures kept { OnErr result (played.new.items ≡ played.old.items) }
+    ensures refused { IfErr result (IsWhyNotPart maintain outages.now (last_board None played.old.items) part) }
+{
+    played.reserve(1)?;
+    let before = last_board(played.as_slice());
+    let next = play_part(alloc, before, part, maintain, outages, watch)?;
+    played.push_reserved(next);
+    Ok(())
+}
+
+/// Returns the board of the last of these parts, if there is one.
+fn last_board(played: &[PlayedPart]) -> Option<&Board>
+    ensures { option_copied result ≡ last_board None played.now }
+{
+    match played.last() {
+        None => None,
+        Some(last) => Some(&last.played.board),
+    }
+}
+
+/// Plays a part after a board.
+fn play_part<W: Watch>(
+    alloc: Global,
+    before: Option<&Board>,
+    part: Part,
+    maintain: u64,
+    outages: &[Outage],
+    watch: &mut W,
+) -> Result<PlayedPart, PlayFault>
+    ensures played { IfOk result (PlaysPart maintain outages.now (option_copied before.entry) part) }
+    ensures refused { IfErr result (IsWhyNotPart maintain outages.now (option_copied before.entry) part) }
+{
+    let Part {
+        config,
+        span,
+        until,
+        plans: mut own,
+        keeps,
+    } = part;
+    let log = take_over(alloc, before, keeps, &config)?;
+    let mut plans = loads(alloc, span.since, log.carried)?;
+    plans.append(&mut own)?;
+    let played = play_boxed(alloc, config, until, maintain, plans, outages, span, watch)?;
+    Ok(PlayedPart {
+        played,
+        rows: log.rows,
+        taken: log.taken,
+    })
+}
+
+/// `play_pieces`, with what was played in a box.
+fn play_boxed<W: Watch>(
+    alloc: Global,
+    config: Config,
+    until: u64,
+    maintain: u64,
+    plans: Vec<TimedAction>,
+    outages: &[Outage],
+    span: Span,
+    watch: &mut W,
+) -> Result<Box<Played>, PlayFault>
+    requires until { until ≤ MAX_UNTIL }
+    ensures played { IfOk result (λ played. PlaysTo (setting_with until maintain outages.now span) config plans.items
+        played.value.board played.value.events.items) }
+    ensures refused { IfErr result (IsWhyNot (setting_with until maintain outages.now span) config plans.items) }
+{
+    let played = play_pieces(alloc, config, until, maintain, plans, outages, span, watch)?;
+    match Box::new(alloc, played) {
+        Ok(played) => Ok(played),
+        Err(_) => Err(PlayFault::NoMemory),
+    }
+}
+
+/// What a dispatcher takes over of the log of the board before it.
+#[derive(Drop)]
+struct TakenLog {
+    /// The rows, as they are carried over.
+    carried: Vec<RowView>,
+    /// How many rows the log had.
+    rows: usize,
+    /// How many of these were taken over.
+    taken: usize,
+}
+
+/// Returns what a dispatcher of this configuration takes over of the log of the board before it.
+fn take_over(
+    alloc: Global,
+    before: Option<&Board>,
+    keeps: Keeps,
+    config: &Config,
+) -> Result<TakenLog, PlayFault>
+    ensures carried { IfOk result (λ log. log.carried.items ≡ taken_over keeps config.now (option_copied before.entry)) }
+    ensures rows { IfOk result (λ log. log.rows ≡ length (rows_before (option_copied before.entry))) }
+    ensures taken { IfOk result (λ log. log.taken ≡ taken_count keeps config.now (option_copied before.entry)) }
+    ensures refused { IfErr result (IsTakeFault config.now) }
+{
+    match before {
+        None => Ok(TakenLog::nothing(alloc, 0)),
+        Some(board) => {
+            let rows = board.rows(alloc)?;
+            if keeps_log(keeps) {
+                carry_all(alloc, board.config(), config, rows.as_slice())
+            } else {
+                Ok(TakenLog::nothing(alloc, rows.len()))
+            }
+        }
+    }
+}
+
+fn keeps_log(keeps: Keeps) -> bool
+    ensures { result ≡ keeps_log keeps }
+{
+    match keeps {
+        Keeps::All | Keeps::Log => true,
+        Keeps::Nothing => false,
+    }
+}
+
+/// Carries these rows of a log over to a new configuration.
+fn carry_all(
+    alloc: Global,
+    old: &Config,
+    new: &Config,
+    rows: &[RowView],
+) -> Result<TakenLog, PlayFault>
+    ensures carried { IfOk result (λ log. log.carried.items ≡ flat_map (carried old.now new.now) rows.now) }
+    ensures rows { IfOk result (λ log. log.rows ≡ length rows.now) }
+    ensures taken { IfOk result (λ log. log.taken ≡ count_by (is_carried old.now new.now) rows.now) }
+    ensures refused { IfErr result (IsTakeFault new.now) }
+{
+    if new.check().is_err() {
+        return Err(PlayFault::BadConfig);
+    }
+    let mut log = TakenLog::nothing(alloc, rows.len());
+    for i in 0..rows.len() {
+        log.add(carried(alloc, old, new, &rows[i])?)?;
+    }
+    Ok(log)
+}
+
+impl TakenLog {
+    /// Nothing of a log of so many rows.
+    fn nothing(alloc: Global, rows: usize) -> TakenLog
+        ensures carried { result.carried.items ≡ [] }
+        ensures rows { result.rows ≡ rows }
+        ensures taken { result.taken ≡ 0 }
+    {
+        TakenLog {
+            carried: Vec::new(alloc),
+            rows,
+            taken: 0,
+        }
+    }
+
+    /// Adds what one row of the log is carried over as.
+    fn add(&mut self, mut carried: Vec<RowView>) -> Result<(), AllocError>
+        requires { self.old.taken < self.old.rows }
+        ensures carried { OnOk result (self.new.carried.items ≡ self.old.carried.items ++ carried.items) }
+        ensures rows { self.new.rows ≡ self.old.rows }
+        ensures taken { OnOk result (self.new.taken ≡ self.old.taken + (if nat_lt 0 (length carried.items) then 1 else 0)) }
+    {
+        if !carried.is_empty() {
+            self.taken += 1;
+        }
+        self.carried.append(&mut carried)
+    }
+}

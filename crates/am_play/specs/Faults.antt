@@ -8,6 +8,8 @@ use Rattle.am_cli.specs.declared.fault.ParseFault.{ParseFault}
 use Rattle.am_cli.specs.declared.fault.ParseFault.TheVariants as parse
 use Rattle.am_cli.specs.declared.transfer.ReadFault.{ReadFault}
 use Rattle.am_cli.specs.declared.transfer.ReadFault.TheVariants as read
+use Rattle.am_play.specs.WhyFull.{IsStuck}
+use Rattle.am_play.specs.declared.run.TheConstants.{BOARD_ID}
 use Rattle.am_play.specs.declared.fault.RunFault.{RunFault}
 use Rattle.am_play.specs.declared.fault.RunFault.TheVariants as run
 use Rattle.am_scenario.specs.Decoding.{IsScenarioIn, scenario_compares_texts}
@@ -36,12 +38,19 @@ status_of (run.Refused place fault_kind) = 2
 status_of run.NoMemory = 3
 status_of run.Unwritable = 4
 
+-- an input tells a scenario whose play on the board of this id is stopped by a limit
+pub record TellsStuck (id : ℕ) (input : List ℕ) : Type 0 where
+  pub scenario : Scenario
+  pub told : IsScenarioIn input scenario
+  pub stuck : IsStuck id scenario
+
 -- an input is refused as no JSON only where it is none, and at a place only where it is the text of a JSON value. Where it tells a
--- scenario whose matchers look for no pattern, it is refused at a place only for want of room
+-- scenario whose matchers look for no pattern, it is refused at a place only as full, and a limit stops the play
 abbrev pub Refuses : List ℕ → RunFault → Type 0
 Refuses input run.NotJson = IsNoJson input
 Refuses input (run.Refused place fault_kind) = IsJson input
-    × ((scenario : Scenario) → IsScenarioIn input scenario → IsTrue (scenario_compares_texts scenario) → fault_kind ≡ Full)
+    × ((scenario : Scenario) → IsScenarioIn input scenario → IsTrue (scenario_compares_texts scenario)
+    → (fault_kind ≡ Full) × TellsStuck BOARD_ID input)
 Refuses input run.Unreadable = ⊥
 Refuses input run.NoMemory = Unit {0}
 Refuses input run.Unwritable = ⊥

@@ -8,12 +8,16 @@ pub mod Turns
 pub mod Parts
 -- what the report on a scenario that was played tells
 pub mod Plays
+-- why a scenario isn't played to its end
+pub mod WhyFull
 -- what the passes of the lanes have made, between the phases of a run
 pub mod LaneStates
 -- what the steps of a phase do to the main thread's pass
 pub mod Steps
 -- what the main thread's pass has seen of the passes of the lanes
 pub mod Interleaving
+-- where a run stops
+pub mod Stops
 -- the faults of a phase
 pub mod PhaseFaults
 -- a run, by its lanes

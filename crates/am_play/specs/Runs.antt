@@ -1,5 +1,6 @@
 -- A run, by its lanes.
 use Rattle.std.specs.Prelude.{◌≡◌, ◌<◌, ℕ, All, List, [], ◌++◌, length}
+use mathlib.Core.List.{IsPrefix}
 use Rattle.am_model.specs.Replay.{IsLegal}
 use Rattle.am_model.specs.declared.notice.Report.{Report}
 use Rattle.am_model.specs.declared.record.Record.{Record}
@@ -10,8 +11,8 @@ use Rattle.am_desk.specs.declared.name.Name.{Ghosts}
 use Rattle.am_desk.specs.declared.word.Terms.{Terms}
 use Rattle.am_pool.specs.declared.courier.Tried.{Tried}
 use Rattle.am_play.specs.Interleaving.{AfterPhases, BeforePhases}
-use Rattle.am_play.specs.LaneStates.{HaveMade, passes_in, MadeLanes}
-use Rattle.am_play.specs.PhaseFaults.{HasNoFault}
+use Rattle.am_play.specs.LaneStates.{HaveMade, NoneRefused, passes_in, MadeLanes}
+use Rattle.am_play.specs.PhaseFaults.{EndsAsFull, HasNoFault}
 use Rattle.am_play.specs.declared.phase.Run.{Run}
 use Rattle.am_report.specs.Report.{report_text}
 use Rattle.am_scenario.specs.declared.scenario.Lane.{Lane}
@@ -29,19 +30,33 @@ Keeps was is = (is.lane_states ≡ was.lane_states) × (is.reports ≡ was.repor
 abbrev pub Rests : {N : Type 0} {names : Ghosts N} → Run N names → Run N names → Type 0
 Rests was is = (is.main ≡ was.main) × (is.reports ≡ was.reports)
 
+-- the main thread's pass went on from what it had seen, and no call was refused by a limit
+abbrev pub GoesOn : {N : Type 0} {names : Ghosts N} → Run N names → Run N names → Type 0
+GoesOn was is = IsPrefix was.main.log is.main.log × (EndsAsFull is.faults → EndsAsFull was.faults)
+
+-- nothing has gone wrong in it
+abbrev pub IsWell : {N : Type 0} {names : Ghosts N} → Run N names → Type 0
+IsWell run = HasNoFault run.faults × NoneRefused run.lane_states.items
+
 -- these reports came to the others, but where something went wrong, and nothing else changed
 pub record Gathers {N : Type 0} {names : Ghosts N} (reports : List Report) (was is : Run N names) : Type 0 where
   pub lane_states : is.lane_states ≡ was.lane_states
   pub main : is.main ≡ was.main
   pub more : HasNoFault is.faults → HasNoFault was.faults × (is.reports.items ≡ was.reports.items ++ reports)
+  pub full : EndsAsFull is.faults → EndsAsFull was.faults
 
 -- the lanes have made their calls at this moment, but where something went wrong
 abbrev pub RunsLanes : {N : Type 0} {names : Ghosts N} → ℕ → List Lane → Run N names → Run N names → Type 0
 RunsLanes at lanes was is = HasNoFault is.faults → HasNoFault was.faults × MadeLanes at lanes (lanes_of was) (lanes_of is)
 
+-- if nothing had gone wrong in it, and a limit refused a call since, the main thread's pass and the lanes' have stopped so
+abbrev pub StopsLanes : {N : Type 0} {names : Ghosts N} → (Seen → Seen → List Seen → List Seen → Type 0)
+    → Run N names → Run N names → Type 0
+StopsLanes Stop was is = IsWell was → EndsAsFull is.faults → Stop was.main is.main (lanes_of was) (lanes_of is)
+
 -- it has run no phase
 abbrev pub IsFresh : {N : Type 0} {names : Ghosts N} → Run N names → Type 0
-IsFresh run = HaveMade 0 [] (lanes_of run) × BeforePhases run.main (lanes_of run) run.reports.items
+IsFresh run = HaveMade 0 [] (lanes_of run) × BeforePhases run.main (lanes_of run) run.reports.items × IsWell run
 
 -- it has run these phases: the lanes have made their calls of them, and the main thread had its turns
 abbrev pub HasRun : {N : Type 0} {names : Ghosts N} → (Tried → Type 0) → Terms → List Phase → Run N names → Type 0

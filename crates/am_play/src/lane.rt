@@ -5,12 +5,13 @@
 //! writes there and nowhere else. A thread is started for each lane of a phase, also for one
 //! without calls. At the end of the run the passes go back into the vector that the opening gave,
 //! for the close.
-ghost use Rattle.std.specs.Prelude.{◌≡◌, ◌<◌, ◌≤◌, ◌∷◌, [], All, IfOk, OnOk, length, map, take, vec_len};
+ghost use Rattle.std.specs.Prelude.{◌≡◌, ◌≢◌, ◌<◌, ◌≤◌, ◌∷◌, [], All, IfErr, IfOk, None, OnErr, OnOk, length, map, take, vec_len};
+ghost use mathlib.Core.List.{IsPrefix};
 ghost use Rattle.std.specs.List.{AllZip};
 ghost use Rattle.am_pool.specs.Work.{IsReady};
 ghost use Rattle.am_play.specs.Interleaving.{Meets, MeetsAll};
 ghost use Rattle.am_play.specs.Lanes.{call_at};
-ghost use Rattle.am_play.specs.LaneStates.{AfterLanes, AllRan, MadeCalls, Ran, passes_in};
+ghost use Rattle.am_play.specs.LaneStates.{AfterLanes, AllRan, MadeCalls, NoneRefused, Ran, RefusesNext, passes_in};
 ghost use Rattle.am_pool.specs.Sendings.{IsSendingOf};
 ghost use Rattle.am_play.specs.Steps.{MadeRecords};
 
@@ -38,7 +39,8 @@ pub struct LaneState<N: Name> {
 
 impl<N: Name> LaneState<N> {
     fn new(alloc: Global, pass: Pass<N>) -> LaneState<N>
-        ensures { result.pass ≡ pass }
+        ensures pass { result.pass ≡ pass }
+        ensures refused { result.refused ≡ None }
     {
         LaneState {
             pass,
@@ -67,7 +69,8 @@ impl<N: Name> LaneState<N> {
 
     /// Another pass meets the lane's: each of the two sees what the other has seen.
     fn meet(&mut self, desk: &Desk<N>, other: &mut Pass<N>)
-        ensures { MadeRecords [] other.old other.new × Meets other.old other.new self.old.pass self.new.pass }
+        ensures met { MadeRecords [] other.old other.new × Meets other.old other.new self.old.pass self.new.pass }
+        ensures refused { self.new.refused ≡ self.old.refused }
     {
         desk.meet(other, &mut self.pass);
     }
@@ -82,8 +85,9 @@ impl<N: Name> LaneState<N> {
 
     /// Makes the calls, up to the first that is refused.
     fn run<R: Wait>(&mut self, rt: &R, alloc: Global, desk: &Desk<N>, at: u64)
-        ensures { Ran at self.old self.new }
+        ensures { Ran N.terms at self.old.calls.items self.old.pass self.new }
     {
+        self.refused = None;
         let calls = replace(&mut self.calls, Vec::new(alloc));
         for (position, call) in calls.into_iter().enumerate() {
             if let Err(fault) = make(rt, alloc, desk, &mut self.pass, at, call) {
@@ -101,6 +105,7 @@ pub fn lane_states_for<N: Name>(
 ) -> Result<Vec<LaneState<N>>, AllocError>
     ensures passes { IfOk result (λ lane_states. map (λ s. s.pass) lane_states.items ≡ passes.old.items) }
     ensures count { IfOk result (λ lane_states. vec_len lane_states ≡ vec_len passes.old) }
+    ensures well { IfOk result (λ lane_states. NoneRefused lane_states.items) }
 {
     let mut lane_states = Vec::new(alloc);
     lane_states.reserve(passes.len())?;
@@ -123,7 +128,8 @@ pub fn take_lane_states<N: Name>(lane_states: &mut [LaneState<N>], lanes: Vec<La
 
 /// The main thread's pass meets those of the lanes, one after the other. It waits for nobody.
 pub fn meet_lanes<N: Name>(desk: &Desk<N>, main: &mut Pass<N>, lane_states: &mut [LaneState<N>])
-    ensures { MeetsAll main.old main.new (passes_in lane_states.old) (passes_in lane_states.new) }
+    ensures met { MeetsAll main.old main.new (passes_in lane_states.old) (passes_in lane_states.new) }
+    ensures refused { map (λ s. s.refused) lane_states.new ≡ map (λ s. s.refused) lane_states.old }
 {
     for lane_state in lane_states.iter_mut() {
         lane_state.meet(desk, main);
@@ -143,7 +149,7 @@ pub fn run_beside<N: Name + Send + Sync, R: Threads + Wait + Sync, C: Answering 
 ) -> Result<Vec<Report>, PoolFault>
     requires lanes { vec_len lanes ≤ length lane_states.old }
     requires ready { All IsReady jobs.now }
-    ensures lanes { AfterLanes at lanes.items lane_states.old lane_states.new }
+    ensures lanes { AfterLanes N.terms at lanes.items lane_states.old lane_states.new }
     ensures reports { IfOk result (λ reports. AllZip (IsSendingOf C.answers) jobs.now reports.items) }
 {
     if lanes.is_empty() {
@@ -166,14 +172,14 @@ fn share<N: Name + Send + Sync, R: Threads + Wait + Sync, C: Answering + Send>(
 ) -> Result<Vec<Report>, PoolFault>
     requires lane_states { 0 < length lane_states.old }
     requires ready { All IsReady jobs.now }
-    ensures lanes { AllRan at lane_states.old lane_states.new }
+    ensures lanes { AllRan N.terms at lane_states.old lane_states.new }
     ensures reports { IfOk result (λ reports. AllZip (IsSendingOf C.answers) jobs.now reports.items) }
 {
     let (_, reports) = join_mut(
         rt,
         &mut ||
             requires { 0 < length lane_states.now }
-            ensures { AllRan at lane_states.entry.now lane_states.exit.now }
+            ensures { AllRan N.terms at lane_states.entry.now lane_states.exit.now }
         { run_lanes(rt, alloc, desk, at, lane_states) },
         &mut ||
             requires { All IsReady jobs.now }
@@ -192,7 +198,7 @@ fn run_lanes<N: Name + Send + Sync, R: Threads + Wait + Sync>(
     lane_states: &mut [LaneState<N>],
 )
     requires { 0 < length lane_states.old }
-    ensures { AllRan at lane_states.old lane_states.new }
+    ensures { AllRan N.terms at lane_states.old lane_states.new }
 {
     let threads = lane_states.len();
     for_each_mut(
@@ -200,7 +206,7 @@ fn run_lanes<N: Name + Send + Sync, R: Threads + Wait + Sync>(
         lane_states,
         threads,
         &|_, lane_state: &mut LaneState<N>|
-            ensures { Ran at lane_state.entry.now lane_state.exit.now }
+            ensures { Ran N.terms at lane_state.entry.now.calls.items lane_state.entry.now.pass lane_state.exit.now }
         { lane_state.run(rt, alloc, desk, at) },
     );
 }
@@ -214,7 +220,10 @@ fn make<N: Name, R: Wait>(
     at: u64,
     call: LaneCall,
 ) -> Result<(), Fault>
-    ensures { OnOk result (MadeCalls (call_at at call ∷ []) pass.old pass.new) }
+    ensures made { OnOk result (MadeCalls (call_at at call ∷ []) pass.old pass.new) }
+    ensures unmade { OnErr result (MadeCalls [] pass.old pass.new) }
+    ensures begins { IsPrefix pass.old.log pass.new.log }
+    ensures refused { IfErr result (λ fault. fault ≢ Fault.NoMemory → RefusesNext N.terms (call ∷ []) pass.new) }
 {
     match call {
         LaneCall::Insert(alert) => {

@@ -13,16 +13,18 @@ ghost use Rattle.std.specs.Prelude.{◌≡◌, ◌<◌, ◌≤◌, ◌+◌, ◌+
 ghost use Rattle.std.specs.Prelude.{true, All, IfErr, IfOk, IsTrue, OnOk, Ok, length, map, vec_len};
 ghost use Rattle.std.specs.List.{AllZip, range_with_len};
 ghost use Rattle.am_alerts.specs.declared.limits.TheConstants.{MAX_MOMENT};
-ghost use Rattle.am_cli.specs.Read.{IsRefusedBy};
+ghost use Rattle.am_cli.specs.Read.{IsRefusedBy, is_refusal};
 ghost use Rattle.am_desk.specs.Desks.{AreFresh, IsPrefixViewOf};
 ghost use Rattle.am_desk.specs.History.{made};
 ghost use Rattle.am_desk.specs.Terms.{terms_of};
+ghost use Rattle.am_model.specs.Replay.{IsLegal};
 ghost use Rattle.am_play.specs.Interleaving.{BeforePhases, MeetsAll, RanConcurrently, RanBefore, RunsPhase};
-ghost use Rattle.am_play.specs.LaneStates.{HaveMade, MadeLanes, NoneRefused, passes_in};
+ghost use Rattle.am_play.specs.LaneStates.{AnyRefused, HaveMade, MadeLanes, NoneRefused, passes_in};
 ghost use Rattle.am_play.specs.Steps.{Begins, Finishes, FinishesOne, Grows, Notes, NotesAt, Sends};
 ghost use Rattle.am_play.specs.Steps.{notes_of, notes_of_all, opened_of, recorded_all};
-ghost use Rattle.am_play.specs.PhaseFaults.{HasNoFault};
+ghost use Rattle.am_play.specs.PhaseFaults.{EndsAsFull, HasNoFault};
 ghost use Rattle.am_pool.specs.Sendings.{IsNotStarved, IsSentFrom};
+ghost use Rattle.am_play.specs.Stops.{BeginsUntilFull, LanesStop, LanesStopBefore, PhaseStops};
 ghost use Rattle.am_play.specs.Turns.{to_send};
 
 use crate::courier::Answering;
@@ -33,7 +35,6 @@ use am_board::begin::Begun;
 use am_board::fault::{Fault, NoteFault};
 use am_board::notice::Report;
 use am_cli::fault::{FaultKind, InputFault};
-use am_cli::place::JsonPointer;
 use am_desk::{CloseFault, Closed, Desk, Name, NotOpen, OwnTicket, Pass};
 use am_pool::PoolFault;
 use am_retry::Outcome;
@@ -60,14 +61,15 @@ pub struct Run<N: Name> {
 }
 
 impl<N: Name + Send + Sync> Run<N> {
-    ghost use Rattle.am_play.specs.Runs.{Gathers, Keeps, Rests, RunsLanes, lanes_of};
+    ghost use Rattle.am_play.specs.Runs.{Gathers, GoesOn, IsWell, Keeps, Rests, RunsLanes, StopsLanes, lanes_of};
 
     /// A run on a desk with all its passes. Refused for want of memory.
     pub fn new(alloc: Global, desk: Desk<N>, passes: Vec<Pass<N>>) -> Result<Run<N>, InputFault>
         requires { AreFresh 0 passes.items × (vec_len passes ≡ N.plan.passes) × (0 < N.plan.passes) }
         ensures lanes { IfOk result (λ run. HaveMade 0 [] (lanes_of run)) }
         ensures main { IfOk result (λ run. BeforePhases run.main (lanes_of run) run.reports.items) }
-        ensures refused { IfErr result (IsRefusedBy FaultKind.Full) }
+        ensures well { IfOk result IsWell }
+        ensures refused { IfErr result (λ fault. fault ≡ InputFault.NoMemory) }
     {
         Run::seated(alloc, desk, passes)
     }
@@ -79,7 +81,8 @@ impl<N: Name + Send + Sync> Run<N> {
             × (map (λ s. s.pass.number) run.lane_states.items ≡ range_with_len 1 (vec_len run.lane_states))) }
         ensures lanes { IfOk result (λ run. HaveMade 0 [] (lanes_of run)) }
         ensures main { IfOk result (λ run. BeforePhases run.main (lanes_of run) run.reports.items) }
-        ensures refused { IfErr result (IsRefusedBy FaultKind.Full) }
+        ensures well { IfOk result IsWell }
+        ensures refused { IfErr result (λ fault. fault ≡ InputFault.NoMemory) }
     {
         let main = passes.remove(0);
         let lane_states = lane_states_for(alloc, &mut passes)?;
@@ -101,10 +104,11 @@ impl<N: Name + Send + Sync> Run<N> {
         ensures reports { IfOk result (λ r. r.1 ≡ self.reports) }
         ensures lanes { IfOk result (λ r. All (λ p. IsPrefixViewOf p r.0.history) (lanes_of self)) }
         ensures others { IfOk result (λ r. (k : ℕ) → length (lanes_of self) < k → made k r.0.history ≡ 0) }
-        ensures refused { IfErr result (IsRefusedBy FaultKind.Full) }
+        ensures legal { IfOk result (λ r. IsLegal N.terms.config N.terms.id r.0.history) }
+        ensures refused { IfErr result (λ fault. fault ≡ InputFault.NoMemory) }
     {
         let Run {
-            alloc,
+            alloc: _,
             desk,
             main,
             lane_states,
@@ -113,7 +117,7 @@ impl<N: Name + Send + Sync> Run<N> {
             reports,
         } = self;
         put_back(&mut passes, main, lane_states)?;
-        Ok((close(alloc, desk, passes)?, reports))
+        Ok((close(desk, passes)?, reports))
     }
 
     /// Runs the phase of this index, with couriers for its notices. All flushes that it begins are
@@ -131,7 +135,10 @@ impl<N: Name + Send + Sync> Run<N> {
         ensures lanes { OnOk result (MadeLanes phase.at phase.lanes.items (lanes_of self.old) (lanes_of self.new)) }
         ensures turn { OnOk result (RunsPhase C.answers N.terms phase self.old.main self.new.main
             (lanes_of self.old) (lanes_of self.new) self.old.reports.items self.new.reports.items) }
+        ensures well { OnOk result (IsWell self.new) }
         ensures refused { IfErr result (IsRefusedBy FaultKind.Full) }
+        ensures full { IfErr result (λ fault. IsTrue (is_refusal fault) → IsWell self.old
+            → PhaseStops N.terms phase self.old.main self.new.main (lanes_of self.old) (lanes_of self.new)) }
     {
         let Phase { at, flush, lanes } = phase;
         let mut tickets = Vec::new(self.alloc);
@@ -149,6 +156,8 @@ impl<N: Name + Send + Sync> Run<N> {
         ensures keeps { Keeps self.old self.new }
         ensures begins { HasNoFault self.new.faults
             → Begins N.terms true false at self.old.main self.new.main tickets.old.items tickets.new.items }
+        ensures full { HasNoFault self.old.faults → EndsAsFull self.new.faults
+            → BeginsUntilFull N.terms at self.old.main self.new.main }
     {
         // This ends, since each begin leaves a record.
         while self.begin(rt, at, tickets) {}
@@ -160,6 +169,9 @@ impl<N: Name + Send + Sync> Run<N> {
         ensures begins { HasNoFault self.new.faults
             → Begins N.terms true result at self.old.main self.new.main tickets.old.items tickets.new.items }
         ensures grows { IsTrue result → Grows N.terms self.old.main self.new.main }
+        ensures well { IsTrue result → self.new.faults ≡ self.old.faults }
+        ensures full { HasNoFault self.old.faults → EndsAsFull self.new.faults
+            → BeginsUntilFull N.terms at self.old.main self.new.main }
     {
         if tickets.reserve(1).is_err() {
             self.faults.add_no_memory();
@@ -204,6 +216,9 @@ impl<N: Name + Send + Sync> Run<N> {
             → RanBefore self.old.main self.new.main (lanes_of self.old) (lanes_of self.new) }
         ensures sent { HasNoFault self.new.faults
             → Sends C.answers N.terms at result.items tickets.old.items tickets.new.items self.old.main self.new.main }
+        ensures well { HasNoFault self.new.faults → NoneRefused self.new.lane_states.items }
+        ensures full { StopsLanes (LanesStopBefore N.terms at lanes.items) self.old self.new }
+        ensures idle { ¬ HasNoFault self.old.faults → self.new ≡ self.old }
     {
         if !self.faults.are_none() {
             return Vec::new(self.alloc);
@@ -234,6 +249,8 @@ impl<N: Name + Send + Sync> Run<N> {
             → RanConcurrently self.old.main self.new.main (lanes_of self.old) (lanes_of self.new) }
         ensures sent { HasNoFault self.new.faults
             → AllZip (IsSentFrom C.answers at) (to_send (map opened_of tickets.now)) result.items }
+        ensures well { HasNoFault self.new.faults → NoneRefused self.new.lane_states.items }
+        ensures full { StopsLanes (LanesStop N.terms at lanes.items) self.old self.new }
     {
         let Ok(jobs) = jobs_of(self.alloc, tickets, at) else {
             self.faults.add_no_memory();
@@ -261,6 +278,7 @@ impl<N: Name + Send + Sync> Run<N> {
         ensures rests { Rests self.old self.new }
         ensures heard { HasNoFault self.new.faults → sent ≡ Ok result }
         ensures fed { HasNoFault self.new.faults → All IsNotStarved result.items }
+        ensures full { EndsAsFull self.new.faults → EndsAsFull self.old.faults }
     {
         match sent {
             Ok(reports) => {
@@ -269,12 +287,10 @@ impl<N: Name + Send + Sync> Run<N> {
                 }
                 reports
             }
-            Err(PoolFault::NoMemory) => {
-                self.faults.add_no_memory();
-                Vec::new(self.alloc)
-            }
+            // Only `NoMemory` ever comes: a scenario has 1 to 8 couriers, and at most 64 flushes
+            // with 16 notices each are open.
             Err(_) => {
-                self.faults.add(Refused::Ending);
+                self.faults.add_no_memory();
                 Vec::new(self.alloc)
             }
         }
@@ -302,9 +318,10 @@ impl<N: Name + Send + Sync> Run<N> {
             → tickets.new.items ≡ map (recorded_all reports.now) tickets.old.items }
         ensures noted { HasNoFault self.new.faults
             → Notes N.terms (notes_of_all at reports.now tickets.new.items) self.old.main self.new.main }
+        ensures goes_on { GoesOn self.old self.new }
     {
         if !record_all(tickets, reports) {
-            self.faults.add(Refused::Ending);
+            self.faults.add_no_memory();
             return;
         }
         self.note_all(rt, at, tickets.as_slice(), reports);
@@ -315,6 +332,7 @@ impl<N: Name + Send + Sync> Run<N> {
         ensures keeps { Keeps self.old self.new }
         ensures noted { HasNoFault self.new.faults
             → Notes N.terms (notes_of_all at reports.now tickets.now) self.old.main self.new.main }
+        ensures goes_on { GoesOn self.old self.new }
     {
         for own in tickets {
             self.settle(rt, at, own, reports);
@@ -326,6 +344,7 @@ impl<N: Name + Send + Sync> Run<N> {
         ensures keeps { Keeps self.old self.new }
         ensures noted { HasNoFault self.new.faults
             → Notes N.terms (notes_of at reports.now own.now own.now.notices) self.old.main self.new.main }
+        ensures goes_on { GoesOn self.old self.new }
     {
         let ticket = own.ticket();
         for (place, notice) in ticket.notices().iter().enumerate() {
@@ -341,6 +360,7 @@ impl<N: Name + Send + Sync> Run<N> {
     fn note<R: Wait>(&mut self, rt: &R, now: u64, own: &OwnTicket<N>, place: usize)
         ensures keeps { Keeps self.old self.new }
         ensures noted { HasNoFault self.new.faults → NotesAt N.terms now own.now place self.old.main self.new.main }
+        ensures goes_on { GoesOn self.old self.new }
     {
         match self
             .desk
@@ -348,8 +368,7 @@ impl<N: Name + Send + Sync> Run<N> {
         {
             Ok(_) => {}
             Err(NoteFault::HistoryFull) => {}
-            Err(NoteFault::NoMemory) => self.faults.add_no_memory(),
-            Err(_) => self.faults.add(Refused::Ending),
+            Err(_) => self.faults.add_no_memory(),
         }
     }
 
@@ -364,6 +383,7 @@ impl<N: Name + Send + Sync> Run<N> {
         ensures keeps { Keeps self.old self.new }
         ensures finished { HasNoFault self.new.faults
             → Finishes at reports.now tickets.items self.old.main self.new.main }
+        ensures goes_on { GoesOn self.old self.new }
     {
         let mut left = tickets;
         while !left.is_empty() {
@@ -377,10 +397,11 @@ impl<N: Name + Send + Sync> Run<N> {
     fn finish<R: Wait>(&mut self, rt: &R, own: OwnTicket<N>, now: u64)
         ensures keeps { Keeps self.old self.new }
         ensures finished { HasNoFault self.new.faults → FinishesOne now own self.old.main self.new.main }
+        ensures goes_on { GoesOn self.old self.new }
     {
         match self.desk.finish_own(rt, &mut self.main, own, now) {
             Ok(_) => {}
-            Err(NotOpen) => self.faults.add(Refused::Ending),
+            Err(NotOpen) => self.faults.add_no_memory(),
         }
     }
 }
@@ -393,7 +414,9 @@ fn hear_joined<N: Name>(
     faults: &mut PhaseFaults,
 )
     ensures heard { HasNoFault faults.new → HasNoFault faults.old × NoneRefused lane_states.old }
+    ensures full { HasNoFault faults.old → EndsAsFull faults.new → AnyRefused lane_states.old }
     ensures met { MeetsAll main.old main.new (passes_in lane_states.old) (passes_in lane_states.new) }
+    ensures refused { map (λ s. s.refused) lane_states.new ≡ map (λ s. s.refused) lane_states.old }
 {
     hear_lanes(lane_states, faults);
     meet_lanes(desk, main, lane_states);
@@ -401,7 +424,8 @@ fn hear_joined<N: Name>(
 
 /// Adds the refused calls of the lanes, by lane.
 fn hear_lanes<N: Name>(lane_states: &[LaneState<N>], faults: &mut PhaseFaults)
-    ensures { HasNoFault faults.new → HasNoFault faults.old × NoneRefused lane_states.now }
+    ensures heard { HasNoFault faults.new → HasNoFault faults.old × NoneRefused lane_states.now }
+    ensures full { HasNoFault faults.old → EndsAsFull faults.new → AnyRefused lane_states.now }
 {
     for (lane, lane_state) in lane_states.iter().enumerate() {
         if let Some((call, fault)) = lane_state.refused() {
@@ -442,7 +466,7 @@ fn put_back<N: Name>(
     lane_states: Vec<LaneState<N>>,
 ) -> Result<(), InputFault>
     ensures passes { OnOk result (passes.new.items ≡ passes.old.items ++ main ∷ passes_in lane_states.items) }
-    ensures refused { IfErr result (IsRefusedBy FaultKind.Full) }
+    ensures refused { IfErr result (λ fault. fault ≡ InputFault.NoMemory) }
 {
     passes.push(main)?;
     for lane_state in lane_states {
@@ -451,12 +475,14 @@ fn put_back<N: Name>(
     Ok(())
 }
 
-/// Closes the desk of a run. No flush is open, and no pass is missing.
-fn close<N: Name>(alloc: Global, desk: Desk<N>, passes: Vec<Pass<N>>) -> Result<Closed, InputFault>
+/// Closes the desk of a run. No flush is open and no pass is missing, but no contract says so.
+/// A close that fails counts as out of memory.
+fn close<N: Name>(desk: Desk<N>, passes: Vec<Pass<N>>) -> Result<Closed, InputFault>
     ensures terms { IfOk result (λ closed. terms_of closed ≡ N.terms) }
     ensures stand { IfOk result (λ closed. All (λ p. IsPrefixViewOf p closed.history) passes.items) }
     ensures others { IfOk result (λ closed. (k : ℕ) → N.plan.passes ≤ k → made k closed.history ≡ 0) }
-    ensures refused { IfErr result (IsRefusedBy FaultKind.Full) }
+    ensures legal { IfOk result (λ closed. IsLegal N.terms.config N.terms.id closed.history) }
+    ensures refused { IfErr result (λ fault. fault ≡ InputFault.NoMemory) }
 {
     match desk.close(passes) {
         Ok(closed) => Ok(closed),
@@ -466,6 +492,6 @@ fn close<N: Name>(alloc: Global, desk: Desk<N>, passes: Vec<Pass<N>>) -> Result<
                 desk: _desk,
                 passes: _passes,
             },
-        ) => Err(JsonPointer::Root.refuse(alloc, FaultKind::Full)),
+        ) => Err(InputFault::NoMemory),
     }
 }

@@ -1,10 +1,11 @@
 //! The faults of a phase. `phase` gathers them and reports the first at its end.
 //!
 //! The first failed call by lane and position counts, whichever came first in time. Out of memory
-//! comes before all.
-ghost use Rattle.std.specs.Prelude.{◌≡◌, ◌↔◌, IfErr, IsOk, IsTrue};
-ghost use Rattle.am_cli.specs.Read.{IsRefusedBy};
-ghost use Rattle.am_play.specs.PhaseFaults.{HasNoFault};
+//! comes before all. An ending that fails counts as out of memory: a report, a note or a finish, all
+//! jobs of a phase, or the close. None ever fails, but no contract says so.
+ghost use Rattle.std.specs.Prelude.{◌≡◌, ◌≢◌, ◌↔◌, true, IfErr, IsOk, IsTrue};
+ghost use Rattle.am_cli.specs.Read.{IsRefusedBy, is_refusal};
+ghost use Rattle.am_play.specs.PhaseFaults.{EndsAsFull, HasNoFault};
 
 use am_board::fault::Fault;
 use am_cli::fault::{FaultKind, InputFault};
@@ -18,8 +19,6 @@ pub enum Refused {
     Begin,
     /// A call of a lane.
     Call { lane: usize, call: usize },
-    /// A report, a note or a finish, or all jobs. None is ever refused.
-    Ending,
 }
 
 /// What has gone wrong so far.
@@ -44,7 +43,6 @@ impl Refused {
                 let lane = lanes.item(lane);
                 lane.item(call).refuse(alloc, FaultKind::Full)
             }
-            Refused::Ending => top.refuse(alloc, FaultKind::Full),
         }
     }
 }
@@ -65,15 +63,17 @@ impl PhaseFaults {
         !self.no_memory && self.first_refused.is_none()
     }
 
+    /// Adds a want of memory, or an ending that failed.
     pub fn add_no_memory(&mut self)
-        ensures { ¬ HasNoFault self.new }
+        ensures { self.new.no_memory ≡ true }
     {
         self.no_memory = true;
     }
 
     /// Adds a call that was refused for this cause.
     pub fn refuse(&mut self, fault: Fault, refused: Refused)
-        ensures { ¬ HasNoFault self.new }
+        ensures heard { ¬ HasNoFault self.new }
+        ensures full { EndsAsFull self.new → fault ≢ Fault.NoMemory }
     {
         match fault {
             Fault::NoMemory => self.add_no_memory(),
@@ -82,7 +82,7 @@ impl PhaseFaults {
     }
 
     /// Adds a refusal. The first one counts.
-    pub fn add(&mut self, refused: Refused)
+    fn add(&mut self, refused: Refused)
         ensures { ¬ HasNoFault self.new }
     {
         if self.first_refused.is_none() {
@@ -94,6 +94,7 @@ impl PhaseFaults {
     pub fn verdict(&self, alloc: Global, phase: usize) -> Result<(), InputFault>
         ensures none { IsOk result ↔ HasNoFault self.now }
         ensures refused { IfErr result (IsRefusedBy FaultKind.Full) }
+        ensures full { IfErr result (λ fault. IsTrue (is_refusal fault) → EndsAsFull self.now) }
     {
         if self.no_memory {
             return Err(InputFault::NoMemory);

@@ -17,19 +17,25 @@
 //! - Where two lists have the same records of each pass, and one begins the other, they are one
 //!   list. So the history is cut at what the main thread's pass had seen after its begins, when the
 //!   lanes were joined, and when a phase ended.
+//! - Where a limit refuses a call, the pass that made it has seen the history at which it does
+//!   (`Stops`). The play ends there, but its desk is closed too: the close shows that nobody made
+//!   other calls (`WhyFull`).
 //! - The list that the pass had seen by then shows where the begins stop for the open flushes, and
 //!   where a note finds no capacity. The closed history begins with each such list. The first has
 //!   just what came before the phase, and its begins.
 ghost use Rattle.std.specs.Prelude.{◌≡◌, ◌≢◌, ◌≤◌, ◌<◌, ◌+◌, ◌++◌, ◌⊎◌, ◌↔◌, All, List, ℕ, length, vec_len};
-ghost use Rattle.std.specs.Prelude.{IfErr, IfOk, None, OnOk, string_bytes};
-ghost use Rattle.am_cli.specs.Read.{IsRefusedBy};
+ghost use Rattle.std.specs.Prelude.{IfErr, IfOk, IsTrue, None, OnOk, string_bytes};
+ghost use Rattle.am_cli.specs.Read.{IsRefusedBy, is_refusal};
 ghost use Rattle.am_desk.specs.Desks.{AreFresh};
 ghost use Rattle.am_desk.specs.Terms.{terms};
 ghost use Rattle.am_model.specs.Config.{config_fault};
 ghost use Rattle.am_model.specs.Replay.{IsLegal};
+ghost use Rattle.am_model.specs.declared.record.Record.{Record};
 ghost use Rattle.am_play.specs.Faults.{Refuses, status_of};
 ghost use Rattle.am_play.specs.Plays.{IsPlay, IsPlayOf};
-ghost use Rattle.am_play.specs.Runs.{HasRun, IsFresh, IsReportOnRun};
+ghost use Rattle.am_play.specs.Runs.{HasRun, IsFresh, IsReportOnRun, lanes_of};
+ghost use Rattle.am_play.specs.Stops.{EndsWith, PassesStop};
+ghost use Rattle.am_play.specs.WhyFull.{IsStuck};
 ghost use Rattle.am_report.specs.Report.{report_text};
 ghost use Rattle.am_scenario.specs.Decoding.{IsScenarioIn};
 ghost use Rattle.am_play.specs.declared.run.TheConstants.{BOARD_ID};
@@ -61,7 +67,8 @@ pub const BOARD_ID: u64 = 1;
 /// `play_scenario` says it. It is made whole before its first byte is written: on every fault but
 /// `Unwritable` the sink wasn't asked. An input is refused as `NotJson` only where it is none, and as
 /// `Refused` only where it is the text of a JSON value; it was read whole before. Where that tells a
-/// scenario, and no matcher looks for a pattern, it is refused at a place only as `Full`.
+/// scenario, and no matcher looks for a pattern, it is refused at a place only as `Full`, and a limit
+/// stops the play.
 pub fn run_scenario<R: AllocGlobal + Threads + Wait + Sync, S: Source, K: Sink>(
     rt: &R,
     source: &mut S,
@@ -124,8 +131,15 @@ fn read(alloc: Global, input: &[u8]) -> Result<Scenario, RunFault>
 /// other: its begins, then the calls of its lanes, then its notes and finishes. How the calls of two
 /// lanes of a phase stand to each other isn't said.
 ///
-/// Refused with the place and the cause, as `run_scenario` tells them, where the configuration or a
-/// call is refused or memory is: where the configuration has no fault, by `Full` or for want of memory.
+/// # Errors
+///
+/// - `Refused` as `BadValue`: the configuration has a fault.
+/// - `Refused` as `Full`: a limit stopped the play. Clause `full`: the phases before one were played
+///   to their end. Then the history has no capacity for the next begin of that phase. Or all its
+///   begins were made, and then the first calls of its lanes, and a limit refuses the next call of a
+///   lane. No clause says that the place is that of the refused call.
+/// - `NoMemory`. It comes before `Full`. No clause says that a report, a note, a finish or the close
+///   of the desk never fails: one that did would give `NoMemory`.
 pub fn play_scenario<R: Threads + Wait + Sync>(
     rt: &R,
     alloc: Global,
@@ -133,6 +147,7 @@ pub fn play_scenario<R: Threads + Wait + Sync>(
 ) -> Result<String, InputFault>
     ensures report { IfOk result (λ text. IsPlayOf BOARD_ID scenario (string_bytes text)) }
     ensures refused { IfErr result (λ fault. config_fault scenario.config ≡ None → IsRefusedBy FaultKind.Full fault) }
+    ensures full { IfErr result (λ fault. config_fault scenario.config ≡ None → IsTrue (is_refusal fault) → IsStuck BOARD_ID scenario) }
 {
     let blank = blank_for(alloc, scenario.phases.as_slice())?;
     play_on::<Brand, Brand, R>(rt, alloc, scenario, blank)
@@ -152,6 +167,7 @@ fn play_on<N: Name + Send + Sync, S: Scripts + Send, R: Threads + Wait + Sync>(
     requires lanes { All (λ p. vec_len p.lanes < blank.passes) scenario.phases.items }
     ensures report { IfOk result (λ text. IsPlayOf BOARD_ID scenario (string_bytes text)) }
     ensures refused { IfErr result (λ fault. config_fault scenario.config ≡ None → IsRefusedBy FaultKind.Full fault) }
+    ensures full { IfErr result (λ fault. config_fault scenario.config ≡ None → IsTrue (is_refusal fault) → IsStuck BOARD_ID scenario) }
 {
     let Scenario {
         config,
@@ -161,8 +177,25 @@ fn play_on<N: Name + Send + Sync, S: Scripts + Send, R: Threads + Wait + Sync>(
     } = scenario;
     let mut run = start::<N>(alloc, config, blank)?;
     let mut couriers = couriers_for::<S>(alloc, workers, scripts.as_slice())?;
-    run_phases(rt, &mut run, couriers.as_mut_slice(), phases)?;
-    report_on_run(alloc, run)
+    match run_phases(rt, &mut run, couriers.as_mut_slice(), phases) {
+        Ok(()) => report_on_run(alloc, run),
+        Err(fault) => Err(close_stopped(run, fault)),
+    }
+}
+
+/// Closes the desk of a run that was stopped by a fault, and returns the fault.
+///
+/// Only the close shows that nobody made other calls. Without it, the passes might have seen calls
+/// that the scenario doesn't ask for. Out of memory comes before the fault.
+fn close_stopped<N: Name + Send + Sync>(run: Run<N>, fault: InputFault) -> InputFault
+    ensures refused { IsRefusedBy FaultKind.Full fault → IsRefusedBy FaultKind.Full result }
+    ensures full { IsTrue (is_refusal result) → IsTrue (is_refusal fault)
+        × ((history : List Record) × EndsWith N.terms run.main (lanes_of run) history) }
+{
+    match run.close() {
+        Ok(_) => fault,
+        Err(_) => InputFault::NoMemory,
+    }
 }
 
 /// A run on a desk of this name, before its first phase.
@@ -173,7 +206,7 @@ fn start<N: Name + Send + Sync>(
 ) -> Result<Run<N>, InputFault>
     requires { (blank ≡ N.plan) × (terms config blank.id ≡ N.terms) }
     ensures fresh { IfOk result IsFresh }
-    ensures refused { IfErr result (λ fault. config_fault config ≡ None → IsRefusedBy FaultKind.Full fault) }
+    ensures refused { IfErr result (λ fault. config_fault config ≡ None → fault ≡ InputFault.NoMemory) }
 {
     let (desk, passes) = open::<N>(alloc, config, blank)?;
     Run::new(alloc, desk, passes)
@@ -190,6 +223,8 @@ fn run_phases<N: Name + Send + Sync, C: Answering + Send, R: Threads + Wait + Sy
     requires lanes { All (λ p. vec_len p.lanes < N.plan.passes) phases.items }
     ensures ran { OnOk result (HasRun C.answers N.terms phases.items run.new) }
     ensures refused { IfErr result (IsRefusedBy FaultKind.Full) }
+    ensures full { IfErr result (λ fault. IsTrue (is_refusal fault)
+        → PassesStop C.answers N.terms phases.items run.new.main (lanes_of run.new)) }
 {
     for (index, phase) in phases.into_iter().enumerate() {
         run.run_phase(rt, couriers, index, phase)?;
@@ -200,7 +235,7 @@ fn run_phases<N: Name + Send + Sync, C: Answering + Send, R: Threads + Wait + Sy
 /// Closes the desk of a run, and makes the report on what it did.
 fn report_on_run<N: Name + Send + Sync>(alloc: Global, run: Run<N>) -> Result<String, InputFault>
     ensures report { IfOk result (λ text. IsReportOnRun N.terms run (string_bytes text)) }
-    ensures refused { IfErr result (IsRefusedBy FaultKind.Full) }
+    ensures refused { IfErr result (λ fault. fault ≡ InputFault.NoMemory) }
 {
     let (closed, reports) = run.close()?;
     Ok(report_of_closed(alloc, closed, reports)?)
@@ -243,7 +278,7 @@ fn report_on(alloc: Global, closed: &Closed, reports: &[Report]) -> Result<Strin
 pub fn blank_for(alloc: Global, phases: &[Phase]) -> Result<Blank, InputFault>
     ensures id { IfOk result (λ blank. blank.id ≡ BOARD_ID) }
     ensures lanes { IfOk result (λ blank. All (λ p. vec_len p.lanes < blank.passes) phases.now) }
-    ensures refused { IfErr result (IsRefusedBy FaultKind.Full) }
+    ensures refused { IfErr result (λ fault. fault ≡ InputFault.NoMemory) }
 {
     let lanes = most_lanes(phases);
     match Blank::new(alloc, BOARD_ID, 1 + lanes as u32) {
@@ -273,7 +308,7 @@ pub fn open<N: Name>(
 ) -> Result<(Desk<N>, Vec<Pass<N>>), InputFault>
     requires { (blank ≡ N.plan) × (terms config blank.id ≡ N.terms) }
     ensures passes { IfOk result (λ r. AreFresh 0 r.1.items × (vec_len r.1 ≡ N.plan.passes) × (0 < N.plan.passes)) }
-    ensures refused { IfErr result (λ fault. config_fault config ≡ None → IsRefusedBy FaultKind.Full fault) }
+    ensures refused { IfErr result (λ fault. config_fault config ≡ None → fault ≡ InputFault.NoMemory) }
 {
     match Desk::<N>::open(alloc, config, blank) {
         Ok(opened) => Ok(opened),

@@ -2,4 +2,5 @@ pub mod Lanes
 pub mod LaneStates
 pub mod Meetings
 pub mod Calls
+pub mod Refused
 pub mod Crossing

@@ -3,3 +3,5 @@ pub mod Turns
 pub mod Steps
 pub mod Noting
 pub mod Parts
+pub mod Stops
+pub mod Stuck

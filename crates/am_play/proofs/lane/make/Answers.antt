@@ -5,14 +5,14 @@ use Rattle.am_scenario.specs.declared.scenario.call.LaneCall.{LaneCall}
 use Rattle.am_play.proofs.lemmas.lanes.Calls.{one_made}
 use Rattle.am_play.proofs.lane.make.Goals as goal
 
-pub returns-in_ok-insert-in-Insert : goal.returns-in_ok-insert-in-Insert
-returns-in_ok-insert-in-Insert g c =
+pub returns-in_ok-insert-in-Insert-clause-made : goal.returns-in_ok-insert-in-Insert-clause-made
+returns-in_ok-insert-in-Insert-clause-made g c =
     subst (λ (x : LaneCall). MadeCalls (call_at c.args.at x ∷ []) c.args.pass.now c.insert.new.pass) (sym c.in-Insert.is) (one_made _ _ _ _ _ _ c.in_ok-insert-in-Insert.ensures.done)
 
-pub returns-in_ok-silence-in-Silence : goal.returns-in_ok-silence-in-Silence
-returns-in_ok-silence-in-Silence g c =
+pub returns-in_ok-silence-in-Silence-clause-made : goal.returns-in_ok-silence-in-Silence-clause-made
+returns-in_ok-silence-in-Silence-clause-made g c =
     subst (λ (x : LaneCall). MadeCalls (call_at c.args.at x ∷ []) c.args.pass.now c.silence.new.pass) (sym c.in-Silence.is) (one_made _ _ _ _ _ _ c.in_ok-silence-in-Silence.ensures.done)
 
-pub returns-in_ok-maintain-in-Maintain : goal.returns-in_ok-maintain-in-Maintain
-returns-in_ok-maintain-in-Maintain g c =
+pub returns-in_ok-maintain-in-Maintain-clause-made : goal.returns-in_ok-maintain-in-Maintain-clause-made
+returns-in_ok-maintain-in-Maintain-clause-made g c =
     subst (λ (x : LaneCall). MadeCalls (call_at c.args.at x ∷ []) c.args.pass.now c.maintain.new.pass) (sym c.in-Maintain.is) (one_made _ _ _ _ _ _ c.in_ok-maintain-in-Maintain.ensures.done)

@@ -1,4 +1,5 @@
 use Rattle.std.proofs.Common.{◌<◌, ◌∙◌, length, length-set, refl, subst, sym, arith}
+use Rattle.std.proofs.Math.Seq.{map-set_same}
 use Rattle.std.proofs.lemmas.List.{length-map}
 use Rattle.am_play.specs.Interleaving.{Meets}
 use Rattle.am_play.specs.LaneStates.{passes_in}
@@ -7,7 +8,7 @@ use Rattle.am_play.proofs.lemmas.lanes.Meetings.{all_met, none_met, seat_met}
 use Rattle.am_play.proofs.lane.meet_lanes.Goals as goal
 
 pub loop-lane_state-init : goal.loop-lane_state-init
-loop-lane_state-init g c = record { count = refl; met = none_met _ _ }
+loop-lane_state-init g c = record { count = refl; met = none_met _ _; refused = refl }
 
 pub loop-lane_state-preserved : goal.loop-lane_state-preserved
 loop-lane_state-preserved g c =
@@ -20,12 +21,13 @@ loop-lane_state-preserved g c =
       count = length-set ss k c.meet.new.self ∙ i.count;
       met =
           seat_met f k c.args.main.now c.loop-lane_state.main c.meet.new.other (passes_in c.args.lane_states.now) ss c.lane_state-item.result c.meet.new.self
-          (omega (arith, within, i.count, length-map c.args.lane_states.now f)) within c.lane_state-item.is i.met c.meet.ensures.0
-          (subst (λ (x : LaneState g.row.N.Denot). Meets c.loop-lane_state.main c.meet.new.other x.pass c.meet.new.self.pass) (sym c.lane_state-item.is) c.meet.ensures.1);
+          (omega (arith, within, i.count, length-map c.args.lane_states.now f)) within c.lane_state-item.is i.met c.meet.ensures.met.0
+          (subst (λ (x : LaneState g.row.N.Denot). Meets c.loop-lane_state.main c.meet.new.other x.pass c.meet.new.self.pass) (sym c.lane_state-item.is) c.meet.ensures.met.1);
+      refused = map-set_same (λ (s : LaneState g.row.N.Denot). s.refused) ss k c.meet.new.self c.lane_state-item.result (c.meet.ensures.refused) ∙ i.refused;
     }
 
-pub returns : goal.returns
-returns g c =
+pub returns-clause-met : goal.returns-clause-met
+returns-clause-met g c =
     let f = λ (s : LaneState g.row.N.Denot). s.pass in
     all_met c.loop-lane_state.lane_state-index _ _ _ _
     (omega (arith, c.loop-lane_state-test.false, c.loop-lane_state.invariant.count, length-map c.args.lane_states.now f))

@@ -21,8 +21,8 @@ pub returns : goal.returns
 returns g c =
     let ss = c.args.lane_states.now in
     let ts = c.for_each_mut.new.s in
-    let at = c.args.at in
-    by_place (Ran at) ss ts c.for_each_mut.auto.s
+    let R = λ (x y : LaneState g.row.N.Denot). Ran g.N.Name.terms c.args.at x.calls.items x.pass y in
+    by_place R ss ts c.for_each_mut.auto.s
     (λ i d lt.
     let k = (c.for_each_mut.ensures i d lt).1 in
-    subst (λ (x : LaneState g.row.N.Denot). Ran at x (get_or ts i d)) k.argument_is (subst (λ (y : LaneState g.row.N.Denot). Ran at k.argument.now y) k.left k.call))
+    subst (λ (x : LaneState g.row.N.Denot). R x (get_or ts i d)) k.argument_is (subst (λ (y : LaneState g.row.N.Denot). R k.argument.now y) k.left k.call))

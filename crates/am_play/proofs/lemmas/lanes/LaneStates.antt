@@ -1,12 +1,13 @@
 -- The states of lanes, over a phase.
-use Rattle.std.proofs.Common.{◌≡◌, ℕ, suc, ◌+◌, ◌<◌, All, subst, List, [], ◌∷◌, ◌++◌, length, get_or, take, map, None, refl, sym, ap, ◌∙◌, arith}
+use Rattle.std.proofs.Common.{◌≡◌, ℕ, suc, ◌+◌, ◌<◌, All, subst, List, [], ◌∷◌, ◌++◌, length, get_or, take, map, refl, sym, ap, ◌∙◌, arith}
 use Rattle.std.specs.List.{AllZip}
 use Rattle.std.proofs.lemmas.List.{map-append, take_more}
 use Rattle.std.proofs.lemmas.List.Elements.{All-head, All-rest}
 use Rattle.am_desk.specs.Known.{Seen}
+use Rattle.am_desk.specs.declared.word.Terms.{Terms}
 use Rattle.am_play.proofs.lemmas.lanes.Calls.{more_made, none_made}
 use Rattle.am_play.specs.Lanes.{call_at}
-use Rattle.am_play.specs.LaneStates.{AfterLanes, AllRan, MadeCalls, passes_in}
+use Rattle.am_play.specs.LaneStates.{AfterLanes, AllRan, MadeCalls, Ran, passes_in}
 use Rattle.am_play.specs.declared.lane.LaneState.{LaneState}
 use Rattle.am_scenario.specs.declared.scenario.Lane.{Lane}
 use Rattle.am_scenario.specs.declared.scenario.call.LaneCall.{LaneCall}
@@ -19,11 +20,11 @@ by_place R (x ∷ xs) [] same each = absurd (omega (arith, same))
 by_place R (x ∷ xs) (y ∷ ys) same each =
     (each 0 x (omega arith), by_place R xs ys (omega (arith, same)) (λ i d lt. each (suc i) d (omega (arith, lt))))
 
-abbrev head_or : {X : Type 0} → X → List X → X
+abbrev pub head_or : {X : Type 0} → X → List X → X
 head_or d [] = d
 head_or d (x ∷ xs) = x
 
-abbrev tail : {X : Type 0} → List X → List X
+abbrev pub tail : {X : Type 0} → List X → List X
 tail [] = []
 tail (x ∷ xs) = xs
 
@@ -33,23 +34,22 @@ none_since [] = tt
 none_since (p ∷ ps) = (none_made p, none_since ps)
 
 -- the first lane states had taken the calls of the lanes and were run, and the others stayed
-pub after_lanes : {N : Type 0} (at : ℕ) (lanes : List Lane) (front taken ran back : List (LaneState N)) → passes_in taken ≡ passes_in front
-    → map (λ (s : LaneState N). s.calls) taken ≡ map (λ (l : Lane). l.calls) lanes → AllRan at taken ran → AfterLanes at lanes (front ++ back) (ran ++ back)
-after_lanes at [] [] [] [] back passes calls all none = none_since (passes_in back)
-after_lanes at [] [] [] (r ∷ rs) back passes calls all none = absurd all
-after_lanes at [] [] (t ∷ ts) ran back passes calls all none = absurd (omega (arith, ap length passes))
-after_lanes at [] (s ∷ ss) [] ran back passes calls all none = absurd (omega (arith, ap length passes))
-after_lanes at [] (s ∷ ss) (t ∷ ts) ran back passes calls all none = absurd (omega (arith, ap length calls))
-after_lanes at (l ∷ ls) [] [] ran back passes calls all none = absurd (omega (arith, ap length calls))
-after_lanes at (l ∷ ls) [] (t ∷ ts) ran back passes calls all none = absurd (omega (arith, ap length passes))
-after_lanes at (l ∷ ls) (s ∷ ss) [] ran back passes calls all none = absurd (omega (arith, ap length passes))
-after_lanes at (l ∷ ls) (s ∷ ss) (t ∷ ts) [] back passes calls all none = absurd all
-after_lanes {N} at (l ∷ ls) (s ∷ ss) (t ∷ ts) (r ∷ rs) back passes calls all none =
-    let pass : t.pass ≡ s.pass = ap (head_or s.pass) passes in
-    let call : t.calls ≡ l.calls = ap (head_or l.calls) calls in
-    let made : MadeCalls (map (call_at at) t.calls.items) t.pass r.pass = all.0 (All-head (λ (x : LaneState N). x.refused ≡ None) r (rs ++ back) none) in (
-      subst (λ p. MadeCalls (map (call_at at) l.calls.items) p r.pass) pass (subst (λ cs. MadeCalls (map (call_at at) cs.items) t.pass r.pass) call made),
-      after_lanes at ls ss ts rs back (ap tail passes) (ap tail calls) all.1 (All-rest (λ (x : LaneState N). x.refused ≡ None) r (rs ++ back) (r ∷ (rs ++ back)) refl none),
+pub after_lanes : {N : Type 0} (t : Terms) (at : ℕ) (lanes : List Lane) (front taken ran back : List (LaneState N)) → passes_in taken ≡ passes_in front
+    → map (λ (s : LaneState N). s.calls) taken ≡ map (λ (l : Lane). l.calls) lanes → AllRan t at taken ran → AfterLanes t at lanes (front ++ back) (ran ++ back)
+after_lanes t at [] [] [] [] back passes calls all = refl
+after_lanes t at [] [] [] (r ∷ rs) back passes calls all = absurd all
+after_lanes t at [] [] (x ∷ xs) ran back passes calls all = absurd (omega (arith, ap length passes))
+after_lanes t at [] (s ∷ ss) [] ran back passes calls all = absurd (omega (arith, ap length passes))
+after_lanes t at [] (s ∷ ss) (x ∷ xs) ran back passes calls all = absurd (omega (arith, ap length calls))
+after_lanes t at (l ∷ ls) [] [] ran back passes calls all = absurd (omega (arith, ap length calls))
+after_lanes t at (l ∷ ls) [] (x ∷ xs) ran back passes calls all = absurd (omega (arith, ap length passes))
+after_lanes t at (l ∷ ls) (s ∷ ss) [] ran back passes calls all = absurd (omega (arith, ap length passes))
+after_lanes t at (l ∷ ls) (s ∷ ss) (x ∷ xs) [] back passes calls all = absurd all
+after_lanes {N} t at (l ∷ ls) (s ∷ ss) (x ∷ xs) (r ∷ rs) back passes calls all =
+    let pass : x.pass ≡ s.pass = ap (head_or s.pass) passes in
+    let call : x.calls ≡ l.calls = ap (head_or l.calls) calls in (
+      subst (λ (p : Seen). Ran t at l.calls.items p r) pass (subst (λ cs. Ran t at cs.items x.pass r) call all.0),
+      after_lanes t at ls ss xs rs back (ap tail passes) (ap tail calls) all.1,
     )
 
 -- one call more of a lane was made

@@ -28,7 +28,7 @@ passes_met t p q l m one other = (
 )
 
 -- what holds place by place follows from what holds place by place
-zip_since : {A B : Type 0} (R S : A → B → Type 0) (xs : List A) (ys : List B) → ((x : A) (y : B) → R x y → S x y) → AllZip R xs ys → AllZip S xs ys
+pub zip_since : {A B : Type 0} (R S : A → B → Type 0) (xs : List A) (ys : List B) → ((x : A) (y : B) → R x y → S x y) → AllZip R xs ys → AllZip S xs ys
 zip_since R S [] [] holds all = tt
 zip_since R S [] (y ∷ ys) holds all = absurd all
 zip_since R S (x ∷ xs) [] holds all = absurd all
@@ -92,7 +92,7 @@ all_met n p q ls ms short few met =
     }
 
 -- a pass that made no record made no call
-no_calls : (l m : Seen) → MadeRecords [] l m → MadeCalls [] l m
+pub no_calls : (l m : Seen) → MadeRecords [] l m → MadeCalls [] l m
 no_calls l m quiet =
     (quiet.0, ap (map (λ (r : Record). r.call)) quiet.1 ∙ map-append (λ (r : Record). r.call) (own l.number l.log) [])
 
@@ -118,7 +118,7 @@ between_meetings at xs p q r ks ls ms ns first made last =
     (zip_since (Meets q r) (MadeCalls []) ms ns (λ m n met. no_calls m n met.0) last.each)
 
 -- the passes of lanes have the same numbers
-abbrev SameNumber : Seen → Seen → Type 0
+abbrev pub SameNumber : Seen → Seen → Type 0
 SameNumber l m = m.number ≡ l.number
 
 lanes_numbers : (at : ℕ) (xs : List Lane) (ls ms : List Seen) → MadeLanes at xs ls ms → AllZip SameNumber ls ms
@@ -148,15 +148,19 @@ made_between p q r k m n start met =
           (subst (λ (rs : List Record). IsPrefix rs (own m.number r.log)) own_is (own_prefix m.number m.log r.log met.2));
     }
 
--- lanes that were run between two meetings
-pub ran_beside : (at : ℕ) (xs : List Lane) (p q r : Seen) (ks ls ms ns : List Seen) → MeetsAll p q ks ls → MadeLanes at xs ls ms → MeetsAll q r ms ns → RanConcurrently p r ks ns
-ran_beside at xs p q r ks ls ms ns first made last =
+-- passes that made calls between two meetings
+pub ran_between : (p q r : Seen) (ks ls ms ns : List Seen) → MeetsAll p q ks ls → AllZip SameNumber ls ms → MeetsAll q r ms ns → RanConcurrently p r ks ns
+ran_between p q r ks ls ms ns first same last =
     record {
       quiet = more_records [] [] p q r first.quiet last.quiet;
       each =
           zip_through (Starts p) (Meets q r) (CalledBetween p.log r.log) ks ms ns (λ k m n start met. made_between p q r k m n start met)
-          (zip_through (Meets p q) SameNumber (Starts p) ks ls ms (λ k l m met same. starts p q k l m met same) first.each (lanes_numbers at xs ls ms made)) last.each;
+          (zip_through (Meets p q) SameNumber (Starts p) ks ls ms (λ k l m met same. starts p q k l m met same) first.each same) last.each;
     }
+
+-- lanes that were run between two meetings
+pub ran_beside : (at : ℕ) (xs : List Lane) (p q r : Seen) (ks ls ms ns : List Seen) → MeetsAll p q ks ls → MadeLanes at xs ls ms → MeetsAll q r ms ns → RanConcurrently p r ks ns
+ran_beside at xs p q r ks ls ms ns first made last = ran_between p q r ks ls ms ns first (lanes_numbers at xs ls ms made) last
 
 -- notes that were made after a meeting
 pub quiet_first : (t : Terms) (calls : List Call) (p q r : Seen) → MadeRecords [] p q → Notes t calls q r → Notes t calls p r

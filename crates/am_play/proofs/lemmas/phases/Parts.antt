@@ -33,7 +33,7 @@ own_there : (k : ℕ) (x : Record) (xs : List Record) → x.pass ≢ k → own k
 own_there k x xs other = ap (λ (b : Bool). cond b (x ∷ own k xs) (own k xs)) (ne_eqb x.pass k other)
 
 -- a pass's own records are of the pass
-own_passes : (k : ℕ) (xs : List Record) → All (λ (r : Record). r.pass ≡ k) (own k xs)
+pub own_passes : (k : ℕ) (xs : List Record) → All (λ (r : Record). r.pass ≡ k) (own k xs)
 own_passes k [] = All-nil (λ (r : Record). r.pass ≡ k)
 own_passes k (x ∷ xs) =
     let Is = λ (r : Record). r.pass ≡ k in
@@ -55,7 +55,7 @@ only_own k (x ∷ xs) none =
     absurd (cc e))
 
 -- what a list has beyond another has no record of a pass of which the two have the same
-own_rest : (k : ℕ) (xs rest ys : List Record) → xs ++ rest ≡ ys → own k ys ≡ own k xs → own k rest ≡ []
+pub own_rest : (k : ℕ) (xs rest ys : List Record) → xs ++ rest ≡ ys → own k ys ≡ own k xs → own k rest ≡ []
 own_rest k xs rest ys is same =
     append_cancel_left (own k xs) (own k rest) [] (sym (own-append k xs rest) ∙ (ap (own k) is ∙ (same ∙ sym (append-nil (own k xs)))))
 
@@ -76,7 +76,7 @@ pub none_before : (k : ℕ) (xs ys : List Record) → IsPrefix xs ys → own k y
 none_before k xs ys begins none = nil_begins (own k xs) (own k ys) (own_prefix k xs ys begins) none
 
 -- three lists that begin each other in a round are one
-round : (xs ys zs : List Record) → IsPrefix xs ys → IsPrefix ys zs → IsPrefix zs xs → (ys ≡ xs) × (zs ≡ xs)
+pub round : (xs ys zs : List Record) → IsPrefix xs ys → IsPrefix ys zs → IsPrefix zs xs → (ys ≡ xs) × (zs ≡ xs)
 round xs ys zs first then last = (
   prefix_both ys xs (prefix_trans ys zs xs then last) first,
   prefix_both zs xs last (prefix_trans xs ys zs first then),
@@ -93,7 +93,7 @@ of_each P n phases (l ∷ ls) have all others k more =
     k (omega (arith, more, ne)))
 
 -- what follows place by place from what holds of the items
-zip_weaker : {A B : Type 0} (R S : A → B → Type 0) (P : A → Type 0) (Q : B → Type 0) (xs : List A) (ys : List B)
+pub zip_weaker : {A B : Type 0} (R S : A → B → Type 0) (P : A → Type 0) (Q : B → Type 0) (xs : List A) (ys : List B)
     → ((x : A) (y : B) → P x → Q y → R x y → S x y) → All P xs → All Q ys → AllZip R xs ys → AllZip S xs ys
 zip_weaker R S P Q [] [] holds firsts seconds all = tt
 zip_weaker R S P Q [] (y ∷ ys) holds firsts seconds all = absurd all
@@ -103,7 +103,7 @@ zip_weaker R S P Q (x ∷ xs) (y ∷ ys) holds firsts seconds all = (
   zip_weaker R S P Q xs ys holds (All-rest P x xs (x ∷ xs) refl firsts) (All-rest Q y ys (y ∷ ys) refl seconds) all.1,
 )
 
-zip_firsts : {A B : Type 0} (R : A → B → Type 0) (P : A → Type 0) (xs : List A) (ys : List B) → ((x : A) (y : B) → R x y → P x) → AllZip R xs ys → All P xs
+pub zip_firsts : {A B : Type 0} (R : A → B → Type 0) (P : A → Type 0) (xs : List A) (ys : List B) → ((x : A) (y : B) → R x y → P x) → AllZip R xs ys → All P xs
 zip_firsts R P [] [] holds all = All-nil P
 zip_firsts R P [] (y ∷ ys) holds all = absurd all
 zip_firsts R P (x ∷ xs) [] holds all = absurd all
@@ -115,14 +115,14 @@ zip_seconds R P [] (y ∷ ys) holds all = absurd all
 zip_seconds R P (x ∷ xs) [] holds all = absurd all
 zip_seconds R P (x ∷ xs) (y ∷ ys) holds all = All-cons P y ys (holds x y all.0) (zip_seconds R P xs ys holds all.1)
 
-zip_length : {A B : Type 0} (R : A → B → Type 0) (xs : List A) (ys : List B) → AllZip R xs ys → length xs ≡ length ys
+pub zip_length : {A B : Type 0} (R : A → B → Type 0) (xs : List A) (ys : List B) → AllZip R xs ys → length xs ≡ length ys
 zip_length R [] [] all = refl
 zip_length R [] (y ∷ ys) all = absurd all
 zip_length R (x ∷ xs) [] all = absurd all
 zip_length R (x ∷ xs) (y ∷ ys) all = omega (arith, zip_length R xs ys all.1)
 
 -- what holds of all holds of the last of them
-all_end : {X : Type 0} (P : X → Type 0) (xs ys : List X) → All P (xs ++ ys) → All P ys
+pub all_end : {X : Type 0} (P : X → Type 0) (xs ys : List X) → All P (xs ++ ys) → All P ys
 all_end P [] ys all = all
 all_end P (x ∷ xs) ys all = all_end P xs ys (All-rest P x (xs ++ ys) (x ∷ (xs ++ ys)) refl all)
 
@@ -208,7 +208,7 @@ passes_over Answers desk phases phase p s ls ms reports since o =
     o.had.sees o.no_more.each t.beside.each
 
 -- passes that aren't there have no record in what comes first
-others_before : (k : ℕ) (ls ms : List Seen) (xs ys : List Record) → length ls ≡ length ms → IsPrefix xs ys → ((j : ℕ) → length ms < j → own j ys ≡ []) → length ls < k → own k xs ≡ []
+pub others_before : (k : ℕ) (ls ms : List Seen) (xs ys : List Record) → length ls ≡ length ms → IsPrefix xs ys → ((j : ℕ) → length ms < j → own j ys ≡ []) → length ls < k → own k xs ≡ []
 others_before k ls ms xs ys same begins others more = none_before k xs ys begins (others k (omega (arith, same, more)))
 
 -- the part of a phase that is over, and how the list goes on with it
@@ -301,7 +301,7 @@ parts_push desk before (p ∷ ps) (x ∷ xs) phase part are is = (
 )
 
 -- before the phase nobody had more than it had made
-no_more_before : (p s : Seen) (ls ms : List Seen) (begun joined : List Record) → IsPrefix p.log begun → IsPrefix p.log s.log → AllZip (CalledBetween begun joined) ls ms → HasNoOtherCalls ms s.log
+pub no_more_before : (p s : Seen) (ls ms : List Seen) (begun joined : List Record) → IsPrefix p.log begun → IsPrefix p.log s.log → AllZip (CalledBetween begun joined) ls ms → HasNoOtherCalls ms s.log
     → HasNoOtherCalls ls p.log
 no_more_before p s ls ms begun joined first all between no_more =
     record {

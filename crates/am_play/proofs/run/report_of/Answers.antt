@@ -16,6 +16,8 @@ returns-in_err-play_scenario-clause-refused g c =
     let input = c.args.input.now in
     let told = c.in_ok-scenario.ensures.scenario in
     let fault = c.in_err-play_scenario.field-0.0 in
-    let full = c.in_err-play_scenario.ensures.refused (sound_config input c.in_ok-scenario.scenario told) in
+    let sound = sound_config input c.in_ok-scenario.scenario told in
+    let full = c.in_err-play_scenario.ensures.refused sound in
     handed_on input c.from_residual-in_err-play_scenario.result (fault_of_input fault) c.from_residual-in_err-play_scenario.ensures.1
-    (unplayed input fault (told.value, told.text) full)
+    (unplayed input fault (told.value, told.text) full
+    (λ refusal. record { scenario = c.in_ok-scenario.scenario; told = told; stuck = c.in_err-play_scenario.ensures.full sound refusal }))

@@ -1,4 +1,4 @@
-use Rattle.std.proofs.Common.{◌≡◌, ◌∙◌, ℕ, ap, subst}
+use Rattle.std.proofs.Common.{◌≡◌, ◌∙◌, ℕ, ap, refl, subst}
 use Rattle.std.proofs.lemmas.Result.{err_from_is_err_and}
 use Rattle.am_model.specs.declared.config.Config.{Config}
 use Rattle.am_model.specs.Replay.{IsLegal}
@@ -29,4 +29,4 @@ returns-clause-report g c =
 pub returns-in_err-report_of_closed-clause-refused : goal.returns-in_err-report_of_closed-clause-refused
 returns-in_err-report_of_closed-clause-refused g c =
     let p = err_from_is_err_and c.from_residual-in_err-report_of_closed.result c.from_residual-in_err-report_of_closed.ensures.1 in
-    rw (p.1, p.2) tt
+    rw (p.1, p.2) refl

@@ -9,6 +9,7 @@ abbrev pub invariant-loop : goal.invariant-loop
 invariant-loop g l = record {
   keeps : Keeps l.initial.self l.self;
   begins : HasNoFault l.self.faults → Begins g.N.Name.terms true true l.at l.initial.self.main l.self.main l.initial.tickets.items l.tickets.items;
+  well : HasNoFault l.initial.self.faults → HasNoFault l.self.faults;
 }
 
 -- how many records there may be more

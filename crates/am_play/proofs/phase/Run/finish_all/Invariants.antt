@@ -1,5 +1,5 @@
 use Rattle.std.proofs.Common.{vec_len}
-use Rattle.am_play.specs.Runs.{Keeps}
+use Rattle.am_play.specs.Runs.{GoesOn, Keeps}
 use Rattle.am_play.specs.PhaseFaults.{HasNoFault}
 use Rattle.am_play.proofs.lemmas.phases.Turns.{FinishesSoFar}
 use Rattle.am_play.proofs.phase.Run.finish_all.Given as goal
@@ -7,6 +7,7 @@ use Rattle.am_play.proofs.phase.Run.finish_all.Given as goal
 abbrev pub invariant-loop-left : goal.invariant-loop-left
 invariant-loop-left g l = record {
   keeps : Keeps l.fn.self l.self;
+  goes_on : GoesOn l.fn.self l.self;
   finished : HasNoFault l.self.faults → FinishesSoFar l.at l.reports l.fn.tickets.items l.left.items l.fn.self.main l.self.main;
 }
 

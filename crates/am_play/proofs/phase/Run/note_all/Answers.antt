@@ -1,4 +1,5 @@
 use Rattle.std.proofs.Common.{◌∙◌, refl, arith}
+use Rattle.am_desk.proofs.Prefixes.{prefix_trans}
 use Rattle.am_play.proofs.lemmas.phases.Noting.{noted_ticket}
 use Rattle.am_play.proofs.phase.Run.note_all.Goals as goal
 
@@ -10,6 +11,7 @@ loop-own-preserved g c =
     let own = c.own-item.result in
     record {
       keeps = (k.0 ∙ i.keeps.0, k.1 ∙ i.keeps.1, λ none. i.keeps.2 (k.2 none));
+      goes_on = (prefix_trans _ _ _ i.goes_on.0 c.settle.ensures.goes_on.0, λ full. i.goes_on.1 (c.settle.ensures.goes_on.1 full));
       noted = λ none.
           noted_ticket g.N.Name.terms c.args.at c.args.reports.now ts c.loop-own.own-index _ own c.args.self.now.main c.loop-own.self.main c.settle.new.self.main
           refl (omega (arith, c.loop-own-test.true)) c.own-item.is (i.noted (k.2 none)) (c.settle.ensures.noted none);

@@ -6,9 +6,12 @@ use Rattle.am_model.specs.Notice.{NoticeData}
 use Rattle.am_pool.specs.declared.worker.Job.{Job}
 use Rattle.am_play.specs.Interleaving.{RanConcurrently}
 use Rattle.am_play.specs.Runs.{lanes_of}
-use Rattle.am_play.specs.LaneStates.{MadeLanes, passes_in}
+use Rattle.am_play.specs.LaneStates.{MadeLanes, NoneRefused, passes_in}
+use Rattle.am_play.specs.Stops.{LanesStop}
+use Rattle.am_play.specs.declared.lane.LaneState.{LaneState}
 use Rattle.am_pool.specs.Sendings.{IsSendingOf, IsSentFrom}
 use Rattle.am_play.proofs.lemmas.lanes.Meetings.{between_meetings, ran_beside}
+use Rattle.am_play.proofs.lemmas.lanes.Refused.{all_stop, lanes_made, none_kept}
 use Rattle.am_play.proofs.lemmas.sending.Sendings.{sent_each}
 use Rattle.am_play.proofs.phase.Run.run_beside.Goals as goal
 
@@ -20,8 +23,8 @@ returns-clause-lanes g c none =
     let is = c.hear_couriers.new.self in
     let kept = c.hear_couriers.ensures.keeps in
     let heard = c.hear_joined.ensures.heard (kept.2 none) in
-    let first = rw c.as_mut_slice-lane_states.ensures.value at c.meet_lanes.ensures in
-    let made = c.run_beside-sent.ensures.lanes heard.1 in
+    let first = rw c.as_mut_slice-lane_states.ensures.value at c.meet_lanes.ensures.met in
+    let made = lanes_made g.N.Name.terms at xs _ _ c.run_beside-sent.ensures.lanes heard.1 in
     let long : length c.hear_joined.new.lane_states ≡ was.lane_states.len =
     omega (arith, c.hear_joined.auto.lane_states, c.run_beside-sent.auto.lane_states, c.meet_lanes.auto.lane_states, ap length c.as_mut_slice-lane_states.ensures.value, was.lane_states.ok.0)
     in
@@ -38,8 +41,8 @@ returns-clause-beside g c none =
     let is = c.hear_couriers.new.self in
     let kept = c.hear_couriers.ensures.keeps in
     let heard = c.hear_joined.ensures.heard (kept.2 none) in
-    let first = rw c.as_mut_slice-lane_states.ensures.value at c.meet_lanes.ensures in
-    let made = c.run_beside-sent.ensures.lanes heard.1 in
+    let first = rw c.as_mut_slice-lane_states.ensures.value at c.meet_lanes.ensures.met in
+    let made = lanes_made g.N.Name.terms at xs _ _ c.run_beside-sent.ensures.lanes heard.1 in
     let long : length c.hear_joined.new.lane_states ≡ was.lane_states.len =
     omega (arith, c.hear_joined.auto.lane_states, c.run_beside-sent.auto.lane_states, c.meet_lanes.auto.lane_states, ap length c.as_mut_slice-lane_states.ensures.value, was.lane_states.ok.0)
     in
@@ -60,3 +63,37 @@ returns-clause-sent g c none =
     let fed = c.hear_couriers.ensures.fed none in
     subst (λ (ns : List NoticeData). AllZip (IsSentFrom answers c.args.at) ns reports) c.in-Ok.ensures.notices
     (sent_each answers c.args.at jobs reports c.in-Ok.ensures.starts fed are)
+
+pub returns-clause-well : goal.returns-clause-well
+returns-clause-well g c none =
+    let was = c.args.self.now in
+    let is = c.hear_couriers.new.self in
+    let kept = c.hear_couriers.ensures.keeps in
+    let heard = c.hear_joined.ensures.heard (kept.2 none) in
+    let long : length c.hear_joined.new.lane_states ≡ was.lane_states.len =
+    omega (arith, c.hear_joined.auto.lane_states, c.run_beside-sent.auto.lane_states, c.meet_lanes.auto.lane_states, ap length c.as_mut_slice-lane_states.ensures.value, was.lane_states.ok.0)
+    in
+    let items : is.lane_states.items ≡ c.hear_joined.new.lane_states = ap (λ v. v.items) kept.0 ∙ take_at c.hear_joined.new.lane_states _ _ long in
+    subst (λ (ss : List (LaneState g.row.N.Denot)). NoneRefused ss) (sym items) (none_kept c.run_beside-sent.new.lane_states c.hear_joined.new.lane_states c.hear_joined.ensures.refused heard.1)
+
+pub returns-clause-full : goal.returns-clause-full
+returns-clause-full g c well full =
+    let t = g.N.Name.terms in
+    let at = c.args.at in
+    let xs = c.args.lanes.items in
+    let was = c.args.self.now in
+    let is = c.hear_couriers.new.self in
+    let kept = c.hear_couriers.ensures.keeps in
+    let ss : List (LaneState g.row.N.Denot) = c.meet_lanes.new.lane_states in
+    let us : List (LaneState g.row.N.Denot) = c.run_beside-sent.new.lane_states in
+    let any = c.hear_joined.ensures.full well.0 (c.hear_couriers.ensures.full full) in
+    let first = rw c.as_mut_slice-lane_states.ensures.value at c.meet_lanes.ensures.met in
+    let same = rw c.as_mut_slice-lane_states.ensures.value at c.meet_lanes.ensures.refused in
+    let none = none_kept was.lane_states.items ss same well.1 in
+    let long : length c.hear_joined.new.lane_states ≡ was.lane_states.len =
+    omega (arith, c.hear_joined.auto.lane_states, c.run_beside-sent.auto.lane_states, c.meet_lanes.auto.lane_states, ap length c.as_mut_slice-lane_states.ensures.value, was.lane_states.ok.0)
+    in
+    let items : is.lane_states.items ≡ c.hear_joined.new.lane_states = ap (λ v. v.items) kept.0 ∙ take_at c.hear_joined.new.lane_states _ _ long in
+    subst (λ ls. LanesStop t at xs was.main is.main (lanes_of was) (passes_in ls)) (sym items)
+    (subst (λ (r : Seen). LanesStop t at xs was.main r (lanes_of was) (passes_in c.hear_joined.new.lane_states)) (sym c.hear_couriers.ensures.rests.0)
+    (all_stop t at xs _ _ _ _ ss us _ none first c.run_beside-sent.ensures.lanes c.hear_joined.ensures.met any))

@@ -40,3 +40,6 @@ returns-clause-main g c =
     let passes = rw c.remove-main.ensures.items at c.in_ok-lane_states.ensures.passes in
     subst (λ (qs : List Seen). BeforePhases c.remove-main.result qs c.new.result.items) (sym passes)
     (first_is_fresh 0 ps c.remove-main.result c.requires.0 some c.remove-main.ensures.value, first.1, c.new.ensures.items)
+
+pub returns-clause-well : goal.returns-clause-well
+returns-clause-well g c = (c.none.ensures, c.in_ok-lane_states.ensures.well)

@@ -1,4 +1,6 @@
 use Rattle.std.proofs.Common.{◌≡◌, ◌∙◌, ◌+◌, ◌<◌, ◌||◌, Some, length, get_or, slice_get, take, refl, sym, ap, subst, arith}
+use mathlib.Core.List.{IsPrefix}
+use Rattle.am_desk.proofs.Prefixes.{prefix_trans}
 use Rattle.std.specs.Option.{option_and_then}
 use Rattle.std.proofs.lemmas.Option.{slice_get_read}
 use Rattle.am_model.specs.Finish.{is_delivered}
@@ -7,7 +9,7 @@ use Rattle.am_model.specs.Ticket.{TicketData, outcome_of}
 use Rattle.am_desk.specs.Known.{Seen}
 use Rattle.am_pool.specs.Sendings.{end_on}
 use Rattle.am_play.specs.Steps.{Notes, is_recorded_success, notes_of}
-use Rattle.am_play.specs.PhaseFaults.{HasNoFault}
+use Rattle.am_play.specs.PhaseFaults.{EndsAsFull, HasNoFault}
 use Rattle.am_play.specs.Turns.{report_on}
 use Rattle.am_play.proofs.lemmas.phases.Noting.{noted_next, passed_next}
 use Rattle.am_play.proofs.phase.Run.settle.Goals as goal
@@ -47,6 +49,8 @@ loop-place-preserved g c =
           in
           record {
             keeps = (ap (λ s. s.lane_states) w.self-is ∙ (k.0 ∙ i.keeps.0), ap (λ s. s.reports) w.self-is ∙ (k.1 ∙ i.keeps.1), λ none. i.keeps.2 (k.2 (subst (λ s. HasNoFault s.faults) w.self-is none)));
+            goes_on =
+                (subst (λ x. IsPrefix p.log x.main.log) (sym w.self-is) (prefix_trans p.log q.log s.log i.goes_on.0 w.note.ensures.goes_on.0), λ full. i.goes_on.1 (w.note.ensures.goes_on.1 (subst (λ x. EndsAsFull x.faults) w.self-is full)));
             noted = λ none.
                 let now : HasNoFault w.note.new.self.faults = subst (λ s. HasNoFault s.faults) w.self-is none in
                 subst (λ x. Notes top due p x.main) (sym w.self-is)
@@ -55,6 +59,7 @@ loop-place-preserved g c =
       | else-succeeded w ↦
           record {
             keeps = (ap (λ s. s.lane_states) w.self-is ∙ i.keeps.0, ap (λ s. s.reports) w.self-is ∙ i.keeps.1, λ none. i.keeps.2 (subst (λ s. HasNoFault s.faults) w.self-is none));
+            goes_on = (subst (λ x. IsPrefix p.log x.main.log) (sym w.self-is) i.goes_on.0, λ full. i.goes_on.1 (subst (λ x. EndsAsFull x.faults) w.self-is full));
             noted = λ none.
                 let was : HasNoFault c.loop-place.self.faults = subst (λ s. HasNoFault s.faults) w.self-is none in
                 subst (λ x. Notes top due p x.main) (sym w.self-is)

@@ -1,5 +1,5 @@
 use Rattle.std.proofs.Common.{take}
-use Rattle.am_play.specs.Runs.{Keeps}
+use Rattle.am_play.specs.Runs.{GoesOn, Keeps}
 use Rattle.am_play.specs.Steps.{Notes, notes_of}
 use Rattle.am_play.specs.PhaseFaults.{HasNoFault}
 use Rattle.am_play.proofs.phase.Run.settle.Given as goal
@@ -8,5 +8,6 @@ use Rattle.am_play.proofs.phase.Run.settle.Given as goal
 abbrev pub invariant-loop-place : goal.invariant-loop-place
 invariant-loop-place g l = record {
   keeps : Keeps l.fn.self l.self;
+  goes_on : GoesOn l.fn.self l.self;
   noted : HasNoFault l.self.faults → Notes g.N.Name.terms (notes_of l.at l.reports l.own (take l.place l.own.notices)) l.fn.self.main l.self.main;
 }

@@ -85,12 +85,57 @@ def folded(full, objects):
     return "".join(f"{line}\n" for line in kept + lines[len(objects):])
 
 
+# The line on a new dispatcher, between empty lines.
+HEAD = re.compile(r"(\n\d\S* +(?:reload |restart) [^\n]*\n\n)")
+
+
+def folded_parts(full, objects):
+    """A full output, in which each dispatcher's timeline has one line for each run."""
+    text = ""
+    for place, part in enumerate(HEAD.split(full)):
+        lines = part.splitlines()
+        count = lines.index("") if "" in lines else len(lines)
+        text += part if place % 2 else folded(part, objects[:count])
+        objects = objects if place % 2 else objects[count:]
+    return None if objects else text
+
+
 def check_folds(name):
     """The stored text is the full timeline with one line for each run."""
     file = str(forms(name)[-1])
     full, objects = run("", "play", file, "--all"), run("", "play", file, "--output", "json")
-    wanted = folded(full[1], [json.loads(it) for it in objects[1].splitlines()])
+    wanted = folded_parts(full[1], [json.loads(it) for it in objects[1].splitlines()])
     tell(f"{name}, folded", (REHEARSALS / f"{name}.txt").read_text() == wanted)
+
+
+def check_dispatchers():
+    """A story whose dispatcher is reloaded or restarted has one line on each new dispatcher, in the order of their times; no
+    page, whatever its own output; and no comparison."""
+    names = [it.stem for it in REHEARSALS.glob("*.yml") if handovers(stored(it.stem))]
+    for name in names:
+        story, text = stored(name), (REHEARSALS / f"{name}.txt").read_text()
+        heads = [it.split()[1] for it in HEAD.findall(text)]
+        tell(f"{name}: a line on each new dispatcher", heads == handovers(story), f"{heads}")
+        for output in ("html", "timeline", "json"):
+            got = run(json.dumps({**story, "output": output}), *PLAY, "--output", "html")
+            is_right = got[:2] == (2, "") and faults_in(got[2]) == ["/output: value"]
+            tell(f"{name}: no page in place of {output}", is_right, got[2])
+    tell(f"{len(names)} stories with several dispatchers", len(names) >= 8)
+
+
+def handovers(story):
+    """Which of `reload` and `restart` come, in the order of their times."""
+    items = []
+    for word in ("reload", "restart"):
+        told = story.get(word, [])
+        items += [(milliseconds(it["at"]), word) for it in (told if isinstance(told, list) else [told])]
+    return [word for _, word in sorted(items)]
+
+
+def milliseconds(text):
+    """A duration of hours, minutes and seconds in milliseconds."""
+    units = {"h": 3_600_000, "m": 60_000, "s": 1_000, "ms": 1}
+    return sum(int(count) * units[unit] for count, unit in re.findall(r"(\d+)(ms|h|m|s)", text))
 
 
 def check_output(name):
@@ -434,6 +479,7 @@ def main():
     for name in names:
         check_output(name)
     check_first_run()
+    check_dispatchers()
     for scenario in scenarios:
         check_scenario(scenario)
     tell("as many rehearsals and scenarios as there were", len(names) >= 28 and len(scenarios) >= 9)

@@ -16,7 +16,7 @@ pub(crate) enum Wanted {
 }
 
 /// The fields that are known by name, those of stories first.
-pub(crate) const FIELDS: [(&str, Wanted); 77] = [
+pub(crate) const FIELDS: [(&str, Wanted); 80] = [
     ("config", Wanted::Object),
     ("alertmanager", Wanted::Object),
     ("start", Wanted::Text),
@@ -27,6 +27,9 @@ pub(crate) const FIELDS: [(&str, Wanted); 77] = [
     ("maintain", Wanted::Duration),
     ("outages", Wanted::Objects),
     ("expect", Wanted::Objects),
+    ("reload", Wanted::Objects),
+    ("restart", Wanted::Objects),
+    ("keeps", Wanted::Text),
     ("output", Wanted::Text),
     ("labels", Wanted::Labels),
     ("from", Wanted::Duration),

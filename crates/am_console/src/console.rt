@@ -1,6 +1,7 @@
 //! What a command reads from and prints to.
 use crate::bounds::{bounds, wrong_of};
 use crate::files::{FileFault, PaintedOutput, read};
+use crate::handover_words::explain_handover;
 use crate::matcher_words::explain_matcher;
 use crate::story_words::explain_story;
 use crate::time_words::explain_times;
@@ -267,6 +268,9 @@ fn words_for(
         return Ok(words);
     }
     if let Some(words) = explain_story(alloc, top, pointer, fault_kind)? {
+        return Ok(words);
+    }
+    if let Some(words) = explain_handover(alloc, top, pointer, fault_kind)? {
         return Ok(words);
     }
     if let Some(words) = explain_matcher(alloc, top, pointer, fault_kind)? {

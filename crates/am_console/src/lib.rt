@@ -7,6 +7,7 @@
 mod bounds;
 pub mod console;
 pub mod files;
+mod handover_words;
 pub mod matcher_words;
 pub mod progress;
 pub mod story_words;

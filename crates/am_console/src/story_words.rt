@@ -11,6 +11,10 @@ use std::alloc::{AllocError, Global};
 pub const PAGE_HAS_NO_LINES: &str =
     "--receiver, --group, --alert and --changes leave out lines; a page has none";
 
+/// Why a page isn't made of a story that reloads or restarts the dispatcher.
+const PAGE_HAS_ONE_DISPATCHER: &str =
+    "a page shows one dispatcher; it can't show a reload or a restart";
+
 /// A field of an expectation, and what stands there.
 #[derive(Clone, Copy)]
 struct Field<'v, 'p> {
@@ -22,16 +26,16 @@ struct Field<'v, 'p> {
     value: &'v Value,
 }
 
-/// Returns what is wrong with the value at a JSON pointer of a story, where it is about an expectation, or about a page of
-/// which lines are to be left out.
+/// Returns what is wrong with the value at a JSON pointer of a story, where it is about an expectation, or about a page that
+/// isn't made.
 pub fn explain_story(
     alloc: Global,
     story: &Value,
     pointer: &str,
     fault_kind: FaultKind,
 ) -> Result<Option<String>, AllocError> {
-    if pointer == "/output" && is_page(story) {
-        return Ok(Some(String::from_str(alloc, PAGE_HAS_NO_LINES)?));
+    if pointer == "/output" && fault_kind == FaultKind::BadValue {
+        return explain_page(alloc, story);
     }
     if pointer == "/expect" && fault_kind == FaultKind::BadValue {
         return Ok(Some(format!(in alloc;
@@ -44,9 +48,29 @@ pub fn explain_story(
     }
 }
 
-/// Returns whether the output that a story asks for is a page.
-fn is_page(story: &Value) -> bool {
-    story.get("output").and_then(Value::as_str) == Some("html")
+/// Returns why a page isn't made of a story, where that is why its output is refused. The command line may ask for the page.
+fn explain_page(alloc: Global, story: &Value) -> Result<Option<String>, AllocError> {
+    let words = match story.get("output").and_then(Value::as_str) {
+        None | Some("timeline" | "notices" | "json" | "html") if has_handovers(story) => {
+            PAGE_HAS_ONE_DISPATCHER
+        }
+        Some("html") => PAGE_HAS_NO_LINES,
+        _ => return Ok(None),
+    };
+    Ok(Some(String::from_str(alloc, words)?))
+}
+
+/// Returns whether a story reloads or restarts the dispatcher.
+fn has_handovers(story: &Value) -> bool {
+    has_items(story, "reload") || has_items(story, "restart")
+}
+
+/// Returns whether a story has something in a list, or one item in place of it.
+fn has_items(story: &Value, name: &str) -> bool {
+    match story.get(name) {
+        None => false,
+        Some(list) => !is_empty(list),
+    }
 }
 
 /// Returns what is wrong with a field of an expectation, if it is known here.

@@ -1,3 +1,6 @@
 pub mod Answering
+pub mod Leaving
 pub mod Making
 pub mod Pieces
+pub mod Sending
+pub mod Serving

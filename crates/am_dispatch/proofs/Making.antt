@@ -1,8 +1,8 @@
 -- What calls of the board leave, and what their answers tell.
-use Rattle.std.proofs.Common.{◌≡◌, ◌≢◌, ◌∙◌, ◌<◌, ◌==◌, ◌++◌, ◌∷◌, ℕ, List, [], IfSome, Option, Some, Result, Ok, Err, ap, arith, codes, drop, length, refl, remove, slice_get, slice_index_or, subst, sym, true≢false}
+use Rattle.std.proofs.Common.{◌≡◌, ◌∙◌, ◌<◌, ◌==◌, ◌++◌, ◌∷◌, ℕ, List, [], IfSome, Option, Some, Result, Ok, Err, ap, arith, codes, drop, length, refl, remove, slice_get, slice_index_or, subst, sym, true≢false}
 use Rattle.std.proofs.Math.Seq.{drop-append_seam}
 use Rattle.std.specs.List.{position}
-use Rattle.std.specs.Result.{IsOk, OnOk, IfErr}
+use Rattle.std.specs.Result.{IsOk, OnOk}
 use Rattle.std.proofs.lemmas.Option.{slice_get_read}
 use Rattle.std.proofs.lemmas.Result.{on_ok_weaker}
 use Rattle.json.specs.Token.{Token}
@@ -18,8 +18,6 @@ use Rattle.am_model.specs.Replay.{IsLegal}
 use Rattle.am_model.specs.Ticket.{TicketData}
 use Rattle.am_board.specs.declared.begin.Begun.{Begun}
 use Rattle.am_board.specs.History.{BoardData, IsFresh, IsReplyAt, handed_out, kept_of, opening, reply_of, with_record}
-use Rattle.am_lines.specs.declared.fault.LineFault.{LineFault}
-use Rattle.am_lines.specs.declared.fault.LineFault.TheVariants.{Spent, Untold}
 use Rattle.am_lines.specs.declared.request.Finishing.{Finishing}
 use Rattle.am_lines.specs.declared.request.Loading.{Loading}
 use Rattle.am_lines.specs.declared.request.Noting.{Noting}
@@ -56,17 +54,6 @@ both A B r told b = on_ok_weaker {Q = A × B} r (λ (a : A). (a, b)) told
 pub shown : {T E : Type 0} (board : BoardData) (tickets : List TicketData) (A : Type 0) (r : Result T E)
     → OnOk r A → OnOk r (((board ≡ board) × (tickets ≡ tickets)) × A)
 shown board tickets A r = on_ok_weaker {Q = ((board ≡ board) × (tickets ≡ tickets)) × A} r (λ (a : A). ((refl, refl), a))
-
-pub leaves_all : {T : Type 0} (r : Result T LineFault) (board : BoardData) (tickets : List TicketData)
-    → IfErr r (λ f. f ≢ Untold → f ≢ Spent → (board ≡ board) × (tickets ≡ tickets))
-leaves_all (Ok x) board tickets = tt
-leaves_all (Err f) board tickets = λ _ _. (refl, refl)
-
--- where only the answer can't be told, the call was made
-pub untold_leaves : {T : Type 0} (r : Result T LineFault) (old new : BoardData) (olds news : List TicketData)
-    → IfErr r (λ f. f ≡ Untold) → IfErr r (λ f. f ≢ Untold → f ≢ Spent → (new ≡ old) × (news ≡ olds))
-untold_leaves (Ok x) old new olds news is = tt
-untold_leaves (Err f) old new olds news is = λ differs _. absurd (differs is)
 
 -- a begin that was made, and told by the reply under the configuration that the board has afterwards
 pub begins : {T E : Type 0} (r : Result T E) (old new : Session) (now : ℕ) (b : Begun) (before after : List Token) (mid : BoardData) (mids : List TicketData)

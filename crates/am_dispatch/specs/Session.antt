@@ -1,11 +1,13 @@
 -- Session: what a session does with what a line asks, and what the answer tells.
-use Rattle.std.specs.Prelude.{◌≡◌, ◌≢◌, ◌==◌, ℕ, List, [], ◌∷◌, ◌++◌, Some, codes, remove}
+use Rattle.std.specs.Prelude.{◌≡◌, ◌⊎◌, ◌<◌, ◌==◌, ℕ, List, [], ◌∷◌, ◌++◌, Some, None, codes, length, remove}
 use Rattle.std.specs.List.{position}
 use Rattle.json.specs.Print.{print}
 use Rattle.json.specs.Token.{Token}
 use Rattle.serde_json.specs.Data.{Data}
 use Rattle.serde_json.specs.Read.{read}
+use Rattle.am_cli.specs.Read.{IsNoJson}
 use Rattle.am_cli.specs.declared.reader.Dialect.TheVariants.{Strict}
+use Rattle.am_cli.specs.declared.transfer.TheConstants.{MAX_INPUT}
 use Rattle.am_model.specs.declared.views.Summary.{Summary}
 use Rattle.am_model.specs.declared.record.Call.{Call}
 use Rattle.am_model.specs.declared.record.Call.TheVariants as call
@@ -16,6 +18,7 @@ use Rattle.am_model.specs.Begin.{next_due}
 use Rattle.am_model.specs.declared.views.RowView.{RowView}
 use Rattle.am_model.specs.Records.{call_of_silence, entry, IsNoteOf}
 use Rattle.am_model.specs.Replay.{IsLegal}
+use Rattle.am_model.specs.State.{flush_numbered}
 use Rattle.am_model.specs.Ticket.{TicketData}
 use Rattle.am_model.specs.Views.{group_views, row_views, summary, summary_data}
 use Rattle.am_model.specs.look_back.Preview.{preview}
@@ -43,10 +46,6 @@ use Rattle.am_dispatch.specs.declared.ticket.TheConstants.{HOME}
 -- the board and the tickets are as they were
 abbrev pub IsSame : Session → Session → Type 0
 IsSame old new = (new.board ≡ old.board) × (new.tickets.items ≡ old.tickets.items)
-
--- what a fault leaves: all as it was, unless the call was made and its answer can't be told, or the ticket of a finish was spent
-abbrev pub Leaves : Session → Session → LineFault → Type 0
-Leaves old new f = f ≢ fault.Untold → f ≢ fault.Spent → IsSame old new
 
 -- the board makes this call: it records it with the reply that the definitions give, and the answer tells that reply
 pub record MakesWith (old new : Session) (made : Call) (reply : Reply) (before after : List Token) : Type 0 where
@@ -163,9 +162,47 @@ Does old request.Tickets new before after =
     Shows old new (listed (codes "tickets") (ticket_tokens old.board.config) old.tickets.items) before after
 Does old request.TakeHistory new before after = HandsOut old new × (after ≡ before ++ taken_tokens old.board)
 
+-- the session has done what is asked, whatever is told of it
+abbrev pub HasDone : Session → Request → Session → Type 0
+HasDone old asked new = (tokens : List Token) × Does old asked new [] tokens
+
+-- a finish took its ticket, and the board has no open flush of that number
+pub record Spends (old new : Session) (f : Finishing) : Type 0 where
+  pub place : ℕ
+  pub ticket : TicketData
+  pub at : IsFirst f.ticket old.tickets.items place ticket
+  pub not_open : flush_numbered (state_at old.board).flushes ticket.number ≡ None
+  pub board : new.board ≡ old.board
+  pub tickets : new.tickets.items ≡ remove old.tickets.items place
+
+abbrev pub SpendsTicket : Session → Request → Session → Type 0
+SpendsTicket old (request.Finish f) new = Spends old new f
+SpendsTicket old asked new = ⊥
+
+-- what is asked and isn't answered by what it asks for leaves all as it was. Except that the call was made, if only memory for
+-- its answer was refused, and that a finish has spent its ticket, if the board has no such flush
+abbrev pub Leaves : Session → Request → Session → LineFault → Type 0
+Leaves old asked new (fault.NotJson column) = ⊥
+Leaves old asked new fault.TooLong = ⊥
+Leaves old asked new fault.NoMemory = IsSame old new
+Leaves old asked new fault.Untold = HasDone old asked new
+Leaves old asked new fault.Spent = SpendsTicket old asked new
+Leaves old asked new (fault.Refused place kind) = ⊥
+Leaves old asked new (fault.NotMade place kind message) = IsSame old new
+
 -- the line is the JSON text of what asks this
 abbrev pub IsAsked : List ℕ → Request → Type 0
 IsAsked line request = (value : Data) × (read line ≡ Some value) × IsRequestIn Strict value request
+
+-- what keeps a line from asking something: it is no JSON, or too long, or its value is refused; of memory nothing is said
+abbrev pub IsUnread : List ℕ → LineFault → Type 0
+IsUnread line (fault.NotJson column) = IsNoJson line
+IsUnread line fault.TooLong = MAX_INPUT < length line
+IsUnread line fault.NoMemory = Unit {0}
+IsUnread line fault.Untold = ⊥
+IsUnread line fault.Spent = ⊥
+IsUnread line (fault.Refused place kind) = (value : Data) × (read line ≡ Some value)
+IsUnread line (fault.NotMade place kind message) = ⊥
 
 -- the session does what is asked, and the text tells it: its tokens, and a line feed
 pub record IsTold (old : Session) (request : Request) (text : List ℕ) (new : Session) : Type 0 where
@@ -176,3 +213,7 @@ pub record IsTold (old : Session) (request : Request) (text : List ℕ) (new : S
 -- the line asks something of the session, and the text tells what it did
 abbrev pub IsAnswered : Session → List ℕ → List ℕ → Session → Type 0
 IsAnswered old line text new = (request : Request) × IsAsked line request × IsTold old request text new
+
+-- a line that isn't answered by what it asks can't be read, and leaves all as it was, or its call isn't made or isn't told
+abbrev pub Refuses : Session → List ℕ → Session → LineFault → Type 0
+Refuses old line new f = (IsUnread line f × IsSame old new) ⊎ ((asked : Request) × IsAsked line asked × Leaves old asked new f)

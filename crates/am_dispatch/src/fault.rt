@@ -25,12 +25,22 @@ impl ServeFault {
 }
 
 impl From<DeviceFault> for ServeFault {
+    ghost use Rattle.std.specs.Prelude.{◌≡◌};
+    ghost use Rattle.am_dispatch.specs.declared.fault.ServeFault.TheVariants as serve_fault;
+
+    ghost from_gives = { λ _ given. given ≡ serve_fault.Unreadable };
+
     fn from(_fault: DeviceFault) -> ServeFault {
         ServeFault::Unreadable
     }
 }
 
 impl From<Unwritable> for ServeFault {
+    ghost use Rattle.std.specs.Prelude.{◌≡◌};
+    ghost use Rattle.am_dispatch.specs.declared.fault.ServeFault.TheVariants as serve_fault;
+
+    ghost from_gives = { λ _ given. given ≡ serve_fault.Unwritable };
+
     fn from(_fault: Unwritable) -> ServeFault {
         ServeFault::Unwritable
     }

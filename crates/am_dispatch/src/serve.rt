@@ -1,18 +1,24 @@
 //! Reading lines and writing answers, until the input ends. `main` calls it.
-ghost use Rattle.std.specs.Prelude.{◌≢◌, IfErr, IfOk};
-ghost use Rattle.am_dispatch.specs.Session.{IsAnswered, IsAsked, IsTold, Leaves};
+//!
+//! Contracts say of each line how it is answered, as `Serves` of specs/Serve.antt has it, and what is written where a read or a write fails.
+ghost use Rattle.std.specs.Prelude.{◌≡◌, ◌≢◌, ◌+◌, ◌++◌, [], ◌∷◌, List, ℕ, IfErr, IfOk, IsErrAnd, IsFalse, IsTrue, None, OnErr, OnOk, Option, Some, false, if◌then◌else◌, is_ok};
+ghost use Rattle.am_lines.specs.Fault.{IsUnmade, TellsFault, fault_line};
+ghost use Rattle.am_lines.specs.Lines.{IsRead, end_count};
+ghost use Rattle.am_dispatch.specs.Serve.{AnswersLine, Breaks, IsOpenedBy, OpensNone, Opened, Sends, Served, ServesAll, Stops, is_remark};
+ghost use Rattle.am_dispatch.specs.Session.{IsAnswered, IsAsked, IsTold, IsUnread, Leaves, Refuses};
+ghost use Rattle.am_dispatch.specs.declared.session.Session.{Session};
 
 use crate::fault::ServeFault;
 use crate::session::Session;
 use am_cli::device::{Sink, Source};
 use am_cli::reader::{Reader, parse};
-use am_cli::transfer::write_all;
+use am_cli::transfer::Unwritable;
 use am_lines::answer::Answer;
-use am_lines::fault::{LineFault, NO_MEMORY_LINE};
+use am_lines::fault::{LineFault, no_memory_line};
 use am_lines::lines::{LineRead, LineReader};
 use am_lines::reply::write_opened;
 use am_lines::request::{Opening, Request, read_request};
-use std::alloc::Global;
+use std::alloc::{AllocError, Global};
 
 /// Answers each line of the source with a line to the sink, one after the other, until the source ends.
 ///
@@ -23,18 +29,24 @@ pub fn serve<S: Source, K: Sink>(
     alloc: Global,
     source: &mut S,
     sink: &mut K,
-) -> Result<(), ServeFault> {
+) -> Result<(), ServeFault>
+    ensures served { OnOk result ((last : Option Session)
+        × ServesAll None last (S.given source.old) (S.given source.new) (K.taken sink.old) (K.taken sink.new)) }
+    ensures ended { OnOk result (S.ended source.new ≡ S.ended source.old + 1) }
+    ensures fine { OnOk result ((S.failed source.new ≡ S.failed source.old) × (K.failed sink.new ≡ K.failed sink.old)) }
+    ensures stopped { IfErr result (λ fault. Stops fault None record { unused = []; ended = false }
+        (S.given source.old) (S.given source.new) (K.taken sink.old) (K.taken sink.new)
+        (S.failed source.old) (S.failed source.new) (K.failed sink.old) (K.failed sink.new)) }
+{
     let mut lines = LineReader::new();
     let mut line = Vec::new(alloc);
-    match first_session(alloc, &mut lines, &mut line, source, sink)? {
-        None => Ok(()),
-        Some(session) => {
-            let mut session = session;
-            let served = serve_on(alloc, &mut session, &mut lines, &mut line, source, sink);
-            session.close();
-            served
-        }
-    }
+    let Some(session) = first_session(alloc, &mut lines, &mut line, source, sink)? else {
+        return Ok(());
+    };
+    let mut session = session;
+    let served = serve_on(alloc, &mut session, &mut lines, &mut line, source, sink);
+    session.close();
+    served
 }
 
 /// Answers lines until one has a configuration, and returns the session of that; none where the source ends before.
@@ -44,23 +56,23 @@ fn first_session<S: Source, K: Sink>(
     line: &mut Vec<u8>,
     source: &mut S,
     sink: &mut K,
-) -> Result<Option<Session>, ServeFault> {
+) -> Result<Option<Session>, ServeFault>
+    ensures served { IfOk result (λ made. Served None made lines.old lines.new
+        (S.given source.old) (S.given source.new) (K.taken sink.old) (K.taken sink.new)) }
+    ensures used { IfOk result (λ made. made ≡ None → (lines.new.unused ≡ []) × IsTrue lines.new.ended) }
+    ensures ended { OnOk result (S.ended source.new + end_count lines.old ≡ S.ended source.old + end_count lines.new) }
+    ensures fine { OnOk result ((S.failed source.new ≡ S.failed source.old) × (K.failed sink.new ≡ K.failed sink.old)) }
+    ensures stopped { IfErr result (λ fault. Stops fault None lines.old
+        (S.given source.old) (S.given source.new) (K.taken sink.old) (K.taken sink.new)
+        (S.failed source.old) (S.failed source.new) (K.failed sink.old) (K.failed sink.new)) }
+{
     for _ in 0..u64::MAX {
-        let read = next_request(lines, line, source, sink)?;
-        if matches!(read, LineRead::End) {
+        let read = lines.read_line(source, line)?;
+        if read.is_end() {
             return Ok(None);
         }
-        match open(alloc, read, line.as_slice()) {
-            Ok((session, answer)) => {
-                return match write_all(sink, answer.as_slice()) {
-                    Ok(()) => Ok(Some(session)),
-                    Err(_) => {
-                        session.close();
-                        Err(ServeFault::Unwritable)
-                    }
-                };
-            }
-            Err(fault) => write_fault(alloc, &fault, sink)?,
+        if let Some(session) = answer_first(alloc, read, line.as_slice(), sink)? {
+            return Ok(Some(session));
         }
     }
     Err(ServeFault::Unreadable)
@@ -74,55 +86,177 @@ fn serve_on<S: Source, K: Sink>(
     line: &mut Vec<u8>,
     source: &mut S,
     sink: &mut K,
-) -> Result<(), ServeFault> {
+) -> Result<(), ServeFault>
+    ensures served { OnOk result (Served (Some session.old) (Some session.new) lines.old lines.new
+        (S.given source.old) (S.given source.new) (K.taken sink.old) (K.taken sink.new)) }
+    ensures used { OnOk result ((lines.new.unused ≡ []) × IsTrue lines.new.ended) }
+    ensures ended { OnOk result (S.ended source.new + end_count lines.old ≡ S.ended source.old + end_count lines.new) }
+    ensures fine { OnOk result ((S.failed source.new ≡ S.failed source.old) × (K.failed sink.new ≡ K.failed sink.old)) }
+    ensures stopped { IfErr result (λ fault. Stops fault (Some session.old) lines.old
+        (S.given source.old) (S.given source.new) (K.taken sink.old) (K.taken sink.new)
+        (S.failed source.old) (S.failed source.new) (K.failed sink.old) (K.failed sink.new)) }
+{
     for _ in 0..u64::MAX {
-        let read = next_request(lines, line, source, sink)?;
-        if matches!(read, LineRead::End) {
+        let read = lines.read_line(source, line)?;
+        if read.is_end() {
             return Ok(());
         }
-        match respond(alloc, session, read, line.as_slice()) {
-            Ok(answer) => write_all(sink, answer.as_slice())?,
-            Err(fault) => write_fault(alloc, &fault, sink)?,
-        }
+        answer_line(alloc, session, read, line.as_slice(), sink)?;
     }
     Err(ServeFault::Unreadable)
 }
 
-/// Reads the next line that asks something. The comments and empty lines before it are answered by themselves.
-fn next_request<S: Source, K: Sink>(
-    lines: &mut LineReader,
-    line: &mut Vec<u8>,
-    source: &mut S,
+/// Answers a line of which no session is there yet, and returns that which it opens.
+fn answer_first<K: Sink>(
+    alloc: Global,
+    read: LineRead,
+    line: &[u8],
     sink: &mut K,
-) -> Result<LineRead, ServeFault> {
-    for _ in 0..u64::MAX {
-        let read = lines.read_line(source, line)?;
-        let is_comment = matches!(line.as_slice(), [] | [b'#', ..]);
-        if !matches!(read, LineRead::Whole) || !is_comment {
-            return Ok(read);
-        }
-        write_all(sink, line.as_slice())?;
-        write_all(sink, b"\n")?;
+) -> Result<Option<Session>, Unwritable>
+    ensures answered { IfOk result (λ made. (text : List ℕ) → IsRead read text line.now
+        → Sends (λ answer. AnswersLine None text answer made) (K.taken sink.old) (K.taken sink.new)) }
+    ensures broken { OnErr result ((text : List ℕ) → IsRead read text line.now
+        → (made : Option Session) × Breaks (λ answer. AnswersLine None text answer made) (K.taken sink.old) (K.taken sink.new)) }
+    ensures failed { K.failed sink.new ≡ K.failed sink.old + (if is_ok result then 0 else 1) }
+{
+    if is_echoed(read, line) {
+        echo(line, sink)?;
+        return Ok(None);
     }
-    Err(ServeFault::Unreadable)
+    match open(alloc, read, line) {
+        Ok((session, answer)) => match write_text(answer.as_slice(), sink) {
+            Ok(()) => Ok(Some(session)),
+            Err(fault) => {
+                session.close();
+                Err(fault)
+            }
+        },
+        Err(fault) => {
+            write_fault(alloc, &fault, sink)?;
+            Ok(None)
+        }
+    }
+}
+
+/// Answers a line of a session.
+fn answer_line<K: Sink>(
+    alloc: Global,
+    session: &mut Session,
+    read: LineRead,
+    line: &[u8],
+    sink: &mut K,
+) -> Result<(), Unwritable>
+    ensures answered { OnOk result ((text : List ℕ) → IsRead read text line.now
+        → Sends (λ answer. AnswersLine (Some session.old) text answer (Some session.new)) (K.taken sink.old) (K.taken sink.new)) }
+    ensures broken { OnErr result ((text : List ℕ) → IsRead read text line.now
+        → Breaks (λ answer. AnswersLine (Some session.old) text answer (Some session.new)) (K.taken sink.old) (K.taken sink.new)) }
+    ensures failed { K.failed sink.new ≡ K.failed sink.old + (if is_ok result then 0 else 1) }
+{
+    if is_echoed(read, line) {
+        return echo(line, sink);
+    }
+    match respond(alloc, session, read, line) {
+        Ok(answer) => write_text(answer.as_slice(), sink),
+        Err(fault) => write_fault(alloc, &fault, sink),
+    }
+}
+
+/// Whether a line is answered by itself: a comment, or an empty one.
+fn is_echoed(read: LineRead, line: &[u8]) -> bool
+    ensures echoed { IsTrue result → (read ≡ LineRead.Whole) × IsTrue (is_remark line.now) }
+    ensures other { IsFalse result → read ≡ LineRead.Whole → IsFalse (is_remark line.now) }
+{
+    match read {
+        LineRead::Whole => is_remark(line),
+        LineRead::TooLong | LineRead::NoMemory | LineRead::End => false,
+    }
+}
+
+fn is_remark(line: &[u8]) -> bool
+    ensures { result ≡ is_remark line.now }
+{
+    match line.first() {
+        None => true,
+        Some(byte) => *byte == b'#',
+    }
+}
+
+/// Writes a line as it is.
+fn echo<K: Sink>(line: &[u8], sink: &mut K) -> Result<(), Unwritable>
+    ensures whole { OnOk result (Sends (λ text. text ≡ line.now ++ 10 ∷ []) (K.taken sink.old) (K.taken sink.new)) }
+    ensures part { OnErr result (Breaks (λ text. text ≡ line.now ++ 10 ∷ []) (K.taken sink.old) (K.taken sink.new)) }
+    ensures failed { K.failed sink.new ≡ K.failed sink.old + (if is_ok result then 0 else 1) }
+{
+    write_text(line, sink)?;
+    write_text(b"\n", sink)
+}
+
+/// Writes the line that tells a fault.
+fn write_fault<K: Sink>(alloc: Global, fault: &LineFault, sink: &mut K) -> Result<(), Unwritable>
+    ensures whole { OnOk result (Sends (TellsFault fault.now) (K.taken sink.old) (K.taken sink.new)) }
+    ensures part { OnErr result (Breaks (TellsFault fault.now) (K.taken sink.old) (K.taken sink.new)) }
+    ensures failed { K.failed sink.new ≡ K.failed sink.old + (if is_ok result then 0 else 1) }
+{
+    if let Some(line) = fault.ready_line() {
+        return write_text(line.as_bytes(), sink);
+    }
+    match fault_text(alloc, fault) {
+        Ok(line) => write_text(line.as_slice(), sink),
+        Err(_) => write_text(no_memory_line().as_bytes(), sink),
+    }
+}
+
+/// Makes the line that tells a fault.
+fn fault_text(alloc: Global, fault: &LineFault) -> Result<Vec<u8>, AllocError>
+    ensures { IfOk result (λ line. line.items ≡ fault_line fault.now) }
+{
+    let mut answer = Answer::new(alloc);
+    fault.write(&mut answer)?;
+    answer.into_line()
+}
+
+/// Writes a text. Where a write fails, the front of it may have been written.
+fn write_text<K: Sink>(text: &[u8], sink: &mut K) -> Result<(), Unwritable>
+    ensures whole { OnOk result (Sends (λ all. all ≡ text.now) (K.taken sink.old) (K.taken sink.new)) }
+    ensures part { OnErr result (Breaks (λ all. all ≡ text.now) (K.taken sink.old) (K.taken sink.new)) }
+    ensures failed { K.failed sink.new ≡ K.failed sink.old + (if is_ok result then 0 else 1) }
+{
+    let mut rest = text;
+    while !rest.is_empty() {
+        match sink.write(rest) {
+            Err(_) | Ok(0) => return Err(Unwritable),
+            Ok(taken) => rest = &rest[taken..],
+        }
+    }
+    Ok(())
 }
 
 /// Opens the session that a line asks for, and makes the line that answers it.
-fn open(alloc: Global, read: LineRead, line: &[u8]) -> Result<(Session, Vec<u8>), LineFault> {
+fn open(alloc: Global, read: LineRead, line: &[u8]) -> Result<(Session, Vec<u8>), LineFault>
+    ensures told { IfOk result (λ made. (text : List ℕ) → IsRead read text line.now → Opened text made.1.items made.0) }
+    ensures refused { IfErr result (λ fault. (text : List ℕ) → IsRead read text line.now → OpensNone text fault) }
+    ensures unread { read ≡ LineRead.NoMemory → IsErrAnd result (λ fault. fault ≡ LineFault.NoMemory) }
+{
     match request_of(alloc, read, line)? {
-        Request::Open(opening) => {
-            let Opening { config, ignored } = opening;
-            let mut answer = Answer::new(alloc);
-            write_opened(&ignored, &mut answer)?;
-            let line = answer.into_line()?;
-            Ok((Session::open(alloc, config)?, line))
-        }
+        Request::Open(opening) => open_session(alloc, opening),
         _ => Err(LineFault::NotMade {
             place: "",
             kind: "NoBoard",
             message: "the first line has to be a configuration: config or alertmanager",
         }),
     }
+}
+
+/// Opens a session, and makes the line that answers its opening.
+fn open_session(alloc: Global, opening: Opening) -> Result<(Session, Vec<u8>), LineFault>
+    ensures told { IfOk result (λ made. IsOpenedBy opening made.1.items made.0) }
+    ensures refused { IfErr result IsUnmade }
+{
+    let Opening { config, ignored } = opening;
+    let mut answer = Answer::new(alloc);
+    write_opened(&ignored, &mut answer)?;
+    let line = answer.into_line()?;
+    Ok((Session::open(alloc, config)?, line))
 }
 
 /// Does what a line asks of a session, and makes the line that answers it.
@@ -132,8 +266,11 @@ pub fn respond(
     read: LineRead,
     line: &[u8],
 ) -> Result<Vec<u8>, LineFault>
-    ensures told { IfOk result (λ text. IsAnswered session.old line.now text.items session.new) }
-    ensures refused { IfErr result (Leaves session.old session.new) }
+    ensures told { IfOk result (λ answer. (text : List ℕ) → IsRead read text line.now
+        → IsAnswered session.old text answer.items session.new) }
+    ensures refused { IfErr result (λ fault. (text : List ℕ) → IsRead read text line.now
+        → Refuses session.old text session.new fault) }
+    ensures unread { read ≡ LineRead.NoMemory → IsErrAnd result (λ fault. fault ≡ LineFault.NoMemory) }
 {
     let request = request_of(alloc, read, line)?;
     if matches!(request, Request::TakeHistory) {
@@ -147,7 +284,7 @@ pub fn respond(
 fn make_line(alloc: Global, session: &mut Session, request: Request) -> Result<Vec<u8>, LineFault>
     requires { request ≢ Request.TakeHistory }
     ensures told { IfOk result (λ text. IsTold session.old request text.items session.new) }
-    ensures refused { IfErr result (Leaves session.old session.new) }
+    ensures refused { IfErr result (Leaves session.old request session.new) }
 {
     let mut answer = Answer::new(alloc);
     session.answer(alloc, request, &mut answer)?;
@@ -159,25 +296,22 @@ fn make_line(alloc: Global, session: &mut Session, request: Request) -> Result<V
 
 /// What a line asks.
 fn request_of(alloc: Global, read: LineRead, line: &[u8]) -> Result<Request, LineFault>
-    ensures { IfOk result (IsAsked line.now) }
+    ensures asked { IfOk result (λ request. (text : List ℕ) → IsRead read text line.now → IsAsked text request) }
+    ensures refused { IfErr result (λ fault. (text : List ℕ) → IsRead read text line.now → IsUnread text fault) }
+    ensures unread { read ≡ LineRead.NoMemory → IsErrAnd result (λ fault. fault ≡ LineFault.NoMemory) }
 {
     match read {
         LineRead::TooLong => Err(LineFault::TooLong),
         LineRead::NoMemory => Err(LineFault::NoMemory),
-        LineRead::Whole | LineRead::End => {
-            let value = parse(alloc, line)?;
-            Ok(read_request(&Reader::strict(alloc, &value))?)
-        }
+        LineRead::Whole | LineRead::End => request_in(alloc, line),
     }
 }
 
-/// Writes the line that tells a fault.
-fn write_fault<K: Sink>(alloc: Global, fault: &LineFault, sink: &mut K) -> Result<(), ServeFault> {
-    let mut answer = Answer::new(alloc);
-    if fault.write(&mut answer).is_ok() {
-        if let Ok(line) = answer.into_line() {
-            return Ok(write_all(sink, line.as_slice())?);
-        }
-    }
-    Ok(write_all(sink, NO_MEMORY_LINE.as_bytes())?)
+/// What the text of a line asks.
+fn request_in(alloc: Global, line: &[u8]) -> Result<Request, LineFault>
+    ensures asked { IfOk result (IsAsked line.now) }
+    ensures refused { IfErr result (IsUnread line.now) }
+{
+    let value = parse(alloc, line)?;
+    Ok(read_request(&Reader::strict(alloc, &value))?)
 }

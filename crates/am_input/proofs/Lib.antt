@@ -6,3 +6,5 @@ pub mod Refusals
 pub mod Listed
 -- starts that a member can't tell
 pub mod Starts
+-- what items tell of handovers
+pub mod ToldHandovers

@@ -1,5 +1,7 @@
 -- what a rehearsal asks for
 pub mod Request
+-- the reloads and restarts of a story
+pub mod Handovers
 -- under which configuration a story is played
 pub mod Configured
 -- the time zones that a story tells

@@ -15,9 +15,12 @@ use Rattle.am_terms.specs.declared.expectation.Expectation.{Expectation}
 use Rattle.am_terms.specs.UtcDates.{IsReadFrom, StartData, dated}
 use Rattle.am_terms.specs.TimeFormatData.{TimeFormatData, counted}
 use Rattle.am_input.specs.Configured.{IsConfigFor, file_in}
+use Rattle.am_input.specs.Handovers.{AreHandoversIn, AreHandoversWithoutPatterns}
+use Rattle.am_plans.specs.Configs.{configs_of}
 use Rattle.am_plans.specs.Decoding.{DecodesToOutage, have_places}
 use Rattle.am_plans.specs.Expected.{AreExpectedIn, HaveNoPatternIn, last_end, until_in}
 use Rattle.am_plans.specs.Planned.{ArePlannedWithoutPatterns, ArePlannedIn}
+use Rattle.am_terms.specs.declared.handover.Handover.{Handover}
 use Rattle.am_terms.specs.declared.rehearsal.Rehearsal.{Rehearsal}
 use Rattle.am_input.specs.Zones.{AreZonesIn}
 use Rattle.am_input.specs.declared.input.TheConstants.{MAINTAIN}
@@ -65,16 +68,17 @@ maintain_in (Some member) = interval_in member
 -- the names of the members of a story
 abbrev pub member_names : List (List ℕ)
 member_names =
-    codes "config" ∷ codes "alertmanager" ∷ codes "start" ∷ codes "zones" ∷ codes "until" ∷ codes "alerts" ∷ codes "silences"
-    ∷ codes "maintain" ∷ codes "outages" ∷ codes "expect" ∷ codes "output" ∷ []
+    codes "config" ∷ codes "alertmanager" ∷ codes "reload" ∷ codes "restart" ∷ codes "start" ∷ codes "zones" ∷ codes "until"
+    ∷ codes "alerts" ∷ codes "silences" ∷ codes "maintain" ∷ codes "outages" ∷ codes "expect" ∷ codes "output" ∷ []
 
 -- these members, each of a known name, with what the command line says in place of some, ask for this output, give this start and have
 -- these expectations, of a rehearsal that has the configuration, the actions and the outages that they tell, and ends and is maintained
--- as they say
+-- as they say; and these are the reloads and restarts that they tell
 pub record Requests (dialect : Dialect) (changes : Changes) (members : Members) (output : Output) (start : Option StartData)
-    (expectations : List Expectation) (rehearsal : Rehearsal) : Type 0 where
+    (expectations : List Expectation) (handovers : List Handover) (rehearsal : Rehearsal) : Type 0 where
   pub known : IsTrue (has_only dialect member_names members)
   pub configures : IsConfigFor (file_in changes) dialect members rehearsal.config
+  pub hands_over : AreHandoversIn dialect (file_in changes) rehearsal.until members handovers
   pub zones : AreZonesIn (get_member (codes "zones") members)
   pub tells : output_for changes.overrides.output (get_member (codes "output") members) ≡ Some output
   pub starts : DecodesToStart (get_member (codes "start") members) start
@@ -82,20 +86,23 @@ pub record Requests (dialect : Dialect) (changes : Changes) (members : Members) 
   pub maintains : maintain_in (get_member (codes "maintain") members) ≡ Some rehearsal.maintain
   pub plans : ArePlannedIn dialect members rehearsal.plans.items
   pub outages : HasOr (IsList (DecodesToOutage dialect)) [] (codes "outages") members rehearsal.outages.items
-  pub places : IsTrue (have_places rehearsal.config rehearsal.outages.items)
-  pub expects : AreExpectedIn dialect rehearsal.config rehearsal.until (last_end rehearsal.until members) rehearsal.plans.items
-      (get_member (codes "expect") members) expectations
+  pub places : IsTrue (have_places (configs_of rehearsal.config handovers) rehearsal.outages.items)
+  pub expects : AreExpectedIn dialect (configs_of rehearsal.config handovers) rehearsal.until (last_end rehearsal.until members)
+      rehearsal.plans.items (get_member (codes "expect") members) expectations
 
 -- a JSON value is an object whose members ask for this
-abbrev pub IsRequestIn : Changes → Data → Output → Option StartData → List Expectation → Rehearsal → Type 0
-IsRequestIn changes value output start expectations rehearsal =
-    IsSomeAnd (as_object value) (λ members. Requests Strict changes members output start expectations rehearsal)
+abbrev pub IsRequestIn : Changes → Data → Output → Option StartData → List Expectation → List Handover → Rehearsal → Type 0
+IsRequestIn changes value output start expectations handovers rehearsal =
+    IsSomeAnd (as_object value) (λ members. Requests Strict changes members output start expectations handovers rehearsal)
 
--- what is asked for isn't refused: the configuration is the story's own and stands in `config`, and no matcher looks for a pattern
-pub record IsWithoutPatterns (dialect : Dialect) (changes : Changes) (members : Members) (rehearsal : Rehearsal) : Type 0 where
+-- what is asked for isn't refused: the configuration is the story's own and stands in `config`, as that of each reload does, and no
+-- matcher looks for a pattern
+pub record IsWithoutPatterns (dialect : Dialect) (changes : Changes) (members : Members) (handovers : List Handover)
+    (rehearsal : Rehearsal) : Type 0 where
   pub own : file_in changes ≡ None
   pub ours : HasNone (codes "alertmanager") members
   pub config : IsTrue (config_compares_texts rehearsal.config)
+  pub hands_over : AreHandoversWithoutPatterns dialect (file_in changes) rehearsal.until members handovers
   pub plans : ArePlannedWithoutPatterns dialect members rehearsal.plans.items
   pub expects : HaveNoPatternIn dialect (get_member (codes "expect") members)
 
@@ -105,6 +112,7 @@ RefusesAll Tells (One fault) = Excludes Tells fault
 RefusesAll {X = X} Tells (All faults) = (x : X) → Tells x → ⊥
 
 -- a JSON value is an object whose members ask for this, which isn't refused
-abbrev pub IsRequestWithoutPatterns : Changes → Data → Output → Option StartData → List Expectation → Rehearsal → Type 0
-IsRequestWithoutPatterns changes value output start expectations rehearsal = IsSomeAnd (as_object value) (λ members.
-    Requests Strict changes members output start expectations rehearsal × IsWithoutPatterns Strict changes members rehearsal)
+abbrev pub IsRequestWithoutPatterns : Changes → Data → Output → Option StartData → List Expectation → List Handover → Rehearsal → Type 0
+IsRequestWithoutPatterns changes value output start expectations handovers rehearsal = IsSomeAnd (as_object value) (λ members.
+    Requests Strict changes members output start expectations handovers rehearsal
+    × IsWithoutPatterns Strict changes members handovers rehearsal)

@@ -1,6 +1,8 @@
 //! The configuration of a rehearsal: `config`, or Alertmanager's own. `input` calls it.
 ghost use Rattle.std.specs.Prelude.{◌≡◌, IfErr, IfOk, IsTrue, None, Some, codes, false, is_ok, option_map};
+ghost use Rattle.std.specs.Prelude.{IsSomeAnd};
 ghost use Rattle.serde_json.specs.Data.{Data};
+ghost use Rattle.serde_json.specs.Find.{as_object};
 ghost use Rattle.serde_json.specs.View.{members_view, view};
 ghost use Rattle.am_cli.specs.Configured.{DecodesToConfig};
 ghost use Rattle.am_cli.specs.Decoding.{HasNone};
@@ -8,6 +10,7 @@ ghost use Rattle.am_cli.specs.Read.{Excludes};
 ghost use Rattle.am_cli.specs.declared.reader.Dialect.TheVariants.{Strict};
 ghost use Rattle.am_input.specs.Configured.{DecodesWithoutPatterns, IsConfigFor, IsConfigIn, IsConfigOf};
 ghost use Rattle.am_input.specs.Configured.{IsReadOfTheirs, TellsWithoutPatterns, form_in};
+ghost use Rattle.am_input.specs.Handovers.{IsConfigAt, TellsAt, is_ours};
 ghost use Rattle.am_input.specs.Request.{RefusesAll};
 
 use crate::form::{Form, alertmanager_in, form_of};
@@ -21,6 +24,7 @@ use am_config::alertmanager::read_alertmanager;
 use am_config::dropped::IgnoredSettings;
 use am_config::hours::Hours;
 use am_model::config::Config;
+use am_plans::handover::Reload;
 use serde_json::Value;
 use std::alloc::Global;
 
@@ -94,6 +98,58 @@ fn read_hours_in<Z: ZoneFiles>(
         None => Ok(None),
         Some(config) => read_hours(top, &config, until, files),
     }
+}
+
+/// Reads the clocks of a story for the configuration of a reload, if that is Alertmanager's.
+fn read_hours_at<Z: ZoneFiles>(
+    top: &Object<'_, '_>,
+    reload: &Object<'_, '_>,
+    until: Option<u64>,
+    files: &mut Z,
+) -> Result<Option<Hours>, InputFault>
+    ensures { HasNone (codes "alertmanager") (members_view reload.now.members) → IsTrue (is_ok result) }
+{
+    match reload.optional("alertmanager") {
+        None => Ok(None),
+        Some(config) => read_hours(top, &config, until, files),
+    }
+}
+
+/// Reads the configuration of a reload, with the clocks of its story that is played until `until` or else until its own
+/// end.
+pub(crate) fn read_reload<Z: ZoneFiles>(
+    top: &Object<'_, '_>,
+    reload: Reload<'_>,
+    until: Option<u64>,
+    files: &mut Z,
+) -> Result<Configured, Refusal>
+    ensures told { IfOk result (λ read. IsConfigAt None top.now.dialect (members_view top.now.members) (Some (view reload.entry.value.now)) read.config) }
+    ensures timed { IsTrue (is_ours (Some (view reload.entry.value.now))) → IfOk result (λ read. read.lacks_hours ≡ false) }
+    ensures refused { IsTrue (is_ours (Some (view reload.entry.value.now)))
+        → IfErr result (RefusesAll (TellsAt top.now.dialect (members_view top.now.members) (Some (view reload.entry.value.now)))) }
+{
+    let list = top.member("reload", reload.value);
+    match reload.index {
+        None => read_at(top, &list, until, files),
+        Some(index) => read_at(top, &list.item(index, reload.value), until, files),
+    }
+}
+
+/// Reads the configuration of the reload here.
+fn read_at<Z: ZoneFiles>(
+    top: &Object<'_, '_>,
+    reload: &Reader<'_, '_>,
+    until: Option<u64>,
+    files: &mut Z,
+) -> Result<Configured, Refusal>
+    ensures told { IfOk result (λ read. IsSomeAnd (as_object (view reload.now.value)) (λ fields. IsConfigIn reload.now.dialect fields read.config)) }
+    ensures timed { IsTrue (is_ours (Some (view reload.now.value))) → IfOk result (λ read. read.lacks_hours ≡ false) }
+    ensures refused { IsTrue (is_ours (Some (view reload.now.value))) → IfErr result (RefusesAll (λ config.
+        IsSomeAnd (as_object (view reload.now.value)) (λ fields. TellsWithoutPatterns reload.now.dialect fields config))) }
+{
+    let object = reload.object()?;
+    let hours = read_hours_at(top, &object, until, files)?;
+    Ok(read_in_story(&object, hours.as_ref())?)
 }
 
 /// Reads a configuration that is given to a story, with the story's clocks. A story that is none gives it no clocks.

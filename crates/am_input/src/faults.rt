@@ -1,5 +1,6 @@
 //! All faults of a story.
-use crate::configured::{Configured, read_configured};
+use crate::configured::{Configured, read_configured, read_reload};
+use crate::handovers::HandedOver;
 use crate::hours::check_start;
 use crate::input::{MEMBERS, Overrides, read_maintain, read_output, read_until};
 use crate::moment;
@@ -8,13 +9,15 @@ use crate::zones::read_zones;
 use am_cli::fault::InputFault;
 use am_cli::faults::{Faults, Refusal};
 use am_cli::reader::{FromJson, Object, Reader};
-use am_model::config::Config;
 use am_plans::alert::AlertItem;
+use am_plans::configs::Configs;
 use am_plans::expectation::expectation_faults;
+use am_plans::handover::{item_faults, read_items, reloads_in};
 use am_plans::outage::OutageItem;
 use am_plans::planned::read_plans;
 use am_plans::silence::SilenceItem;
 use am_plans::target::check;
+use am_terms::handover::Keeps;
 use am_terms::rehearsal::{MAX_UNTIL, TimedAction};
 use serde_json::Value;
 use std::alloc::Global;
@@ -56,7 +59,7 @@ fn keep_faults<Z: ZoneFiles>(
     };
     faults.only(&top, &MEMBERS)?;
     match receivers {
-        ReceiversOf::Given(config) => plan_faults(faults, &top, config, overrides),
+        ReceiversOf::Given(config) => plan_faults(alloc, faults, &top, config, overrides, files),
         ReceiversOf::Own => faults_with_own(alloc, faults, &top, overrides, files),
     }
 }
@@ -70,10 +73,10 @@ fn faults_with_own<Z: ZoneFiles>(
     files: &mut Z,
 ) -> Result<(), InputFault> {
     match read_configured(top, None, overrides.until, files) {
-        Ok(configured) => plan_faults(faults, top, Some(&configured), overrides),
+        Ok(configured) => plan_faults(alloc, faults, top, Some(&configured), overrides, files),
         Err(refusal) => {
             keep_all(alloc, faults, refusal)?;
-            plan_faults(faults, top, None, overrides)
+            plan_faults(alloc, faults, top, None, overrides, files)
         }
     }
 }
@@ -94,25 +97,85 @@ fn keep_all(alloc: Global, faults: &mut Faults, refusal: Refusal) -> Result<(), 
 }
 
 /// Keeps the faults of all but the configuration, with this one where it is read.
-fn plan_faults(
+fn plan_faults<Z: ZoneFiles>(
+    alloc: Global,
     faults: &mut Faults,
     top: &Object<'_, '_>,
     configured: Option<&Configured>,
     overrides: Overrides,
+    files: &mut Z,
 ) -> Result<(), InputFault> {
-    let config = configured.map(|configured| &configured.config);
+    let later = later_faults(alloc, faults, top, overrides.until, files)?;
     let lacks_hours = configured.is_some_and(|configured| configured.lacks_hours);
     faults.kept(moment::start(top))?;
-    faults.kept(check_start(top, overrides.until, lacks_hours))?;
+    faults.kept(check_start(top, overrides.until, lacks_hours || later.read.lacks_hours))?;
+    match configured {
+        Some(configured) if later.is_whole => {
+            let configs = Configs {
+                own: &configured.config,
+                later: later.read.handovers.as_slice(),
+            };
+            event_faults(faults, top, Some(&configs), overrides)
+        }
+        _ => event_faults(faults, top, None, overrides),
+    }
+}
+
+/// The reloads whose configurations are read.
+#[derive(Drop)]
+struct Later {
+    read: HandedOver,
+    /// Whether these are all reloads of the story.
+    is_whole: bool,
+}
+
+/// Keeps the faults of reloads and restarts. Where none is at fault by itself, the fault of all together is kept.
+fn later_faults<Z: ZoneFiles>(
+    alloc: Global,
+    faults: &mut Faults,
+    top: &Object<'_, '_>,
+    until: Option<u64>,
+    files: &mut Z,
+) -> Result<Later, InputFault> {
+    let before = faults.len();
+    item_faults(faults, top)?;
+    if faults.len() == before {
+        if let Ok(until) = read_until(top, until) {
+            faults.kept(read_items(top, until))?;
+        }
+    }
+    let mut later = Later {
+        read: HandedOver::nothing(alloc),
+        is_whole: true,
+    };
+    for reload in reloads_in(top)? {
+        match read_reload(top, reload, until, files) {
+            Ok(configured) => later.read.add(0, Keeps::All, configured)?,
+            Err(refusal) => {
+                later.is_whole = false;
+                keep_all(alloc, faults, refusal)?;
+            }
+        }
+    }
+    Ok(later)
+}
+
+/// Keeps the faults of what happens in a story, and of what is to be printed.
+fn event_faults(
+    faults: &mut Faults,
+    top: &Object<'_, '_>,
+    configs: Option<&Configs<'_>>,
+    overrides: Overrides,
+) -> Result<(), InputFault> {
     faults.kept(read_zones(top))?;
     let until = faults.kept(read_until(top, overrides.until))?;
     each::<AlertItem>(faults, top, "alerts")?;
     each::<SilenceItem>(faults, top, "silences")?;
     faults.kept(read_maintain(top))?;
-    outage_faults(faults, top, config)?;
+    outage_faults(faults, top, configs)?;
     let plans = plans_in(top)?;
     let plans = plans.as_ref().map(Vec::as_slice);
-    expectation_faults(faults, top, config, until.unwrap_or(MAX_UNTIL), plans)?;
+    expectation_faults(faults, top, configs, until.unwrap_or(MAX_UNTIL), plans)?;
     faults.kept(read_output(top, overrides.output))?;
     Ok(())
 }
@@ -148,7 +211,7 @@ fn each<'v, T: FromJson<'v>>(
 fn outage_faults(
     faults: &mut Faults,
     top: &Object<'_, '_>,
-    config: Option<&Config>,
+    configs: Option<&Configs<'_>>,
 ) -> Result<(), InputFault> {
     let Some(member) = top.optional("outages") else {
         return Ok(());
@@ -159,10 +222,10 @@ fn outage_faults(
     for (index, value) in values.iter().enumerate() {
         let reader = member.item(index, value);
         if let Some(OutageItem { outage }) = faults.kept(OutageItem::read(&reader))? {
-            if let Some(config) = config {
+            if let Some(configs) = configs {
                 let receiver = outage.receiver.as_str();
                 let place = *reader.place();
-                faults.kept(check(reader.alloc(), config, receiver, outage.integration, place))?;
+                faults.kept(check(reader.alloc(), configs, receiver, outage.integration, place))?;
             }
         }
     }

@@ -6,9 +6,9 @@
 //! its end at that time, as Prometheus sends them. The configuration is `am_cli`'s, or
 //! Alertmanager's own (`configured`), whose faults are all reported; of the rest the first fault
 //! is. Contracts say by definitions over the JSON value's fields what was read for `output`,
-//! `start`, `until`, `maintain`, `alerts`, `silences`, `outages` and `expect` (`Request`, `Decoding`,
+//! `start`, `until`, `reload`, `restart`, `maintain`, `alerts`, `silences`, `outages` and `expect` (`Request`, `Decoding`,
 //! `Planned`, `Expected`).
-ghost use Rattle.std.specs.Prelude.{◌≡◌, ◌≤◌, ◌<◌, ℕ, [], IfErr, IfOk, IsTrue, Some, codes, false};
+ghost use Rattle.std.specs.Prelude.{◌≡◌, ◌≤◌, ◌<◌, ℕ, [], IfErr, IfOk, IsTrue, List, Some, codes, false};
 ghost use Rattle.std.specs.Result.{result_ok};
 ghost use Rattle.serde_json.specs.Find.{get_member};
 ghost use Rattle.serde_json.specs.View.{members_view, view};
@@ -16,9 +16,12 @@ ghost use Rattle.am_terms.specs.declared.rehearsal.TheConstants.{MAX_UNTIL};
 ghost use Rattle.am_cli.specs.Decoding.{HasOr, IsList};
 ghost use Rattle.am_cli.specs.Read.{Excludes, has_only};
 ghost use Rattle.am_input.specs.Configured.{IsConfigFor, file_in};
+ghost use Rattle.am_input.specs.Handovers.{AreHandoversIn};
+ghost use Rattle.am_plans.specs.Configs.{configs_of};
 ghost use Rattle.am_plans.specs.Decoding.{DecodesToOutage, have_places};
 ghost use Rattle.am_plans.specs.Expected.{AreExpectedIn, HaveNoPatternIn, last_end};
 ghost use Rattle.am_plans.specs.Planned.{ArePlannedWithoutPatterns, ArePlannedIn};
+ghost use Rattle.am_terms.specs.declared.rehearsal.Outage.{Outage};
 ghost use Rattle.am_terms.specs.declared.rehearsal.Rehearsal.{Rehearsal};
 ghost use Rattle.am_input.specs.declared.input.Asked.{Asked};
 ghost use Rattle.am_input.specs.declared.input.Input.{Input};
@@ -26,6 +29,7 @@ ghost use Rattle.am_input.specs.Request.{DecodesToStart, IsRequestIn, IsWithoutP
 ghost use Rattle.am_input.specs.Request.{RefusesAll, Requests, end_for, maintain_in, member_names, output_for};
 
 use crate::configured::{Configured, read_configured};
+use crate::handovers::{HandedOver, both, either, read_handovers};
 use crate::hours::check_start;
 use crate::moment;
 use crate::zone_files::ZoneFiles;
@@ -37,13 +41,15 @@ use am_cli::place::JsonPointer;
 use am_cli::reader::{Object, Reader};
 use am_config::dropped::IgnoredSettings;
 use am_model::config::Config;
+use am_plans::configs::Configs;
 use am_plans::expectation::read_expectations;
 use am_plans::origin::Origin;
 use am_plans::outage::read_outages;
 use am_plans::planned::read_plans;
 use am_terms::dated::UtcDates;
 use am_terms::expectation::Expectation;
-use am_terms::rehearsal::{MAX_UNTIL, Rehearsal};
+use am_terms::handover::Handover;
+use am_terms::rehearsal::{MAX_UNTIL, Outage, Rehearsal};
 use serde_json::Value;
 use std::alloc::Global;
 
@@ -51,9 +57,11 @@ use std::alloc::Global;
 pub const MAINTAIN: u64 = 900_000;
 
 /// The members of a rehearsal.
-pub(crate) const MEMBERS: [&str; 11] = [
+pub(crate) const MEMBERS: [&str; 13] = [
     "config",
     "alertmanager",
+    "reload",
+    "restart",
     "start",
     "zones",
     "until",
@@ -69,13 +77,15 @@ pub(crate) const MEMBERS: [&str; 11] = [
 #[derive(Drop)]
 pub struct Input {
     pub rehearsal: Rehearsal,
+    /// The reloads and restarts, in the order of their times.
+    pub handovers: Vec<Handover>,
     /// Where the plans of the rehearsal stand in the input, by place.
     pub origins: Vec<Origin>,
     /// The moment of the start, if it is told.
     pub start: Option<UtcDates>,
     pub expectations: Vec<Expectation>,
     pub output: Output,
-    /// What of Alertmanager's configuration is dropped.
+    /// What of Alertmanager's configurations is dropped.
     pub dropped: IgnoredSettings,
 }
 
@@ -128,45 +138,57 @@ pub fn read_input<Z: ZoneFiles>(
     files: &mut Z,
 ) -> Result<Input, Refusal>
     ensures told { IfOk result (λ input. IsRequestIn changes.entry (view value.now) input.output input.start
-        input.expectations.items input.rehearsal) }
+        input.expectations.items input.handovers.items input.rehearsal) }
     ensures refused { IfErr result (RefusesAll (λ (input : Input).
         IsRequestWithoutPatterns changes.entry (view value.now) input.output input.start
-        input.expectations.items input.rehearsal)) }
+        input.expectations.items input.handovers.items input.rehearsal)) }
 {
     let reader = Reader::strict(alloc, value);
     let top = reader.object()?;
     top.only(&MEMBERS)?;
     let configured = read_configured(&top, changes.config, changes.overrides.until, files)?;
-    Ok(read_planned(&top, configured, changes)?)
+    let until = read_until(&top, changes.overrides.until)?;
+    let handed = read_handovers(&top, changes, until, files)?;
+    Ok(read_planned(&top, configured, handed, until, changes)?)
 }
 
-/// Reads what is planned against a configuration.
+/// Reads what is planned against a configuration, and those of reloads and restarts.
 fn read_planned(
     top: &Object<'_, '_>,
     configured: Configured,
+    handed: HandedOver,
+    until: u64,
     changes: Changes<'_>,
 ) -> Result<Input, InputFault>
+    requires most { until ≤ MAX_UNTIL }
+    requires ends { end_for changes.overrides.until (members_view top.now.members) ≡ Some until }
+    requires hands_over { AreHandoversIn top.now.dialect (file_in changes) until (members_view top.now.members) handed.handovers.items }
     requires known { IsTrue (has_only top.now.dialect member_names (members_view top.now.members)) }
     requires configures { IsConfigFor (file_in changes) top.now.dialect (members_view top.now.members) configured.config }
     ensures told { IfOk result (λ input. Requests top.now.dialect changes.entry (members_view top.now.members) input.output input.start
-        input.expectations.items input.rehearsal) }
-    ensures refused { configured.lacks_hours ≡ false → IfErr result (Excludes (λ (input : Input).
+        input.expectations.items input.handovers.items input.rehearsal) }
+    ensures refused { configured.lacks_hours ≡ false → handed.lacks_hours ≡ false → IfErr result (Excludes (λ (input : Input).
         Requests top.now.dialect changes.entry (members_view top.now.members) input.output input.start
-        input.expectations.items input.rehearsal
-        × (input.rehearsal.config ≡ configured.config)
-        × IsWithoutPatterns top.now.dialect changes.entry (members_view top.now.members) input.rehearsal)) }
+        input.expectations.items input.handovers.items input.rehearsal
+        × (input.rehearsal.config ≡ configured.config) × (input.handovers.items ≡ handed.handovers.items)
+        × IsWithoutPatterns top.now.dialect changes.entry (members_view top.now.members) input.handovers.items input.rehearsal)) }
 {
     let Configured {
         config,
         ignored,
         lacks_hours,
     } = configured;
+    let HandedOver {
+        handovers,
+        ignored: ignored_later,
+        lacks_hours: lacks_later,
+    } = handed;
     let overrides = changes.overrides;
-    let until = read_until(top, overrides.until)?;
     read_zones(top)?;
-    check_start(top, overrides.until, lacks_hours)?;
-    let (rehearsal, origins) = read_rehearsal(top, config, until)?;
-    let asked = read_asked(top, &rehearsal, overrides.output)?;
+    check_start(top, overrides.until, either(lacks_hours, lacks_later))?;
+    let later = handovers.as_slice();
+    let (rehearsal, origins) = read_rehearsal(top, config, later, until)?;
+    let asked = read_asked(top, &rehearsal, later, overrides.output)?;
     let Asked {
         start,
         expectations,
@@ -174,11 +196,12 @@ fn read_planned(
     } = asked;
     Ok(Input {
         rehearsal,
+        handovers,
         origins,
         start,
         expectations,
         output,
-        dropped: ignored,
+        dropped: both(ignored, ignored_later),
     })
 }
 
@@ -186,19 +209,20 @@ fn read_planned(
 fn read_asked(
     top: &Object<'_, '_>,
     rehearsal: &Rehearsal,
+    handovers: &[Handover],
     output: Option<Output>,
 ) -> Result<Asked, InputFault>
     ensures output { IfOk result (λ asked.
         output_for output (get_member (codes "output") (members_view top.now.members)) ≡ Some asked.output) }
     ensures start { IfOk result (λ asked. DecodesToStart (get_member (codes "start") (members_view top.now.members)) asked.start) }
     ensures expectations { IfOk result (λ asked.
-        AreExpectedIn top.now.dialect rehearsal.now.config rehearsal.now.until
+        AreExpectedIn top.now.dialect (configs_of rehearsal.now.config handovers.now) rehearsal.now.until
         (last_end rehearsal.now.until (members_view top.now.members)) rehearsal.now.plans.items
         (get_member (codes "expect") (members_view top.now.members)) asked.expectations.items) }
     ensures refused { IfErr result (Excludes (λ (asked : Asked).
         DecodesToStart (get_member (codes "start") (members_view top.now.members)) asked.start
         × (output_for output (get_member (codes "output") (members_view top.now.members)) ≡ Some asked.output)
-        × AreExpectedIn top.now.dialect rehearsal.now.config rehearsal.now.until
+        × AreExpectedIn top.now.dialect (configs_of rehearsal.now.config handovers.now) rehearsal.now.until
         (last_end rehearsal.now.until (members_view top.now.members)) rehearsal.now.plans.items
         (get_member (codes "expect") (members_view top.now.members)) asked.expectations.items
         × HaveNoPatternIn top.now.dialect (get_member (codes "expect") (members_view top.now.members)))) }
@@ -206,7 +230,11 @@ fn read_asked(
     let start = moment::start(top)?;
     let output = read_output(top, output)?;
     let plans = rehearsal.plans.as_slice();
-    let expectations = read_expectations(top, &rehearsal.config, rehearsal.until, plans)?;
+    let configs = Configs {
+        own: &rehearsal.config,
+        later: handovers,
+    };
+    let expectations = read_expectations(top, &configs, rehearsal.until, plans)?;
     Ok(Asked {
         start,
         expectations,
@@ -214,10 +242,12 @@ fn read_asked(
     })
 }
 
-/// Reads what happens until `until` under a configuration, and where the planned actions are in the input.
+/// Reads what happens until `until` under a configuration, and those of handovers, and where the planned actions are in
+/// the input.
 fn read_rehearsal(
     top: &Object<'_, '_>,
     config: Config,
+    handovers: &[Handover],
     until: u64,
 ) -> Result<(Rehearsal, Vec<Origin>), InputFault>
     requires { until ≤ MAX_UNTIL }
@@ -228,15 +258,15 @@ fn read_rehearsal(
     ensures plans { IfOk result (λ read. ArePlannedIn top.now.dialect (members_view top.now.members) read.0.plans.items) }
     ensures outages { IfOk result (λ read.
         HasOr (IsList (DecodesToOutage top.now.dialect)) [] (codes "outages") (members_view top.now.members) read.0.outages.items) }
-    ensures places { IfOk result (λ read. IsTrue (have_places config read.0.outages.items)) }
+    ensures places { IfOk result (λ read. IsTrue (have_places (configs_of config handovers.now) read.0.outages.items)) }
     ensures refused { IfErr result (Excludes (λ (r : Rehearsal).
         (maintain_in (get_member (codes "maintain") (members_view top.now.members)) ≡ Some r.maintain)
         × HasOr (IsList (DecodesToOutage top.now.dialect)) [] (codes "outages") (members_view top.now.members) r.outages.items
-        × IsTrue (have_places config r.outages.items)
+        × IsTrue (have_places (configs_of config handovers.now) r.outages.items)
         × ArePlannedWithoutPatterns top.now.dialect (members_view top.now.members) r.plans.items)) }
 {
     let maintain = read_maintain(top)?;
-    let outages = read_outages(top, &config)?;
+    let outages = read_outages_under(top, &config, handovers)?;
     let (plans, origins) = read_plans(top)?;
     let rehearsal = Rehearsal {
         config,
@@ -246,6 +276,25 @@ fn read_rehearsal(
         outages,
     };
     Ok((rehearsal, origins))
+}
+
+fn read_outages_under(
+    top: &Object<'_, '_>,
+    config: &Config,
+    handovers: &[Handover],
+) -> Result<Vec<Outage>, InputFault>
+    ensures told { IfOk result (λ outages.
+        HasOr (IsList (DecodesToOutage top.now.dialect)) [] (codes "outages") (members_view top.now.members) outages.items) }
+    ensures places { IfOk result (λ outages. IsTrue (have_places (configs_of config.now handovers.now) outages.items)) }
+    ensures refused { IfErr result (Excludes (λ (outages : List Outage).
+        HasOr (IsList (DecodesToOutage top.now.dialect)) [] (codes "outages") (members_view top.now.members) outages
+        × IsTrue (have_places (configs_of config.now handovers.now) outages))) }
+{
+    let configs = Configs {
+        own: config,
+        later: handovers,
+    };
+    read_outages(top, &configs)
 }
 
 /// The time between two maintenances, in milliseconds.

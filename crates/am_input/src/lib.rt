@@ -8,6 +8,7 @@
 pub mod configured;
 pub mod faults;
 pub mod form;
+pub mod handovers;
 mod hours;
 pub mod input;
 mod moment;

@@ -1,5 +1,5 @@
--- Expectation: what is expected of a rehearsal, and whether it is met.
-use Rattle.std.specs.Prelude.{ℕ, ◌+◌, Bool, true, false, ◌&&◌, ◌==◌, nat_le, count_by, List, [], ◌∷◌, ◌++◌, Option, slice_get}
+-- Expectation: what is expected of a rehearsal, and whether it is met. A rehearsal is a playback for each dispatcher, in their order.
+use Rattle.std.specs.Prelude.{ℕ, ◌+◌, Bool, true, false, ◌&&◌, ◌==◌, nat_le, count_by, sum_by, List, [], ◌∷◌, ◌++◌, Option, slice_get}
 use Rattle.std.specs.Prelude.{if◌then◌else◌}
 use Rattle.std.specs.List.{list_all, list_any}
 use Rattle.std.specs.Option.{option_map_or}
@@ -91,19 +91,27 @@ ends_in_scope playback x event = option_map_or (is_in_scope playback.config x) (
 abbrev pub ends_fitting : PlaybackData → Expectation → Event → Bool
 ends_fitting playback x event = option_map_or (fits playback x) (sent_of playback event) false
 
--- how many notices fit
-abbrev pub count_fitting : PlaybackData → Expectation → ℕ
-count_fitting playback x = count_by (ends_fitting playback x) playback.events
+-- whether a playback has a notice in scope
+abbrev pub has_in_scope : Expectation → PlaybackData → Bool
+has_in_scope x playback = list_any (ends_in_scope playback x) playback.events
 
--- met: as many notices fit as are expected
-abbrev pub is_met : PlaybackData → Expectation → Bool
-is_met playback x = allows x.amount (count_fitting playback x)
+-- how many notices of a playback fit
+abbrev pub count_in : Expectation → PlaybackData → ℕ
+count_in x playback = count_by (ends_fitting playback x) playback.events
+
+-- how many notices of all playbacks fit
+abbrev pub count_fitting : List PlaybackData → Expectation → ℕ
+count_fitting playbacks x = sum_by (count_in x) playbacks
+
+-- met: as many notices fit, over all playbacks, as are expected
+abbrev pub is_met : List PlaybackData → Expectation → Bool
+is_met playbacks x = allows x.amount (count_fitting playbacks x)
 
 -- the number of an expectation, if it isn't met
-abbrev pub unmet_at : PlaybackData → ℕ → Expectation → List ℕ
-unmet_at playback n x = if is_met playback x then [] else n ∷ []
+abbrev pub unmet_at : List PlaybackData → ℕ → Expectation → List ℕ
+unmet_at playbacks n x = if is_met playbacks x then [] else n ∷ []
 
 -- the numbers of the expectations that aren't met, counted from n on
-abbrev pub unmet_from : PlaybackData → ℕ → List Expectation → List ℕ
-unmet_from playback n [] = []
-unmet_from playback n (x ∷ xs) = unmet_at playback n x ++ unmet_from playback (n + 1) xs
+abbrev pub unmet_from : List PlaybackData → ℕ → List Expectation → List ℕ
+unmet_from playbacks n [] = []
+unmet_from playbacks n (x ∷ xs) = unmet_at playbacks n x ++ unmet_from playbacks (n + 1) xs

@@ -1,4 +1,4 @@
--- ExpectationReport: the text on each expectation.
+-- ExpectationReport: the text on each expectation, by all playbacks of a rehearsal.
 use Rattle.std.specs.Prelude.{ℕ, ◌+◌, ◌-◌, Bool, true, false, ◌&&◌, ◌==◌, nat_le, nat_lt, List, [], ◌∷◌, ◌++◌, codes, decimal, find}
 use Rattle.std.specs.Prelude.{Option, Some, None, slice_get, if◌then◌else◌}
 use Rattle.std.specs.List.{flat_map, join_by, list_any}
@@ -10,7 +10,7 @@ use Rattle.am_alerts.specs.declared.matcher.MatcherParts.{MatcherParts}
 use Rattle.am_alerts.specs.declared.matcher.Operator.{Operator}
 use Rattle.am_alerts.specs.declared.matcher.Operator.TheVariants.{Equal, NotEqual, Like, NotLike}
 use Rattle.am_model.specs.declared.config.Config.{Config}
-use Rattle.am_model.specs.Config.{kind_at}
+use Rattle.am_model.specs.declared.config.Integration.{Integration}
 use Rattle.am_model.specs.Configured.{route_of, integration_text}
 use Rattle.am_model.specs.Notice.{NoticeData}
 use Rattle.am_terms.specs.declared.event.Event.{Event}
@@ -21,7 +21,7 @@ use Rattle.am_terms.specs.declared.expectation.Content.{Content}
 use Rattle.am_terms.specs.declared.expectation.SentReason.{SentReason}
 use Rattle.am_judge.specs.declared.expectation_report.nearest.Alike.{Alike}
 use Rattle.am_judge.specs.declared.expectation_report.nearest.Alike.TheVariants.{ToReceiver, ToTarget, OfContent}
-use Rattle.am_judge.specs.Expectation.{are_as_wanted, count_fitting, ends_in_scope, fits, has_as_wanted, has_content, is_for_integration}
+use Rattle.am_judge.specs.Expectation.{are_as_wanted, count_fitting, fits, has_as_wanted, has_content, has_in_scope, is_for_integration}
 use Rattle.am_terms.specs.Expectation.{wanted_words}
 use Rattle.am_judge.specs.Expectation.{is_for_receiver, is_in_scope, is_met, is_sent_as_wanted}
 use Rattle.am_timeline.specs.Shown.{text_shown, sets_shown}
@@ -87,10 +87,16 @@ exact_text wanted = sets_text (codes "; firing ") wanted.firing ++ sets_text (co
 unfoldable pub wanted_text : Content → List ℕ
 wanted_text wanted = has_text wanted ++ exact_text wanted ++ wanted_reason_text wanted.reason
 
--- the kind of an integration of the receiver of this name
-abbrev pub kind_of : Config → List ℕ → ℕ → List ℕ
-kind_of config name position =
-    option_map_or (λ r. kind_at r.integrations position) (find (λ r. bytes_eq r.name name) config.receivers) []
+-- the integration at a position of the receiver of this name, if a configuration has it
+abbrev pub integration_of : Config → List ℕ → ℕ → Option Integration
+integration_of config name position =
+    option_and_then (λ r. slice_get r.integrations position) (find (λ r. bytes_eq r.name name) config.receivers)
+
+-- the kind of that integration in the first playback whose configuration has it; nothing where none has
+abbrev pub kind_of : List PlaybackData → List ℕ → ℕ → List ℕ
+kind_of [] name position = []
+kind_of (p ∷ ps) name position =
+    option_map_or (λ i. i.kind) (integration_of p.config name position) (kind_of ps name position)
 
 -- a kind, and the position if it is said
 abbrev pub kind_text : List ℕ → Option ℕ → List ℕ
@@ -98,14 +104,14 @@ kind_text kind None = text_shown kind
 kind_text kind (Some position) = text_shown kind ++ codes "/" ++ decimal position
 
 -- whom an expectation is about
-abbrev pub about_text : Config → Option (List ℕ) → Option (List ℕ) → Option ℕ → List ℕ
-about_text config None None None = []
-about_text config None None (Some position) = codes " -> any/" ++ decimal position
-about_text config None (Some kind) position = codes " -> any " ++ kind_text kind position
-about_text config (Some name) None None = codes " -> " ++ text_shown name
-about_text config (Some name) None (Some position) =
-    codes " -> " ++ text_shown name ++ codes " " ++ kind_of config name position ++ codes "/" ++ decimal position
-about_text config (Some name) (Some kind) position = codes " -> " ++ text_shown name ++ codes " " ++ kind_text kind position
+abbrev pub about_text : List PlaybackData → Option (List ℕ) → Option (List ℕ) → Option ℕ → List ℕ
+about_text playbacks None None None = []
+about_text playbacks None None (Some position) = codes " -> any/" ++ decimal position
+about_text playbacks None (Some kind) position = codes " -> any " ++ kind_text kind position
+about_text playbacks (Some name) None None = codes " -> " ++ text_shown name
+about_text playbacks (Some name) None (Some position) =
+    codes " -> " ++ text_shown name ++ codes " " ++ kind_of playbacks name position ++ codes "/" ++ decimal position
+about_text playbacks (Some name) (Some kind) position = codes " -> " ++ text_shown name ++ codes " " ++ kind_text kind position
 
 -- the span of an expectation
 abbrev pub span_text : TimeFormatData → Expectation → List ℕ
@@ -116,9 +122,9 @@ unfoldable pub notices_wanted : Expectation → List ℕ
 notices_wanted x = amount_text x.amount ++ wanted_text x.content
 
 -- what is expected
-unfoldable pub expected_line : Config → TimeFormatData → Expectation → List ℕ
-expected_line config times x =
-    codes "  expected  " ++ span_text times x ++ about_text config x.receiver x.kind x.integration ++ codes ": " ++ notices_wanted x
+unfoldable pub expected_line : List PlaybackData → TimeFormatData → Expectation → List ℕ
+expected_line playbacks times x =
+    codes "  expected  " ++ span_text times x ++ about_text playbacks x.receiver x.kind x.integration ++ codes ": " ++ notices_wanted x
     ++ codes "\n"
 
 -- the word before the resolved alerts, behind those that fire
@@ -209,6 +215,19 @@ got_if_shown some_fit playback times x s =
 abbrev pub got_by : Bool → PlaybackData → TimeFormatData → Expectation → Event → List ℕ
 got_by some_fit playback times x event = option_map_or (got_if_shown some_fit playback times x) (sent_of playback event) []
 
+-- the notices of a playback that are shown
+abbrev pub got_in : Bool → TimeFormatData → Expectation → PlaybackData → List ℕ
+got_in some_fit times x playback = flat_map (got_by some_fit playback times x) playback.events
+
+-- those of all playbacks
+abbrev pub all_got : Bool → List PlaybackData → TimeFormatData → Expectation → List ℕ
+all_got some_fit playbacks times x = flat_map (got_in some_fit times x) playbacks
+
+-- a notice, and the playback that it was sent in
+pub record FoundData : Type 0 where
+  pub playback : PlaybackData
+  pub sent : SentData
+
 -- how far a notice is from the span of an expectation: how long before its first time, or behind its last
 abbrev pub distance : Expectation → SentData → ℕ
 distance x s = if nat_lt s.report.ended x.from then x.from - s.report.ended else s.report.ended - x.to
@@ -221,55 +240,59 @@ is_alike OfContent playback x s =
     is_for_receiver playback.config x s && is_for_integration playback.config x s && has_content playback x.content s
 
 -- a notice, if it was delivered and is alike
-abbrev pub if_alike : Alike → PlaybackData → Expectation → SentData → Option SentData
-if_alike alike playback x s = if is_delivered s.outcome && is_alike alike playback x s then Some s else None
+abbrev pub if_alike : Alike → PlaybackData → Expectation → SentData → Option FoundData
+if_alike alike playback x s =
+    if is_delivered s.outcome && is_alike alike playback x s then Some (record { playback = playback; sent = s }) else None
 
 -- the notice that is alike whose sending ended by this, if there is one
-abbrev pub candidate_by : Alike → PlaybackData → Expectation → Event → Option SentData
+abbrev pub candidate_by : Alike → PlaybackData → Expectation → Event → Option FoundData
 candidate_by alike playback x event = option_and_then (if_alike alike playback x) (sent_of playback event)
 
 -- the nearer of two notices, and the first where both are as near
-abbrev pub nearer : Expectation → Option SentData → Option SentData → Option SentData
+abbrev pub nearer : Expectation → Option FoundData → Option FoundData → Option FoundData
 nearer x None b = b
 nearer x (Some a) None = Some a
-nearer x (Some a) (Some b) = if nat_le (distance x a) (distance x b) then Some a else Some b
+nearer x (Some a) (Some b) = if nat_le (distance x a.sent) (distance x b.sent) then Some a else Some b
 
 -- the nearest of a notice and those alike whose sending ended by these
-abbrev pub nearest_with : Alike → PlaybackData → Expectation → Option SentData → List Event → Option SentData
+abbrev pub nearest_with : Alike → PlaybackData → Expectation → Option FoundData → List Event → Option FoundData
 nearest_with alike playback x nearest [] = nearest
 nearest_with alike playback x nearest (event ∷ events) =
     nearest_with alike playback x (nearer x nearest (candidate_by alike playback x event)) events
 
+-- the nearest of a notice and those alike of these playbacks
+abbrev pub nearest_in : Alike → Expectation → Option FoundData → List PlaybackData → Option FoundData
+nearest_in alike x nearest [] = nearest
+nearest_in alike x nearest (p ∷ ps) = nearest_in alike x (nearest_with alike p x nearest p.events) ps
+
 -- the nearest notice: of those with the target and the content that are expected, or else with the target, or else to the receiver
-abbrev pub nearest_of : PlaybackData → Expectation → Option SentData
-nearest_of playback x =
-    option_or (nearest_with OfContent playback x None playback.events)
-    (option_or (nearest_with ToTarget playback x None playback.events) (nearest_with ToReceiver playback x None playback.events))
+abbrev pub nearest_of : List PlaybackData → Expectation → Option FoundData
+nearest_of playbacks x =
+    option_or (nearest_in OfContent x None playbacks)
+    (option_or (nearest_in ToTarget x None playbacks) (nearest_in ToReceiver x None playbacks))
 
 -- the nearest notice, and how it differs; nothing where none was delivered to the receiver
-unfoldable pub nearest_text : PlaybackData → TimeFormatData → Expectation → List ℕ
-nearest_text playback times x =
-    option_map_or (came_line (codes "  nearest   ") playback times x) (nearest_of playback x) []
+unfoldable pub nearest_text : List PlaybackData → TimeFormatData → Expectation → List ℕ
+nearest_text playbacks times x =
+    option_map_or (λ found. came_line (codes "  nearest   ") found.playback times x found.sent) (nearest_of playbacks x) []
 
 -- that none came in scope, and the nearest
-unfoldable pub none_text : PlaybackData → TimeFormatData → Expectation → List ℕ
-none_text playback times x = codes "  got       none\n" ++ nearest_text playback times x
+unfoldable pub none_text : List PlaybackData → TimeFormatData → Expectation → List ℕ
+none_text playbacks times x = codes "  got       none\n" ++ nearest_text playbacks times x
 
 -- the notices that came, where none fits: those in scope, or else the nearest
-abbrev pub unfitting_text : PlaybackData → TimeFormatData → Expectation → List ℕ
-unfitting_text playback times x =
-    if list_any (ends_in_scope playback x) playback.events then flat_map (got_by false playback times x) playback.events
-    else none_text playback times x
+abbrev pub unfitting_text : List PlaybackData → TimeFormatData → Expectation → List ℕ
+unfitting_text playbacks times x =
+    if list_any (has_in_scope x) playbacks then all_got false playbacks times x else none_text playbacks times x
 
 -- the notices that came: those that fit, or else the others
-abbrev pub got_text : PlaybackData → TimeFormatData → Expectation → List ℕ
-got_text playback times x =
-    if count_fitting playback x == 0 then unfitting_text playback times x
-    else flat_map (got_by true playback times x) playback.events
+abbrev pub got_text : List PlaybackData → TimeFormatData → Expectation → List ℕ
+got_text playbacks times x =
+    if count_fitting playbacks x == 0 then unfitting_text playbacks times x else all_got true playbacks times x
 
 -- what was expected, and what came
-abbrev pub answer_text : PlaybackData → TimeFormatData → Expectation → List ℕ
-answer_text playback times x = expected_line playback.config times x ++ got_text playback times x
+abbrev pub answer_text : List PlaybackData → TimeFormatData → Expectation → List ℕ
+answer_text playbacks times x = expected_line playbacks times x ++ got_text playbacks times x
 
 -- the name of an expectation, in quotes
 abbrev pub name_text : Option (List ℕ) → List ℕ
@@ -277,12 +300,12 @@ name_text None = []
 name_text (Some name) = codes " \"" ++ text_shown name ++ codes "\""
 
 -- an expectation by its number: met, or not, and then what was expected and what came
-unfoldable pub judged_text : PlaybackData → TimeFormatData → ℕ → Expectation → List ℕ
-judged_text playback times number x =
+unfoldable pub judged_text : List PlaybackData → TimeFormatData → ℕ → Expectation → List ℕ
+judged_text playbacks times number x =
     codes "expect " ++ decimal number ++ name_text x.name
-    ++ (if is_met playback x then codes ": met\n" else codes ": not met\n" ++ answer_text playback times x)
+    ++ (if is_met playbacks x then codes ": met\n" else codes ": not met\n" ++ answer_text playbacks times x)
 
 -- judgement: expectations, numbered from n on
-abbrev pub expectations_text : PlaybackData → TimeFormatData → ℕ → List Expectation → List ℕ
-expectations_text playback times n [] = []
-expectations_text playback times n (x ∷ xs) = judged_text playback times n x ++ expectations_text playback times (n + 1) xs
+abbrev pub expectations_text : List PlaybackData → TimeFormatData → ℕ → List Expectation → List ℕ
+expectations_text playbacks times n [] = []
+expectations_text playbacks times n (x ∷ xs) = judged_text playbacks times n x ++ expectations_text playbacks times (n + 1) xs

@@ -34,24 +34,24 @@ abbrev pub failure_with : List ℕ → List ℕ
 failure_with text = codes "><failure message=\"not met\">\n" ++ escaped text ++ codes "</failure></testcase>\n"
 
 -- what was expected, and what came
-unfoldable pub failure_text : PlaybackData → TimeFormatData → Expectation → List ℕ
-failure_text playback times x = failure_with (answer_text playback times x)
+unfoldable pub failure_text : List PlaybackData → TimeFormatData → Expectation → List ℕ
+failure_text playbacks times x = failure_with (answer_text playbacks times x)
 
 -- the end of a case: its failure, if the expectation isn't met
-abbrev pub outcome_text : PlaybackData → TimeFormatData → Expectation → List ℕ
-outcome_text playback times x = if is_met playback x then codes "/>\n" else failure_text playback times x
+abbrev pub outcome_text : List PlaybackData → TimeFormatData → Expectation → List ℕ
+outcome_text playbacks times x = if is_met playbacks x then codes "/>\n" else failure_text playbacks times x
 
 -- the case of an expectation
-unfoldable pub case_text : PlaybackData → TimeFormatData → ℕ → Expectation → List ℕ
-case_text playback times number x =
-    codes "<testcase classname=\"expect\" name=\"" ++ case_name number x ++ codes "\"" ++ outcome_text playback times x
+unfoldable pub case_text : List PlaybackData → TimeFormatData → ℕ → Expectation → List ℕ
+case_text playbacks times number x =
+    codes "<testcase classname=\"expect\" name=\"" ++ case_name number x ++ codes "\"" ++ outcome_text playbacks times x
 
 -- the cases of expectations, numbered from n on
-abbrev pub cases_text : PlaybackData → TimeFormatData → ℕ → List Expectation → List ℕ
-cases_text playback times n [] = []
-cases_text playback times n (x ∷ xs) = case_text playback times n x ++ cases_text playback times (n + 1) xs
+abbrev pub cases_text : List PlaybackData → TimeFormatData → ℕ → List Expectation → List ℕ
+cases_text playbacks times n [] = []
+cases_text playbacks times n (x ∷ xs) = case_text playbacks times n x ++ cases_text playbacks times (n + 1) xs
 
 -- a suite with a case for each expectation
-abbrev pub junit_text : PlaybackData → TimeFormatData → List Expectation → List ℕ
-junit_text playback times xs =
-    suite_head (length xs) (length (unmet_from playback 0 xs)) ++ cases_text playback times 0 xs ++ codes "</testsuite>\n"
+abbrev pub junit_text : List PlaybackData → TimeFormatData → List Expectation → List ℕ
+junit_text playbacks times xs =
+    suite_head (length xs) (length (unmet_from playbacks 0 xs)) ++ cases_text playbacks times 0 xs ++ codes "</testsuite>\n"

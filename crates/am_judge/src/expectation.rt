@@ -1,10 +1,12 @@
-//! Whether a rehearsal meets expectations. `am_rehearse` ends with status 5 if one isn't met. Cost:
-//! for each expectation, that of the timeline.
+//! Whether a rehearsal meets expectations. `am_rehearse` ends with status 5 if one isn't met.
+//!
+//! A rehearsal is a playback for each dispatcher, in their order, and all are judged together. Cost: for each
+//! expectation, that of the timelines of all playbacks.
 ghost use Rattle.std.specs.Prelude.{◌≡◌, ◌==◌, ◌++◌, IfOk, OnOk, true};
-ghost use Rattle.std.specs.List.{list_any};
 ghost use Rattle.std.specs.Option.{option_map_or};
 ghost use Rattle.std.specs.Str.{bytes_eq};
-ghost use Rattle.am_judge.specs.Expectation.{count_fitting, ends_fitting, ends_in_scope, fits, is_for_integration};
+ghost use Rattle.am_judge.specs.Expectation.{count_fitting, count_in, ends_fitting, ends_in_scope, fits, has_in_scope, is_for_integration};
+ghost use Rattle.am_terms.specs.Expectation.{allows};
 ghost use Rattle.am_judge.specs.Expectation.{is_for_receiver, is_in_scope, is_met, kind_for, unmet_at, unmet_from};
 
 pub mod content;
@@ -12,7 +14,7 @@ pub mod content;
 use crate::expectation::content::is_in;
 use am_model::config::{Config, kind_at};
 use am_terms::event::Event;
-use am_terms::expectation::Expectation;
+use am_terms::expectation::{Amount, Expectation};
 use am_timeline::playback::Playback;
 use am_timeline::sent::{Sent, sent_of};
 use am_timeline::table::is_for;
@@ -21,14 +23,14 @@ use std::alloc::{AllocError, Global};
 /// Returns the numbers of the expectations that aren't met, from 0 on and in order.
 pub fn unmet_expectations(
     alloc: Global,
-    playback: &Playback,
+    playbacks: &[Playback<'_>],
     expectations: &[Expectation],
 ) -> Result<Vec<usize>, AllocError>
-    ensures { IfOk result (λ numbers. numbers.items ≡ unmet_from playback.now 0 expectations.now) }
+    ensures { IfOk result (λ numbers. numbers.items ≡ unmet_from playbacks.now 0 expectations.now) }
 {
     let mut unmet = Vec::new(alloc);
     for (number, expectation) in expectations.iter().enumerate() {
-        push_if_unmet(alloc, playback, number, expectation, &mut unmet)?;
+        push_if_unmet(alloc, playbacks, number, expectation, &mut unmet)?;
     }
     Ok(unmet)
 }
@@ -36,39 +38,65 @@ pub fn unmet_expectations(
 /// Adds the number of an expectation, if it isn't met.
 fn push_if_unmet(
     alloc: Global,
-    playback: &Playback,
+    playbacks: &[Playback<'_>],
     number: usize,
     expectation: &Expectation,
     unmet: &mut Vec<usize>,
 ) -> Result<(), AllocError>
-    ensures { OnOk result (unmet.new.items ≡ unmet.old.items ++ unmet_at playback.now number expectation.now) }
+    ensures { OnOk result (unmet.new.items ≡ unmet.old.items ++ unmet_at playbacks.now number expectation.now) }
 {
-    if is_met(alloc, playback, expectation)? {
+    if is_met(alloc, playbacks, expectation)? {
         return Ok(());
     }
     unmet.push(number)?;
     Ok(())
 }
 
-/// Returns whether a rehearsal that ran meets an expectation.
+/// Returns whether a rehearsal that ran meets an expectation: whether as many notices fit, over all playbacks, as
+/// are expected. Without playbacks none fits.
 pub fn is_met(
     alloc: Global,
-    playback: &Playback,
+    playbacks: &[Playback<'_>],
     expectation: &Expectation,
 ) -> Result<bool, AllocError>
-    ensures { IfOk result (λ met. met ≡ is_met playback.now expectation.now) }
+    ensures { IfOk result (λ met. met ≡ is_met playbacks.now expectation.now) }
 {
-    let count = count_fitting(alloc, playback, expectation)?;
-    Ok(expectation.amount.allows(count as u64))
+    let count = count_fitting(alloc, playbacks, expectation)?;
+    Ok(allows(expectation.amount, count))
 }
 
-/// Returns how many notices fit.
+/// Whether so many notices are as many as are expected. A number that is no `u64` is more than is ever expected.
+fn allows(amount: Amount, count: u128) -> bool
+    ensures { result ≡ allows amount count }
+{
+    match u64::try_from(count) {
+        Ok(count) => amount.allows(count),
+        Err(_) => amount == Amount::AtLeastOne,
+    }
+}
+
+/// Returns how many notices fit, over all playbacks.
 pub(crate) fn count_fitting(
+    alloc: Global,
+    playbacks: &[Playback<'_>],
+    expectation: &Expectation,
+) -> Result<u128, AllocError>
+    ensures { IfOk result (λ count. count ≡ count_fitting playbacks.now expectation.now) }
+{
+    let mut count: u128 = 0;
+    for playback in playbacks {
+        count += count_in(alloc, playback, expectation)? as u128;
+    }
+    Ok(count)
+}
+
+/// How many notices of a playback fit.
+fn count_in(
     alloc: Global,
     playback: &Playback,
     expectation: &Expectation,
 ) -> Result<usize, AllocError>
-    ensures { IfOk result (λ count. count ≡ count_fitting playback.now expectation.now) }
+    ensures { IfOk result (λ count. count ≡ count_in expectation.now playback.now) }
 {
     let mut count: usize = 0;
     let events = playback.events();
@@ -110,9 +138,9 @@ pub(crate) fn fits(
     )
 }
 
-/// Returns whether a notice is in scope.
+/// Returns whether a playback has a notice in scope.
 pub(crate) fn has_in_scope(playback: &Playback, expectation: &Expectation) -> bool
-    ensures { result ≡ list_any (ends_in_scope playback.now expectation.now) playback.now.events }
+    ensures { result ≡ has_in_scope expectation.now playback.now }
 {
     let events = playback.events();
     for event in events {

@@ -19,19 +19,20 @@ use wanted::push_expected;
 
 /// Returns a line for each expectation, by number from 0 and by name: met or not.
 ///
-/// One that isn't met is followed by what was expected, and by the notices that came.
+/// One that isn't met is followed by what was expected, and by the notices that came in each playback, in
+/// their order. Without playbacks none came.
 pub fn expectations_text<C: TimeFormat>(
     alloc: Global,
-    playback: &Playback,
+    playbacks: &[Playback<'_>],
     clock: &C,
     expectations: &[Expectation],
 ) -> Result<String, AllocError>
     ensures { IfOk result (λ text. string_bytes text
-        ≡ expectations_text playback.now (C.times clock.now) 0 expectations.now) }
+        ≡ expectations_text playbacks.now (C.times clock.now) 0 expectations.now) }
 {
     let mut out = String::new(alloc);
     for (number, expectation) in expectations.iter().enumerate() {
-        push_judged(alloc, playback, clock, number, expectation, &mut out)?;
+        push_judged(alloc, playbacks, clock, number, expectation, &mut out)?;
     }
     Ok(out)
 }
@@ -39,23 +40,23 @@ pub fn expectations_text<C: TimeFormat>(
 #[tactic(auto, unfolding(crate::specs::ExpectationReport::judged_text))]
 fn push_judged<C: TimeFormat>(
     alloc: Global,
-    playback: &Playback,
+    playbacks: &[Playback<'_>],
     clock: &C,
     number: usize,
     expectation: &Expectation,
     out: &mut String,
 ) -> Result<(), AllocError>
     ensures { OnOk result (string_bytes out.new ≡ string_bytes out.old
-        ++ judged_text playback.now (C.times clock.now) number expectation.now) }
+        ++ judged_text playbacks.now (C.times clock.now) number expectation.now) }
 {
     out.push_str("expect ")?;
     push_number(number as u64, out)?;
     push_name(expectation.name.as_ref(), out)?;
-    if is_met(alloc, playback, expectation)? {
+    if is_met(alloc, playbacks, expectation)? {
         return out.push_str(": met\n");
     }
     out.push_str(": not met\n")?;
-    push_answer(alloc, playback, clock, expectation, out)
+    push_answer(alloc, playbacks, clock, expectation, out)
 }
 
 /// Adds the name of an expectation, in quotes.
@@ -72,17 +73,18 @@ fn push_name(name: Option<&Text>, out: &mut String) -> Result<(), AllocError>
     }
 }
 
-/// Adds what was expected, and the notices that came.
+/// Adds what was expected, and the notices that came in each playback, in their order. Without playbacks
+/// none came.
 pub fn push_answer<C: TimeFormat>(
     alloc: Global,
-    playback: &Playback,
+    playbacks: &[Playback<'_>],
     clock: &C,
     expectation: &Expectation,
     out: &mut String,
 ) -> Result<(), AllocError>
     ensures { OnOk result (string_bytes out.new ≡ string_bytes out.old
-        ++ answer_text playback.now (C.times clock.now) expectation.now) }
+        ++ answer_text playbacks.now (C.times clock.now) expectation.now) }
 {
-    push_expected(playback.config(), clock, expectation, out)?;
-    push_got(alloc, playback, clock, expectation, out)
+    push_expected(playbacks, clock, expectation, out)?;
+    push_got(alloc, playbacks, clock, expectation, out)
 }

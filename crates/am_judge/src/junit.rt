@@ -19,16 +19,16 @@ use std::alloc::{AllocError, Global};
 /// `expectations_text`.
 pub fn junit_text<C: TimeFormat>(
     alloc: Global,
-    playback: &Playback,
+    playbacks: &[Playback<'_>],
     clock: &C,
     expectations: &[Expectation],
 ) -> Result<String, AllocError>
-    ensures { IfOk result (λ text. string_bytes text ≡ junit_text playback.now (C.times clock.now) expectations.now) }
+    ensures { IfOk result (λ text. string_bytes text ≡ junit_text playbacks.now (C.times clock.now) expectations.now) }
 {
     let mut out = String::new(alloc);
-    let unmet = unmet_expectations(alloc, playback, expectations)?;
+    let unmet = unmet_expectations(alloc, playbacks, expectations)?;
     push_head(expectations.len(), unmet.len(), &mut out)?;
-    push_cases(alloc, playback, clock, expectations, &mut out)?;
+    push_cases(alloc, playbacks, clock, expectations, &mut out)?;
     out.push_str("</testsuite>\n")?;
     Ok(out)
 }
@@ -61,16 +61,16 @@ fn push_failures(failures: usize, out: &mut String) -> Result<(), AllocError>
 
 fn push_cases<C: TimeFormat>(
     alloc: Global,
-    playback: &Playback,
+    playbacks: &[Playback<'_>],
     clock: &C,
     expectations: &[Expectation],
     out: &mut String,
 ) -> Result<(), AllocError>
     ensures { OnOk result (string_bytes out.new
-        ≡ string_bytes out.old ++ cases_text playback.now (C.times clock.now) 0 expectations.now) }
+        ≡ string_bytes out.old ++ cases_text playbacks.now (C.times clock.now) 0 expectations.now) }
 {
     for (number, expectation) in expectations.iter().enumerate() {
-        push_case(alloc, playback, clock, number, expectation, out)?;
+        push_case(alloc, playbacks, clock, number, expectation, out)?;
     }
     Ok(())
 }
@@ -78,19 +78,19 @@ fn push_cases<C: TimeFormat>(
 #[tactic(auto, unfolding(crate::specs::Junit::case_text))]
 fn push_case<C: TimeFormat>(
     alloc: Global,
-    playback: &Playback,
+    playbacks: &[Playback<'_>],
     clock: &C,
     number: usize,
     expectation: &Expectation,
     out: &mut String,
 ) -> Result<(), AllocError>
     ensures { OnOk result (string_bytes out.new
-        ≡ string_bytes out.old ++ case_text playback.now (C.times clock.now) number expectation.now) }
+        ≡ string_bytes out.old ++ case_text playbacks.now (C.times clock.now) number expectation.now) }
 {
     out.push_str("<testcase classname=\"expect\" name=\"")?;
     push_case_name(number, expectation, out)?;
     out.push_str("\"")?;
-    push_outcome(alloc, playback, clock, expectation, out)
+    push_outcome(alloc, playbacks, clock, expectation, out)
 }
 
 /// Adds the number of an expectation, and its name if it has one.
@@ -122,32 +122,32 @@ fn push_name(name: Option<&Text>, out: &mut String) -> Result<(), AllocError>
 /// Adds the end of a case, with its failure if the expectation isn't met.
 fn push_outcome<C: TimeFormat>(
     alloc: Global,
-    playback: &Playback,
+    playbacks: &[Playback<'_>],
     clock: &C,
     expectation: &Expectation,
     out: &mut String,
 ) -> Result<(), AllocError>
     ensures { OnOk result (string_bytes out.new
-        ≡ string_bytes out.old ++ outcome_text playback.now (C.times clock.now) expectation.now) }
+        ≡ string_bytes out.old ++ outcome_text playbacks.now (C.times clock.now) expectation.now) }
 {
-    if is_met(alloc, playback, expectation)? {
+    if is_met(alloc, playbacks, expectation)? {
         return out.push_str("/>\n");
     }
-    push_failure(alloc, playback, clock, expectation, out)
+    push_failure(alloc, playbacks, clock, expectation, out)
 }
 
 #[tactic(auto, unfolding(crate::specs::Junit::failure_text))]
 fn push_failure<C: TimeFormat>(
     alloc: Global,
-    playback: &Playback,
+    playbacks: &[Playback<'_>],
     clock: &C,
     expectation: &Expectation,
     out: &mut String,
 ) -> Result<(), AllocError>
     ensures { OnOk result (string_bytes out.new
-        ≡ string_bytes out.old ++ failure_text playback.now (C.times clock.now) expectation.now) }
+        ≡ string_bytes out.old ++ failure_text playbacks.now (C.times clock.now) expectation.now) }
 {
-    let answer = answer_of(alloc, playback, clock, expectation)?;
+    let answer = answer_of(alloc, playbacks, clock, expectation)?;
     push_failure_with(answer.as_str(), out)
 }
 
@@ -163,13 +163,13 @@ fn push_failure_with(text: &str, out: &mut String) -> Result<(), AllocError>
 /// Returns what was expected, and the notices that came.
 fn answer_of<C: TimeFormat>(
     alloc: Global,
-    playback: &Playback,
+    playbacks: &[Playback<'_>],
     clock: &C,
     expectation: &Expectation,
 ) -> Result<String, AllocError>
-    ensures { IfOk result (λ text. string_bytes text ≡ answer_text playback.now (C.times clock.now) expectation.now) }
+    ensures { IfOk result (λ text. string_bytes text ≡ answer_text playbacks.now (C.times clock.now) expectation.now) }
 {
     let mut answer = String::new(alloc);
-    push_answer(alloc, playback, clock, expectation, &mut answer)?;
+    push_answer(alloc, playbacks, clock, expectation, &mut answer)?;
     Ok(answer)
 }

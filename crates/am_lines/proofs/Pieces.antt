@@ -23,3 +23,12 @@ pub named_piece : {T E : Type 0} (r : Result T E) (opened filled new before : Li
     → OnOk r (new ≡ filled ++ end_object ∷ end_object ∷ []) → OnOk r (new ≡ before ++ named name members)
 named_piece r opened filled new before name members is_opened is_filled =
     last_piece r new filled (end_object ∷ end_object ∷ []) (before ++ named name members) (rw (is_filled, is_opened) (simp append_assoc))
+
+-- an object with one member, whose members are four pieces
+pub named_four : {T E : Type 0} (r : Result T E) (opened one two three filled new before : List Token) (name : List ℕ) (piece1 piece2 piece3 piece4 : List Token)
+    → opened ≡ before ++ begin_object ∷ key name ∷ begin_object ∷ [] → one ≡ opened ++ piece1 → two ≡ one ++ piece2 → three ≡ two ++ piece3
+    → filled ≡ three ++ piece4 → OnOk r (new ≡ filled ++ end_object ∷ end_object ∷ [])
+    → OnOk r (new ≡ before ++ named name (piece1 ++ piece2 ++ piece3 ++ piece4))
+named_four r opened one two three filled new before name piece1 piece2 piece3 piece4 is_opened is1 is2 is3 is4 =
+    last_piece r new filled (end_object ∷ end_object ∷ []) (before ++ named name (piece1 ++ piece2 ++ piece3 ++ piece4))
+    (rw (is4, is3, is2, is1, is_opened) (simp append_assoc))

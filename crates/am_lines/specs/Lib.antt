@@ -1,4 +1,6 @@
 pub mod Answer
+pub mod Fault
+pub mod Lines
 pub mod Record
 pub mod Reply
 pub mod Request

@@ -8,9 +8,9 @@ use Rattle.am_cli.specs.Configured.{DecodesToConfig, DecodesToLabels, DecodesToM
 use Rattle.am_cli.specs.Decoding.{IsList, IsNumber, IsText, Has, HasOr}
 use Rattle.am_cli.specs.Read.{number_in, duration_in}
 use Rattle.am_cli.specs.declared.reader.Dialect.{Dialect}
+use Rattle.am_config.specs.IgnoredSettings.{nothing}
 use Rattle.am_retry.specs.declared.outcome.Outcome.{Outcome}
 use Rattle.am_retry.specs.declared.outcome.Outcome.TheVariants.{Delivered, Refused, Expired, Starved}
-use Rattle.am_model.specs.declared.config.Config.{Config}
 use Rattle.am_model.specs.Config.{config_fault}
 use Rattle.am_lines.specs.declared.request.Finishing.{Finishing}
 use Rattle.am_lines.specs.declared.request.Insertion.{Insertion}
@@ -18,6 +18,7 @@ use Rattle.am_lines.specs.declared.request.Loading.{Loading}
 use Rattle.am_lines.specs.declared.request.NamedGroup.{NamedGroup}
 use Rattle.am_lines.specs.declared.request.NamedRow.{NamedRow}
 use Rattle.am_lines.specs.declared.request.Noting.{Noting}
+use Rattle.am_lines.specs.declared.request.Opening.{Opening}
 use Rattle.am_lines.specs.declared.request.Reporting.{Reporting}
 use Rattle.am_lines.specs.declared.request.Silencing.{Silencing}
 use Rattle.am_lines.specs.declared.request.Timed.{Timed}
@@ -126,15 +127,16 @@ pub record DecodesToLoading (dialect : Dialect) (value : Data) (loading : Loadin
   pub now : Has IsMoment (codes "now") members loading.now
   pub row : Has (DecodesToRow dialect) (codes "row") members loading.row
 
--- a configuration of our own, or one of Alertmanager, of which no more is said than that a board may have it
-abbrev pub IsOpening : Dialect → Members → Config → Type 0
-IsOpening dialect members config =
-    (config_fault config ≡ None)
-    × (Has (DecodesToConfig dialect) (codes "config") members config ⊎ (get_member (codes "alertmanager") members ≢ None))
+-- a configuration of our own, of which nothing is ignored, or one of Alertmanager, of which no more is said than that a board may have it
+abbrev pub IsOpening : Dialect → Members → Opening → Type 0
+IsOpening dialect members opening =
+    (config_fault opening.config ≡ None)
+    × ((Has (DecodesToConfig dialect) (codes "config") members opening.config × (opening.ignored ≡ nothing))
+    ⊎ (get_member (codes "alertmanager") members ≢ None))
 
 -- the member with the name of the call has its arguments
 abbrev pub IsRequestOf : Dialect → Members → Request → Type 0
-IsRequestOf dialect members (request.Open opening) = IsOpening dialect members opening.config
+IsRequestOf dialect members (request.Open opening) = IsOpening dialect members opening
 IsRequestOf dialect members (request.Insert x) = Has (DecodesToInsertion dialect) (codes "insert") members x
 IsRequestOf dialect members (request.Silence x) = Has (DecodesToSilencing dialect) (codes "silence") members x
 IsRequestOf dialect members (request.Begin x) = Has DecodesToTimed (codes "begin") members x

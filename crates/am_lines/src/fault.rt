@@ -1,13 +1,30 @@
 //! `LineFault`: why a line isn't answered by what it asks for, and the text of that.
+ghost use Rattle.std.specs.Prelude.{◌≡◌, ◌++◌, IfSome, IsTrue, None, OnOk, codes};
+ghost use Rattle.am_lines.specs.Fault.{changes_nothing, IsOfBoard, IsOfLoad, IsOfNote, IsOfReport, IsRefusedAs, fault_line, fault_tokens, kind_of, column_member, message_of, place_of};
+ghost use Rattle.am_lines.specs.Fault.{refusal_kind, refusal_message};
+
 use crate::answer::Answer;
 use crate::reply::{begin, end};
 use am_cli::fault::{FaultKind, InputFault, ParseFault};
 use am_model::fault::{Fault, LoadFault, NoteFault, ReportFault};
 use std::alloc::AllocError;
 
-/// What is written where memory for the text of another fault is refused.
-pub const NO_MEMORY_LINE: &str =
+/// What is written of these faults. It needs no memory.
+const NO_MEMORY_LINE: &str =
     "{\"error\":{\"pointer\":\"\",\"kind\":\"memory\",\"message\":\"out of memory\"}}\n";
+
+const UNTOLD_LINE: &str =
+    "{\"error\":{\"pointer\":\"\",\"kind\":\"untold\",\"message\":\"the call was made, and there was no memory to write its answer\"}}\n";
+
+const SPENT_LINE: &str =
+    "{\"error\":{\"pointer\":\"\",\"kind\":\"NotOpen\",\"message\":\"no open flush has this ticket\"}}\n";
+
+/// Returns the line that tells that memory was refused. It needs none.
+pub fn no_memory_line() -> &'static str
+    ensures { result.now ≡ fault_line LineFault.NoMemory }
+{
+    NO_MEMORY_LINE
+}
 
 /// Why a line isn't answered by what it asks for. The board and the tickets are as before, except after `Untold` and `Spent`.
 #[derive(Drop)]
@@ -38,6 +55,10 @@ pub enum LineFault {
 }
 
 impl From<ParseFault> for LineFault {
+    ghost use Rattle.am_lines.specs.Fault.{IsOfParse};
+
+    ghost from_gives = { λ fault given. IsOfParse fault given };
+
     fn from(fault: ParseFault) -> LineFault {
         match fault {
             ParseFault::NotJson { line: _, column } => LineFault::NotJson { column },
@@ -47,6 +68,10 @@ impl From<ParseFault> for LineFault {
 }
 
 impl From<InputFault> for LineFault {
+    ghost use Rattle.am_lines.specs.Fault.{IsOfInput};
+
+    ghost from_gives = { λ fault given. IsOfInput fault given };
+
     fn from(fault: InputFault) -> LineFault {
         match fault {
             InputFault::Refused { place, fault_kind } => LineFault::Refused { place, fault_kind },
@@ -56,6 +81,11 @@ impl From<InputFault> for LineFault {
 }
 
 impl From<AllocError> for LineFault {
+    ghost use Rattle.std.specs.Prelude.{◌≡◌};
+    ghost use Rattle.am_lines.specs.declared.fault.LineFault.TheVariants as line_fault;
+
+    ghost from_gives = { λ _ given. given ≡ line_fault.NoMemory };
+
     fn from(_refused: AllocError) -> LineFault {
         LineFault::NoMemory
     }
@@ -63,7 +93,9 @@ impl From<AllocError> for LineFault {
 
 impl LineFault {
     /// Returns the fault of a call that the board refuses; the place is that of the call.
-    pub fn of_board(place: &'static str, fault: Fault) -> LineFault {
+    pub fn of_board(place: &'static str, fault: Fault) -> LineFault
+        ensures { IsOfBoard place.now fault result }
+    {
         let (kind, message) = match fault {
             Fault::NoMemory => return LineFault::NoMemory,
             Fault::TooManyNames => (
@@ -95,7 +127,9 @@ impl LineFault {
     }
 
     /// Returns the fault of a note that the board refuses.
-    pub fn of_note(fault: NoteFault) -> LineFault {
+    pub fn of_note(fault: NoteFault) -> LineFault
+        ensures { IsOfNote fault result }
+    {
         match fault {
             NoteFault::NoMemory => LineFault::NoMemory,
             NoteFault::HistoryFull => LineFault::of_board("/note", Fault::HistoryFull),
@@ -114,7 +148,9 @@ impl LineFault {
     }
 
     /// Returns the fault of a load that the board refuses.
-    pub fn of_load(fault: LoadFault) -> LineFault {
+    pub fn of_load(fault: LoadFault) -> LineFault
+        ensures { IsOfLoad fault result }
+    {
         let (place, kind, message) = match fault {
             LoadFault::NoMemory => return LineFault::NoMemory,
             LoadFault::HistoryFull => return LineFault::of_board("/load", Fault::HistoryFull),
@@ -142,7 +178,9 @@ impl LineFault {
     }
 
     /// Returns the fault of a report that isn't recorded.
-    pub fn of_report(fault: ReportFault) -> LineFault {
+    pub fn of_report(fault: ReportFault) -> LineFault
+        ensures { IsOfReport fault result }
+    {
         match fault {
             ReportFault::Stranger => LineFault::NotMade {
                 place: "/report/integration",
@@ -158,7 +196,9 @@ impl LineFault {
     }
 
     /// Returns the fault of a ticket of which no flush is open.
-    pub fn not_open(place: &'static str) -> LineFault {
+    pub fn not_open(place: &'static str) -> LineFault
+        ensures { IsRefusedAs result place.now (codes "NotOpen") }
+    {
         LineFault::NotMade {
             place,
             kind: "NotOpen",
@@ -166,21 +206,46 @@ impl LineFault {
         }
     }
 
+    /// Returns the line that tells the fault, if that needs no memory. After each other fault all is as before.
+    pub fn ready_line(&self) -> Option<&'static str>
+        ensures line { IfSome result (λ line. line.now ≡ fault_line self.now) }
+        ensures none { result ≡ None → IsTrue (changes_nothing self.now) }
+    {
+        match self {
+            LineFault::NoMemory => Some(no_memory_line()),
+            LineFault::Untold => Some(UNTOLD_LINE),
+            LineFault::Spent => Some(SPENT_LINE),
+            _ => None,
+        }
+    }
+
     /// Writes the fault: `{"error":{"pointer":"/insert/labels","kind":"missing","message":".."}}`. For what isn't JSON
     /// there is a `column` too.
-    pub fn write(&self, answer: &mut Answer) -> Result<(), AllocError> {
+    pub fn write(&self, answer: &mut Answer) -> Result<(), AllocError>
+        ensures { OnOk result (answer.new ≡ answer.old ++ fault_tokens self.now) }
+    {
         let (kind, message) = self.words();
         begin("error", answer)?;
         answer.put_text("pointer", self.place())?;
         answer.put_text("kind", kind)?;
-        if let LineFault::NotJson { column } = self {
-            answer.put_number("column", *column as u64)?;
-        }
+        self.put_column(answer)?;
         answer.put_text("message", message)?;
         end(answer)
     }
 
-    fn place(&self) -> &str {
+    /// Adds the column of what isn't JSON.
+    fn put_column(&self, answer: &mut Answer) -> Result<(), AllocError>
+        ensures { OnOk result (answer.new ≡ answer.old ++ column_member self.now) }
+    {
+        match self {
+            LineFault::NotJson { column } => answer.put_number("column", *column as u64),
+            _ => Ok(()),
+        }
+    }
+
+    fn place(&self) -> &str
+        ensures { result.now ≡ place_of self.now }
+    {
         match self {
             LineFault::Refused {
                 place,
@@ -192,7 +257,10 @@ impl LineFault {
     }
 
     /// The kind, for programs, and the message, for people.
-    fn words(&self) -> (&'static str, &'static str) {
+    fn words(&self) -> (&'static str, &'static str)
+        ensures kind { result.0.now ≡ kind_of self.now }
+        ensures message { result.1.now ≡ message_of self.now }
+    {
         match self {
             LineFault::NotJson { .. } => (
                 "json",
@@ -215,7 +283,10 @@ impl LineFault {
 }
 
 /// The kind is named as the readers of files name it.
-fn refusal_words(fault_kind: FaultKind) -> (&'static str, &'static str) {
+fn refusal_words(fault_kind: FaultKind) -> (&'static str, &'static str)
+    ensures kind { result.0.now ≡ refusal_kind fault_kind }
+    ensures message { result.1.now ≡ refusal_message fault_kind }
+{
     match fault_kind {
         FaultKind::Missing => ("missing", "this member is missing"),
         FaultKind::WrongType => ("kind", "another type of JSON value is wanted here"),

@@ -2,14 +2,13 @@
 ghost use Rattle.std.specs.Prelude.{◌≡◌, ◌++◌, ◌∷◌, codes, OnOk};
 ghost use Rattle.std.specs.List.{flat_map};
 ghost use Rattle.json.specs.Token.{key};
-ghost use Rattle.am_model.specs.Config.{kind_at};
 ghost use Rattle.am_lines.specs.Answer.{alert_members, content_members, integration_members, optional_number, sent_tokens, text_member};
 
 use crate::answer::{Answer, ToJson};
 use am_alerts::alert::Alert;
 use am_alerts::labels::Labels;
 use am_alerts::sequence::Sequence;
-use am_model::config::{Config, Integration};
+use am_model::config::{Config, kind_at};
 use am_model::group::GroupName;
 use am_model::notice::Notice;
 use std::alloc::AllocError;
@@ -145,15 +144,5 @@ pub(crate) fn put_integration(
 {
     let integrations = config.integrations_of(group);
     answer.put_number("integration", u64::from(position))?;
-    answer.put_text("kind", kind_at(integrations, position))
-}
-
-/// The kind of the integration at a position; nothing at a position that isn't there.
-fn kind_at(integrations: &[Integration], position: u32) -> &str
-    ensures { result.now ≡ kind_at integrations.now position }
-{
-    match integrations.get(position as usize) {
-        None => "",
-        Some(integration) => integration.kind.as_str(),
-    }
+    answer.put_text("kind", kind_at(integrations, position as usize))
 }

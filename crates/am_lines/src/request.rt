@@ -14,7 +14,7 @@ ghost use Rattle.am_lines.specs.Request.{IsGroupLabels, HasOneMember, IsOpening,
 use crate::moment::{ends, moment_at, moment_or};
 use am_alerts::alert::{Alert, AlertFault};
 use am_alerts::labels::Labels;
-use am_alerts::limits::MAX_MOMENT;
+use am_alerts::limits::{MAX_MATCHERS, MAX_MOMENT};
 use am_alerts::matcher::Matcher;
 use am_alerts::text::Text;
 use am_cli::config::read_config;
@@ -228,7 +228,7 @@ fn only_name<'v>(reader: &Reader<'v, '_>, line: &Object<'v, '_>) -> Result<&'v s
 
 /// Reads a configuration of our own, the member `config`.
 fn read_own(line: &Object<'_, '_>) -> Result<Opening, InputFault>
-    ensures { IfOk result (λ opening. IsOpening line.now.dialect (members_view line.now.members) opening.config) }
+    ensures { IfOk result (λ opening. IsOpening line.now.dialect (members_view line.now.members) opening) }
 {
     let config = read_config(&line.required("config")?)?;
     Ok(Opening {
@@ -239,7 +239,7 @@ fn read_own(line: &Object<'_, '_>) -> Result<Opening, InputFault>
 
 /// Reads a configuration of Alertmanager, the member `alertmanager`.
 fn read_theirs(line: &Object<'_, '_>) -> Result<Opening, InputFault>
-    ensures { IfOk result (λ opening. IsOpening line.now.dialect (members_view line.now.members) opening.config) }
+    ensures { IfOk result (λ opening. IsOpening line.now.dialect (members_view line.now.members) opening) }
 {
     let reader = line.required("alertmanager")?;
     match read_alertmanager(&reader, None) {
@@ -352,12 +352,17 @@ impl<'v> FromJson<'v> for Silencing {
     }
 }
 
-/// Reads the matchers of a silence.
+/// Reads the matchers of a silence. They are counted before the first is read: each can want much memory.
 fn matchers_at(call: &Object<'_, '_>) -> Result<Vec<Matcher>, InputFault>
     ensures { IfOk result (λ matchers. Has (IsList (DecodesToMatcher call.now.dialect)) (codes "matchers")
         (members_view call.now.members) matchers.items) }
 {
-    let matchers = call.required("matchers")?.list::<Matcher>()?;
+    let listed = call.required("matchers")?;
+    let count = listed.array()?.len();
+    if count > MAX_MATCHERS {
+        return Err(listed.refuse(FaultKind::BadValue));
+    }
+    let matchers = listed.list::<Matcher>()?;
     Ok(matchers)
 }
 

@@ -16,7 +16,7 @@ use Rattle.am_model.specs.declared.config.Receiver.{Receiver}
 use Rattle.am_plans.proofs.Decodings.{same_some}
 use Rattle.am_plans.proofs.LabelSets.{one_labels}
 use Rattle.am_plans.specs.Expected.{AreMatchersIn, AreSetsIn, HasContentIn, HasNoSlash, IsExpectedIn, IsExpectedOf, IsSplit, IsTargetIn, IsTargetOf}
-use Rattle.am_plans.specs.Expected.{field_names, has_integration, has_target, is_named, position_named, said_or_of}
+use Rattle.am_plans.specs.Expected.{field_names, has_integration, has_target, is_named, position_named, said_or_of, some_has_target}
 use Rattle.am_terms.specs.declared.expectation.Content.{Content}
 use Rattle.am_terms.specs.declared.expectation.Expectation.{Expectation}
 use Rattle.am_terms.specs.declared.rehearsal.TimedAction.{TimedAction}
@@ -134,6 +134,9 @@ pub are_alike : (dialect : Dialect) (until last : ℕ) (plans : List TimedAction
     → IsExpectedIn dialect until last plans value x → IsExpectedIn dialect until last plans value y → AreAlike x y
 are_alike dialect until last plans value x y is also = alike_by dialect until last plans (as_object value) x y is also
 
-pub same_target : (config : Config) (x y : Expectation) → AreAlike x y → has_target config x ≡ has_target config y
-same_target config x y same =
+same_target_in : (x y : Expectation) → AreAlike x y → (config : Config) → has_target config x ≡ has_target config y
+same_target_in x y same config =
     λ i. list_any (λ (r : Receiver). is_named (same.receiver i) r && has_integration (same.kind i) (same.integration i) r.integrations) config.receivers
+
+pub same_target : (configs : List Config) (x y : Expectation) → AreAlike x y → some_has_target configs x ≡ some_has_target configs y
+same_target configs x y same = λ i. list_any (λ (config : Config). same_target_in x y same config i) configs

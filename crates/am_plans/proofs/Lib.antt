@@ -18,3 +18,7 @@ pub mod ExpectedSpans
 pub mod NoPattern
 -- a JSON value tells one outage at most
 pub mod Outages
+-- what reloads and restarts may follow, what a JSON value tells of them, and their order
+pub mod Handovers
+-- what one of some configurations has
+pub mod SomeHave

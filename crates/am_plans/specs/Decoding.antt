@@ -1,7 +1,7 @@
 -- What the JSON values of a story's alerts, silences and outages tell, a line for each member.
 use Rattle.std.specs.Prelude.{◌≡◌, ◌<◌, ◌≤◌, ◌&&◌, ℕ, Bool, true, false, List, [], ◌∷◌, Option, Some}
 use Rattle.std.specs.Prelude.{codes, find, length, nat_le, nat_lt, IfSome, IsTrue, MatchOption}
-use Rattle.std.specs.List.{list_all}
+use Rattle.std.specs.List.{list_all, list_any}
 use Rattle.std.specs.Option.{option_map_or}
 use Rattle.std.specs.Str.{bytes_eq}
 use Rattle.serde_json.specs.Data.{Data, Members}
@@ -102,6 +102,10 @@ abbrev pub has_place : Config → List ℕ → Option ℕ → Bool
 has_place config name position =
     option_map_or (has_position position) (find (λ r. bytes_eq r.name name) config.receivers) false
 
--- whether a configuration has what each of these outages names
-abbrev pub have_places : Config → List Outage → Bool
-have_places config outages = list_all (λ o. has_place config o.receiver o.integration) outages
+-- whether one of these configurations does
+abbrev pub some_has_place : List Config → List ℕ → Option ℕ → Bool
+some_has_place configs name position = list_any (λ config. has_place config name position) configs
+
+-- whether one of them has what each of these outages names
+abbrev pub have_places : List Config → List Outage → Bool
+have_places configs outages = list_all (λ o. some_has_place configs o.receiver o.integration) outages

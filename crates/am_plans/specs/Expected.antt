@@ -24,7 +24,7 @@ use Rattle.am_model.specs.declared.config.Integration.{Integration}
 use Rattle.am_model.specs.declared.config.Receiver.{Receiver}
 use Rattle.am_model.specs.declared.config.TheConstants.{MAX_INTEGRATIONS}
 use Rattle.am_terms.specs.declared.rehearsal.Action.{Action}
-use Rattle.am_terms.specs.declared.rehearsal.Action.TheVariants.{Insert, Silence}
+use Rattle.am_terms.specs.declared.rehearsal.Action.TheVariants.{Insert, Silence, Load}
 use Rattle.am_terms.specs.declared.rehearsal.TimedAction.{TimedAction}
 use Rattle.am_terms.specs.Expectation.{reason_named}
 use Rattle.am_terms.specs.declared.expectation.Amount.{Amount}
@@ -68,6 +68,7 @@ does_as_said resolves a = if resolves then is_some a.ends else is_none a.ends
 -- whether an action inserts an alert that all these matchers match: one that fires, or one that has its end
 abbrev pub inserts : Bool → List MatcherParts → Action → Bool
 inserts resolves matchers (Silence silence) = false
+inserts resolves matchers (Load row) = false
 inserts resolves matchers (Insert a) = does_as_said resolves a && match_all matchers a.labels
 
 -- the time of the first action by the last time that does
@@ -284,6 +285,10 @@ is_target x r = is_named x.receiver r && has_integration x.kind x.integration r.
 abbrev pub has_target : Config → Expectation → Bool
 has_target config x = list_any (is_target x) config.receivers
 
+-- whether one of some configurations has
+abbrev pub some_has_target : List Config → Expectation → Bool
+some_has_target configs x = list_any (λ config. has_target config x) configs
+
 -- whether by the last time an alert fires, or is resolved, that all these matchers match, if any are said
 abbrev pub is_matched : ℕ → List TimedAction → Bool → Option (List MatcherParts) → Bool
 is_matched last plans resolves matchers =
@@ -292,6 +297,7 @@ is_matched last plans resolves matchers =
 -- whether an action inserts an alert with this label set: one that fires, or one that has its end
 abbrev pub inserts_set : Bool → List Label → Action → Bool
 inserts_set resolves labels (Silence silence) = false
+inserts_set resolves labels (Load row) = false
 inserts_set resolves labels (Insert a) = does_as_said resolves a && same_label_set a.labels labels
 
 -- whether one does by the last time
@@ -316,18 +322,18 @@ has_alerts last plans wanted =
     not (wants_none wanted) && is_matched last plans false wanted.has && is_matched last plans true wanted.has_resolved
     && are_inserted last plans false wanted.firing && are_inserted last plans true wanted.resolved
 
--- the same, where the target is one of the configuration, and the alerts are some of the story
-pub record IsKnownIn (dialect : Dialect) (config : Config) (until last : ℕ) (plans : List TimedAction) (value : Data)
+-- the same, where the target is one of the configurations, and the alerts are some of the story
+pub record IsKnownIn (dialect : Dialect) (configs : List Config) (until last : ℕ) (plans : List TimedAction) (value : Data)
     (x : Expectation) : Type 0 where
   pub says : IsExpectedIn dialect until last plans value x
-  pub target : has_target config x ≡ true
+  pub target : some_has_target configs x ≡ true
   pub alerts : has_alerts last plans x.content ≡ true
 
 -- what a member lists as expected, one for one, and no more than a story may have; nothing, where it isn't there
-abbrev pub AreExpectedIn : Dialect → Config → ℕ → ℕ → List TimedAction → Option Data → List Expectation → Type 0
-AreExpectedIn dialect config until last plans member expectations =
+abbrev pub AreExpectedIn : Dialect → List Config → ℕ → ℕ → List TimedAction → Option Data → List Expectation → Type 0
+AreExpectedIn dialect configs until last plans member expectations =
     MatchOption member (expectations ≡ [])
-    (λ value. IsList (IsKnownIn dialect config until last plans) value expectations × (length expectations ≤ MAX_EXPECTATIONS))
+    (λ value. IsList (IsKnownIn dialect configs until last plans) value expectations × (length expectations ≤ MAX_EXPECTATIONS))
 
 -- the matchers that the member of this name lists look for no pattern
 abbrev pub HasNoPatternAt : Dialect → List ℕ → Members → Type 0

@@ -2,5 +2,9 @@
 pub mod Expected
 -- what the JSON values of a story's alerts, silences and outages tell
 pub mod Decoding
+-- the configurations under which a story is played
+pub mod Configs
+-- when a story reloads and restarts the dispatcher
+pub mod Handover
 -- what the alerts and the silences of a story plan
 pub mod Planned

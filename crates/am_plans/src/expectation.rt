@@ -6,6 +6,7 @@ ghost use Rattle.std.specs.Prelude.{◌≡◌, ◌≤◌, ◌<◌, ℕ, IfErr, I
 ghost use Rattle.serde_json.specs.Find.{as_object, as_str, get_member};
 ghost use Rattle.serde_json.specs.View.{members_view, view};
 ghost use Rattle.am_cli.specs.Read.{Excludes};
+ghost use Rattle.am_plans.specs.Configs.{configs_in};
 ghost use Rattle.am_plans.specs.Decoding.{Denies};
 ghost use Rattle.am_plans.specs.Expected.{AreExpectedIn, HaveNoPatternIn, IsExpectedIn};
 ghost use Rattle.am_plans.specs.Expected.{IsExpectedOf, IsKnownIn, HasNoPattern, HasNoPatternIn};
@@ -18,13 +19,13 @@ mod receivers;
 pub(crate) mod span;
 mod target;
 
+use crate::configs::Configs;
 use alerts::check_alerts;
 use am_alerts::text::Text;
 use am_cli::duration::duration;
 use am_cli::fault::{FaultKind, InputFault};
 use am_cli::faults::Faults;
 use am_cli::reader::{Object, Reader};
-use am_model::config::Config;
 use am_terms::expectation::Expectation;
 use am_terms::rehearsal::TimedAction;
 use amount::read_amount;
@@ -62,21 +63,21 @@ const MEMBERS: [&str; 19] = [
     "at_most",
 ];
 
-/// What is expected of a rehearsal that ends at `until`, under a configuration and with these planned actions.
+/// What is expected of a rehearsal that ends at `until`, under these configurations and with these planned actions.
 ///
 /// An expectation that no rehearsal of the story could meet, or that each would, is refused: of a receiver or an
 /// integration that isn't there, of alerts that never fire so, or of a span that begins after the end. The end is that of
 /// the story, or `until` if that is later.
 pub fn read_expectations(
     top: &Object<'_, '_>,
-    config: &Config,
+    configs: &Configs<'_>,
     until: u64,
     plans: &[TimedAction],
 ) -> Result<Vec<Expectation>, InputFault>
-    ensures told { IfOk result (λ expectations. AreExpectedIn top.now.dialect config.now until
+    ensures told { IfOk result (λ expectations. AreExpectedIn top.now.dialect (configs_in configs.now) until
         (last_end until (members_view top.now.members)) plans.now
         (get_member (codes "expect") (members_view top.now.members)) expectations.items) }
-    ensures refused { IfErr result (Excludes (λ expectations. AreExpectedIn top.now.dialect config.now until
+    ensures refused { IfErr result (Excludes (λ expectations. AreExpectedIn top.now.dialect (configs_in configs.now) until
         (last_end until (members_view top.now.members)) plans.now
         (get_member (codes "expect") (members_view top.now.members)) expectations
         × HaveNoPatternIn top.now.dialect (get_member (codes "expect") (members_view top.now.members)))) }
@@ -84,7 +85,7 @@ pub fn read_expectations(
     let last = last_end(top, until);
     match top.optional("expect") {
         None => Ok(Vec::new(top.alloc())),
-        Some(member) => read_list(&member, config, until, last, plans),
+        Some(member) => read_list(&member, configs, until, last, plans),
     }
 }
 
@@ -110,15 +111,15 @@ fn own_end(top: &Object<'_, '_>) -> Option<u64>
 
 fn read_list(
     member: &Reader<'_, '_>,
-    config: &Config,
+    configs: &Configs<'_>,
     until: u64,
     last: u64,
     plans: &[TimedAction],
 ) -> Result<Vec<Expectation>, InputFault>
     ensures told { IfOk result (λ expectations.
-        AreExpectedIn member.now.dialect config.now until last plans.now (Some (view member.now.value)) expectations.items) }
+        AreExpectedIn member.now.dialect (configs_in configs.now) until last plans.now (Some (view member.now.value)) expectations.items) }
     ensures refused { IfErr result (Excludes (λ expectations.
-        AreExpectedIn member.now.dialect config.now until last plans.now (Some (view member.now.value)) expectations
+        AreExpectedIn member.now.dialect (configs_in configs.now) until last plans.now (Some (view member.now.value)) expectations
         × HaveNoPatternIn member.now.dialect (Some (view member.now.value)))) }
 {
     let mut expectations = Vec::new(member.alloc());
@@ -126,7 +127,7 @@ fn read_list(
     refuse_many(member, values)?;
     for (index, value) in values.iter().enumerate() {
         let item = member.item(index, value);
-        expectations.push(read_known(&item, config, until, last, plans)?)?;
+        expectations.push(read_known(&item, configs, until, last, plans)?)?;
     }
     Ok(expectations)
 }
@@ -147,7 +148,7 @@ fn refuse_many(member: &Reader<'_, '_>, values: &[Value]) -> Result<(), InputFau
 pub fn expectation_faults(
     faults: &mut Faults,
     top: &Object<'_, '_>,
-    config: Option<&Config>,
+    configs: Option<&Configs<'_>>,
     until: u64,
     plans: Option<&[TimedAction]>,
 ) -> Result<(), InputFault> {
@@ -166,24 +167,24 @@ pub fn expectation_faults(
             continue;
         }
         let reader = member.item(index, value);
-        let fault = fault_of(&reader, config, until, last, plans);
+        let fault = fault_of(&reader, configs, until, last, plans);
         faults.kept(fault)?;
     }
     Ok(())
 }
 
-/// The first fault of an expectation; none of its target where the configuration isn't known, and of its alerts where the
+/// The first fault of an expectation; none of its target where the configurations aren't known, and of its alerts where the
 /// planned actions aren't.
 fn fault_of(
     reader: &Reader<'_, '_>,
-    config: Option<&Config>,
+    configs: Option<&Configs<'_>>,
     until: u64,
     last: u64,
     plans: Option<&[TimedAction]>,
 ) -> Result<(), InputFault> {
     let expectation = read_expectation(reader, until, last, plans.unwrap_or(&[]))?;
-    if let Some(config) = config {
-        check_target(reader.alloc(), config, &expectation, reader.place())?;
+    if let Some(configs) = configs {
+        check_target(reader.alloc(), configs, &expectation, reader.place())?;
     }
     match plans {
         None => Ok(()),
@@ -194,18 +195,18 @@ fn fault_of(
 /// An expectation whose target and whose alerts are there.
 fn read_known(
     reader: &Reader<'_, '_>,
-    config: &Config,
+    configs: &Configs<'_>,
     until: u64,
     last: u64,
     plans: &[TimedAction],
 ) -> Result<Expectation, InputFault>
-    ensures told { IfOk result (IsKnownIn reader.now.dialect config.now until last plans.now (view reader.now.value)) }
+    ensures told { IfOk result (IsKnownIn reader.now.dialect (configs_in configs.now) until last plans.now (view reader.now.value)) }
     ensures refused { IfErr result (Excludes (λ x.
-        IsKnownIn reader.now.dialect config.now until last plans.now (view reader.now.value) x
+        IsKnownIn reader.now.dialect (configs_in configs.now) until last plans.now (view reader.now.value) x
         × HasNoPatternIn reader.now.dialect (view reader.now.value))) }
 {
     let expectation = read_expectation(reader, until, last, plans)?;
-    check_target(reader.alloc(), config, &expectation, reader.place())?;
+    check_target(reader.alloc(), configs, &expectation, reader.place())?;
     check_content(reader, last, plans, &expectation)?;
     Ok(expectation)
 }

@@ -6,7 +6,9 @@
 
 pub mod alert;
 pub mod causes;
+pub mod configs;
 pub mod expectation;
+pub mod handover;
 pub mod law;
 pub mod origin;
 pub mod outage;

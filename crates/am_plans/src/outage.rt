@@ -3,16 +3,17 @@ ghost use Rattle.std.specs.Prelude.{◌≡◌, [], IfErr, IfOk, IsTrue, List, On
 ghost use Rattle.serde_json.specs.View.{members_view};
 ghost use Rattle.am_cli.specs.Decoding.{HasOr, IsAnswer, IsList};
 ghost use Rattle.am_cli.specs.Read.{Excludes};
+ghost use Rattle.am_plans.specs.Configs.{configs_in};
 ghost use Rattle.am_plans.specs.Decoding.{DecodesToOutage, have_places};
 ghost use Rattle.am_terms.specs.declared.rehearsal.Outage.{Outage};
 
+use crate::configs::Configs;
 use crate::span::Span;
 use crate::target::{check, position};
 use am_cli::duration::duration_or;
 use am_cli::fault::InputFault;
 use am_cli::place::JsonPointer;
 use am_cli::reader::{FromJson, Object, Reader};
-use am_model::config::Config;
 use am_retry::Answer;
 use am_terms::rehearsal::Outage;
 use std::alloc::{AllocError, Global};
@@ -62,31 +63,31 @@ fn read_answer(outage: &Object<'_, '_>) -> Result<Answer, InputFault>
     }
 }
 
-/// Reads the outages of a story, whose receivers and integrations the configuration has.
-pub fn read_outages(top: &Object<'_, '_>, config: &Config) -> Result<Vec<Outage>, InputFault>
+/// Reads the outages of a story, whose receivers and integrations one of the configurations has.
+pub fn read_outages(top: &Object<'_, '_>, configs: &Configs<'_>) -> Result<Vec<Outage>, InputFault>
     ensures told { IfOk result (λ outages.
         HasOr (IsList (DecodesToOutage top.now.dialect)) [] (codes "outages") (members_view top.now.members) outages.items) }
-    ensures places { IfOk result (λ outages. IsTrue (have_places config.now outages.items)) }
+    ensures places { IfOk result (λ outages. IsTrue (have_places (configs_in configs.now) outages.items)) }
     ensures refused { IfErr result (Excludes (λ (outages : List Outage).
         HasOr (IsList (DecodesToOutage top.now.dialect)) [] (codes "outages") (members_view top.now.members) outages
-        × IsTrue (have_places config.now outages))) }
+        × IsTrue (have_places (configs_in configs.now) outages))) }
 {
     let items = top.list_or_none::<OutageItem>("outages")?;
     let outages = outages_of(top.alloc(), items)?;
-    check_outages(top.alloc(), config, outages.as_slice())?;
+    check_outages(top.alloc(), configs, outages.as_slice())?;
     Ok(outages)
 }
 
-/// Refuses the first outage whose receiver or integration the configuration hasn't.
-fn check_outages(alloc: Global, config: &Config, outages: &[Outage]) -> Result<(), InputFault>
-    ensures places { OnOk result (have_places config.now outages.now ≡ true) }
-    ensures refused { IfErr result (λ _. have_places config.now outages.now ≡ false) }
+/// Refuses the first outage whose receiver or integration no configuration has.
+fn check_outages(alloc: Global, configs: &Configs<'_>, outages: &[Outage]) -> Result<(), InputFault>
+    ensures places { OnOk result (have_places (configs_in configs.now) outages.now ≡ true) }
+    ensures refused { IfErr result (λ _. have_places (configs_in configs.now) outages.now ≡ false) }
 {
     for (index, outage) in outages.iter().enumerate() {
         let place = JsonPointer::Root;
         check(
             alloc,
-            config,
+            configs,
             outage.receiver.as_str(),
             outage.integration,
             place.member("outages").item(index),

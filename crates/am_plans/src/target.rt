@@ -3,13 +3,15 @@ ghost use Rattle.std.specs.Prelude.{◌≡◌, ◌≢◌, ◌<◌, ℕ, IfErr, I
 ghost use Rattle.serde_json.specs.Find.{get_member};
 ghost use Rattle.serde_json.specs.View.{members_view};
 ghost use Rattle.am_cli.specs.Read.{number_in};
-ghost use Rattle.am_plans.specs.Decoding.{has_place};
+ghost use Rattle.am_plans.specs.Configs.{configs_in};
+ghost use Rattle.am_plans.specs.Decoding.{some_has_place};
 ghost use Rattle.am_plans.specs.Expected.{member_if};
 
+use crate::configs::Configs;
 use am_cli::fault::{FaultKind, InputFault};
 use am_cli::place::JsonPointer;
 use am_cli::reader::Object;
-use am_model::config::{Config, MAX_INTEGRATIONS};
+use am_model::config::MAX_INTEGRATIONS;
 use std::alloc::Global;
 
 /// The greatest position that an integration can have.
@@ -29,29 +31,25 @@ pub fn position(object: &Object<'_, '_>) -> Result<Option<u32>, InputFault>
     }
 }
 
-/// Refuses a receiver that the configuration hasn't, and a position that the receiver hasn't, at
+/// Refuses a receiver that no configuration has, and a position that the receiver hasn't in any, at
 /// their members of what stands at this place.
 pub fn check(
     alloc: Global,
-    config: &Config,
+    configs: &Configs<'_>,
     receiver: &str,
     position: Option<u32>,
     place: JsonPointer<'_>,
 ) -> Result<(), InputFault>
-    ensures there { OnOk result (has_place config.now receiver.now position ≡ true) }
-    ensures refused { IfErr result (λ _. has_place config.now receiver.now position ≡ false) }
+    ensures there { OnOk result (some_has_place (configs_in configs.now) receiver.now position ≡ true) }
+    ensures refused { IfErr result (λ _. some_has_place (configs_in configs.now) receiver.now position ≡ false) }
 {
-    let Some(receiver) = config.receiver(receiver) else {
-        return Err(place.member("receiver").refuse(alloc, FaultKind::BadValue));
-    };
-    match position {
-        Some(position) if position as usize >= receiver.integrations.len() => {
-            Err(
-                place
-                    .member("integration")
-                    .refuse(alloc, FaultKind::BadValue),
-            )
-        }
-        _ => Ok(()),
+    if configs.have_place(receiver, position) {
+        return Ok(());
     }
+    let wrong = if configs.have_receiver(receiver) {
+        "integration"
+    } else {
+        "receiver"
+    };
+    Err(place.member(wrong).refuse(alloc, FaultKind::BadValue))
 }

@@ -2,3 +2,5 @@
 pub mod Tales
 -- refusals that are handed on, and what they exclude
 pub mod Refusals
+-- members that tell no handovers tell none in any other way
+pub mod NoHandovers

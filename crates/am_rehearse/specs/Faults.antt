@@ -1,5 +1,6 @@
 -- Faults: how a rehearsal ends without its output, or with an expectation that isn't met.
-use Rattle.std.specs.Prelude.{◌≡◌, ◌||◌, ◌⊎◌, ℕ, Bool, true, false, not, List, Option, None, IsSomeAnd, IsTrue}
+use Rattle.std.specs.Prelude.{◌≡◌, ◌||◌, ◌⊎◌, ℕ, Bool, true, false, not, List, [], Option, None, IsSomeAnd, IsTrue}
+use Rattle.std.specs.List.{AllByRecursion}
 use Rattle.serde_json.specs.Read.{read as read_text}
 use Rattle.am_cli.specs.declared.fault.FaultKind.TheVariants.{Full}
 use Rattle.am_cli.specs.declared.fault.InputFault.{InputFault}
@@ -15,17 +16,20 @@ use Rattle.am_input.specs.Request.{IsRequestWithoutPatterns}
 use Rattle.am_input.specs.declared.input.Changes.{Changes}
 use Rattle.am_input.specs.declared.input.Input.{Input}
 use Rattle.am_input.specs.declared.input.Output.{Output}
-use Rattle.am_input.specs.declared.input.Output.TheVariants.{Html}
 use Rattle.am_model.specs.Config.{config_fault}
-use Rattle.am_rehearsal.specs.Play.{setting_of}
-use Rattle.am_rehearsal.specs.WhyNot.{IsWhyNot}
+use Rattle.am_model.specs.declared.config.Config.{Config}
+use Rattle.am_plans.specs.Configs.{configs_of}
+use Rattle.am_rehearsal.specs.Parts.{parts_from, whole_part}
+use Rattle.am_rehearsal.specs.Playing.{IsWhyNotParts}
 use Rattle.am_rehearsal.specs.declared.play.PlayFault.{PlayFault}
 use Rattle.am_rehearsal.specs.declared.play.PlayFault.TheVariants as play
+use Rattle.am_rehearsal.specs.declared.playing.PartFault.{PartFault}
 use Rattle.am_terms.specs.declared.expectation.Expectation.{Expectation}
+use Rattle.am_terms.specs.declared.handover.Handover.{Handover}
 use Rattle.am_terms.specs.declared.rehearsal.Rehearsal.{Rehearsal}
 use Rattle.am_terms.specs.UtcDates.{StartData}
 use Rattle.am_timeline.specs.Filtered.{names_nothing}
-use Rattle.am_rehearse.specs.Printed.{IsRequestBy}
+use Rattle.am_rehearse.specs.Printed.{IsRequestBy, is_page}
 use Rattle.am_rehearse.specs.declared.fault.RehearseFault.{RehearseFault}
 use Rattle.am_rehearse.specs.declared.fault.RehearseFault.TheVariants as rehearse
 use Rattle.am_rehearse.specs.declared.wanted.Wanted.{Wanted}
@@ -67,11 +71,12 @@ abbrev pub leaves_out : Wanted → Bool
 leaves_out wanted = wanted.changes || not (names_nothing wanted.filter)
 
 -- as a JSON text with its configuration in `config`, these bytes ask for this, and it isn't refused: no file is given for the
--- configuration, no matcher looks for a pattern, and no line of a page is left out
+-- configuration, no matcher looks for a pattern, and a page leaves no line out and has one dispatcher
 pub record IsPlayable (changes : Changes) (wanted : Wanted) (text : List ℕ) (story : Input) : Type 0 where
   pub asked : IsSomeAnd (read_text text)
-      (λ value. IsRequestWithoutPatterns changes value story.output story.start story.expectations.items story.rehearsal)
-  pub whole : story.output ≡ Html → leaves_out wanted ≡ false
+      (λ value. IsRequestWithoutPatterns changes value story.output story.start story.expectations.items
+      story.handovers.items story.rehearsal)
+  pub whole : is_page story.output ≡ true → (leaves_out wanted ≡ false) × (story.handovers.items ≡ [])
 
 -- they ask for nothing of that kind
 abbrev pub AsksForNone : Changes → Wanted → List ℕ → Type 0
@@ -81,27 +86,38 @@ AsksForNone changes wanted text = (story : Input) → IsPlayable changes wanted 
 abbrev pub is_limit : PlayFault → Bool
 is_limit play.NoMemory = false
 is_limit play.BadConfig = false
-is_limit (play.PlanFull k) = true
+is_limit (play.PlanRefused k) = true
 is_limit play.Full = true
 
--- a limit leaves no capacity for what happens in a rehearsal
-abbrev pub IsTooLarge : Rehearsal → Type 0
-IsTooLarge rehearsal =
-    (why : PlayFault) × IsTrue (is_limit why) × IsWhyNot (setting_of rehearsal) rehearsal.config rehearsal.plans.items why
+-- why a rehearsal with these handovers isn't played to its end
+abbrev pub IsWhyNotPlayed : Rehearsal → List Handover → PartFault → Type 0
+IsWhyNotPlayed rehearsal handovers why =
+    IsWhyNotParts rehearsal.maintain rehearsal.outages.items
+    (parts_from (whole_part rehearsal.config rehearsal.until rehearsal.plans.items) handovers) why
+
+-- a limit leaves no capacity for what happens in a rehearsal, or a log row that a new dispatcher takes over doesn't fit
+abbrev pub IsTooLarge : Rehearsal → List Handover → Type 0
+IsTooLarge rehearsal handovers = (why : PartFault) × IsTrue (is_limit why.fault) × IsWhyNotPlayed rehearsal handovers why
 
 -- these bytes ask for such a rehearsal
 pub record AsksForTooMuch (changes : Changes) (text : List ℕ) : Type 0 where
   pub output : Output
   pub start : Option StartData
   pub expectations : List Expectation
+  pub handovers : List Handover
   pub rehearsal : Rehearsal
-  pub asked : IsRequestBy changes text output start expectations rehearsal
-  pub too_large : IsTooLarge rehearsal
+  pub asked : IsRequestBy changes text output start expectations handovers rehearsal
+  pub too_large : IsTooLarge rehearsal handovers
 
--- a play of a sound configuration is refused only where a limit leaves no capacity, or for want of memory
-abbrev pub RefusesPlay : Rehearsal → InputFault → Type 0
-RefusesPlay rehearsal (input.Refused place fault_kind) = config_fault rehearsal.config ≡ None → (fault_kind ≡ Full) × IsTooLarge rehearsal
-RefusesPlay rehearsal input.NoMemory = Unit {0}
+-- a dispatcher may have each of these configurations
+abbrev pub AreSound : List Config → Type 0
+AreSound configs = AllByRecursion (λ config. config_fault config ≡ None) configs
+
+-- a play of sound configurations is refused only where a limit leaves no capacity, or for want of memory
+abbrev pub RefusesPlay : Rehearsal → List Handover → InputFault → Type 0
+RefusesPlay rehearsal handovers (input.Refused place fault_kind) =
+    AreSound (configs_of rehearsal.config handovers) → (fault_kind ≡ Full) × IsTooLarge rehearsal handovers
+RefusesPlay rehearsal handovers input.NoMemory = Unit {0}
 
 -- an input is refused as not read only where it is no JSON text. It is refused at a place, or for many faults, only where it asks for
 -- nothing that can be played, or where a limit leaves no capacity for the rehearsal that it asks for, which is refused as full

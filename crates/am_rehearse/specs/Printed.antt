@@ -1,19 +1,19 @@
 -- Printed: what is printed of a rehearsal that ran.
-use Rattle.std.specs.Prelude.{◌≡◌, ◌==◌, ℕ, Bool, true, false, List, [], ◌++◌, codes, length, Option, if◌then◌else◌}
-use Rattle.std.specs.List.{list_all, range_with_len}
+use Rattle.std.specs.Prelude.{◌≡◌, ◌==◌, ℕ, Bool, true, false, not, List, [], ◌∷◌, ◌++◌, codes, drop, length, map, Option, None}
+use Rattle.std.specs.Prelude.{if◌then◌else◌}
+use Rattle.std.specs.List.{AllByRecursion, list_all}
 use Rattle.serde_json.specs.Data.{Data}
-use Rattle.am_model.specs.declared.config.Config.{Config}
-use Rattle.am_model.specs.declared.record.Record.{Record}
 use Rattle.am_model.specs.Replay.{IsLegal}
-use Rattle.am_board.specs.History.{BoardData}
 use Rattle.am_yaml.specs.Document.{IsReadAs}
-use Rattle.am_rehearsal.specs.EventOrder.{begin_indices}
-use Rattle.am_rehearsal.specs.Play.{PlaysTo, setting_of}
-use Rattle.am_rehearsal.specs.Previews.{previews_of}
-use Rattle.am_terms.specs.declared.event.Event.{Event}
-use Rattle.am_terms.specs.declared.event.PreviewedBegin.{PreviewedBegin}
+use Rattle.am_rehearsal.specs.Parts.{parts_from, whole_part}
+use Rattle.am_rehearsal.specs.Playing.{ArePlayed}
 use Rattle.am_rehearsal.specs.declared.limits.TheConstants.{BOARD_ID}
+use Rattle.am_rehearsal.specs.declared.playing.PlayedPart.{PlayedPart}
+use Rattle.am_terms.specs.declared.handover.Handover.{Handover}
 use Rattle.am_terms.specs.declared.rehearsal.Rehearsal.{Rehearsal}
+use Rattle.am_rehearse.specs.Head.{change_of, head_text, heads_of}
+use Rattle.am_rehearse.specs.declared.head.Change.{Change}
+use Rattle.am_rehearse.specs.declared.head.Head.{Head}
 use Rattle.am_rehearse.specs.declared.wanted.Wanted.{Wanted}
 use Rattle.am_timeline.specs.Changed.{changed}
 use Rattle.am_timeline.specs.Filtered.{filtered}
@@ -23,7 +23,7 @@ use Rattle.am_judge.specs.Expectation.{is_met}
 use Rattle.am_judge.specs.ExpectationReport.{expectations_text}
 use Rattle.am_timeline.specs.Json.{json_text}
 use Rattle.am_timeline.specs.Notices.{notices_text}
-use Rattle.am_timeline.specs.Playback.{PlaybackData}
+use Rattle.am_timeline.specs.Playback.{LogbookData, PlaybackData}
 use Rattle.am_timeline.specs.Runs.{short_timeline_text}
 use Rattle.am_timeline.specs.Table.{table_text}
 use Rattle.am_timeline.specs.Timeline.{timeline_text}
@@ -35,73 +35,137 @@ use Rattle.am_input.specs.declared.input.Changes.{Changes}
 use Rattle.am_input.specs.declared.input.Output.TheVariants.{Timeline, Full, Notices, Delivered, Json, Html}
 
 -- what became of expectations, behind an empty line, if there are any
-abbrev pub expectations_section : PlaybackData → TimeFormatData → List Expectation → List ℕ
-expectations_section playback times expectations =
-    if length expectations == 0 then [] else codes "\n" ++ expectations_text playback times 0 expectations
+abbrev pub expectations_section : List PlaybackData → TimeFormatData → List Expectation → List ℕ
+expectations_section playbacks times expectations =
+    if length expectations == 0 then [] else codes "\n" ++ expectations_text playbacks times 0 expectations
 
--- what is below a timeline: the table, the alerts that no delivered notice has and what became of the expectations
-abbrev pub summary : PlaybackData → TimeFormatData → List Expectation → List ℕ
-summary playback times expectations =
-    table_text playback times ++ undelivered_text playback times ++ expectations_section playback times expectations
+-- what is below the lines of one dispatcher: the table, and the alerts that nobody was notified of
+abbrev pub summary : PlaybackData → TimeFormatData → List ℕ
+summary playback times = table_text playback times ++ undelivered_text playback times
+
+-- whether an output is a page
+abbrev pub is_page : Output → Bool
+is_page Timeline = false
+is_page Full = false
+is_page Notices = false
+is_page Delivered = false
+is_page Json = false
+is_page Html = true
+
+-- whether an output has more than lines
+abbrev pub has_summary : Output → Bool
+has_summary Timeline = true
+has_summary Full = true
+has_summary Notices = false
+has_summary Delivered = false
+has_summary Json = false
+has_summary Html = false
 
 -- the rehearsal whose lines are wanted: with the events of the groups that are, and, where changes are, with those that say something new
 abbrev pub selected : Wanted → PlaybackData → TimeFormatData → PlaybackData
 selected wanted playback times =
     if wanted.changes then changed (filtered playback wanted.filter) times else filtered playback wanted.filter
 
--- the text is this output of a playback: the short timeline or the full one with what is below it, the notices alone, with those that
+-- whether the filter leaves an event
+abbrev pub has_lines : Wanted → PlaybackData → Bool
+has_lines wanted playback = not (length (filtered playback wanted.filter).events == 0)
+
+-- what an output has of one dispatcher: the short timeline or the full one with what is below it, the notices alone, with those that
 -- failed or without, or the lines as JSON. The lines are those of the rehearsal that is shown, and what is below them is that of the whole
--- one. Of the page nothing is said
-abbrev pub IsPrinted : Output → PlaybackData → PlaybackData → TimeFormatData → List Expectation → List ℕ → Type 0
-IsPrinted Timeline shown playback times expectations text =
-    text ≡ short_timeline_text shown times ++ summary playback times expectations
-IsPrinted Full shown playback times expectations text = text ≡ timeline_text shown times ++ summary playback times expectations
-IsPrinted Notices shown playback times expectations text = text ≡ notices_text true shown times
-IsPrinted Delivered shown playback times expectations text = text ≡ notices_text false shown times
-IsPrinted Json shown playback times expectations text = text ≡ json_text shown times
-IsPrinted Html shown playback times expectations text = Unit {0}
+-- one
+abbrev pub shown_text : Output → PlaybackData → PlaybackData → TimeFormatData → List ℕ
+shown_text Timeline shown playback times = short_timeline_text shown times ++ summary playback times
+shown_text Full shown playback times = timeline_text shown times ++ summary playback times
+shown_text Notices shown playback times = notices_text true shown times
+shown_text Delivered shown playback times = notices_text false shown times
+shown_text Json shown playback times = json_text shown times
+shown_text Html shown playback times = []
 
--- the playback of a board, with these events and these begins
-abbrev pub playback_with : BoardData → List Event → List PreviewedBegin → PlaybackData
-playback_with board events begins = record { config = board.config; history = board.history; begins = begins; events = events }
+abbrev pub part_text : Output → Wanted → TimeFormatData → PlaybackData → List ℕ
+part_text output wanted times playback = shown_text output (selected wanted playback times) playback times
 
--- a rehearsal that was played, with what its begins were to do
-abbrev pub playback_of : Config → List Record → List Event → PlaybackData
-playback_of config history events =
-    record { config = config; history = history; begins = previews_of config history; events = events }
+-- a line on a new dispatcher, in an output that has more than lines
+abbrev pub head_for : Output → TimeFormatData → Head → List ℕ
+head_for output times head = if has_summary output then head_text times head else []
 
--- the text is this output of a board and these events, of which the history is legal, and of which each begin that took a group is told
--- of once, in their order; the lines are those that are wanted, and `met` is whether it came as each of these expectations says
-pub record IsOutputOf (board : BoardData) (events : List Event) (output : Output) (wanted : Wanted) (times : TimeFormatData)
+-- what it has of these dispatchers, each behind its head
+abbrev pub later_lines : Output → Wanted → TimeFormatData → List Head → List PlaybackData → List ℕ
+later_lines output wanted times [] playbacks = []
+later_lines output wanted times (h ∷ hs) [] = []
+later_lines output wanted times (h ∷ hs) (p ∷ ps) =
+    head_for output times h ++ part_text output wanted times p ++ later_lines output wanted times hs ps
+
+-- what it has of all dispatchers, where the first needs no head
+abbrev pub all_lines : Output → Wanted → TimeFormatData → List Head → List PlaybackData → List ℕ
+all_lines output wanted times heads [] = []
+all_lines output wanted times heads (p ∷ ps) = part_text output wanted times p ++ later_lines output wanted times heads ps
+
+-- what is at the end: what became of the expectations
+abbrev pub end_text : Output → List PlaybackData → TimeFormatData → List Expectation → List ℕ
+end_text output playbacks times expectations =
+    if has_summary output then expectations_section playbacks times expectations else []
+
+-- the text is this output of these dispatchers, one after another. Of the page nothing is said
+abbrev pub IsPrinted : Output → Wanted → List Head → List PlaybackData → TimeFormatData → List Expectation → List ℕ → Type 0
+IsPrinted output wanted heads playbacks times expectations text =
+    is_page output ≡ false
+    → text ≡ all_lines output wanted times heads playbacks ++ end_text output playbacks times expectations
+
+-- the logbook of a dispatcher, as it was played
+abbrev pub log_of : PlayedPart → LogbookData
+log_of p =
+    record { config = p.played.value.board.config; history = p.played.value.board.history; begins = p.played.value.begins.items }
+
+-- its playback: what its begins were to do, by its history, and its events, which name each begin that took a group once, in order
+abbrev pub playback_of : PlayedPart → PlaybackData
+playback_of p =
+    record {
+      config = p.played.value.board.config;
+      history = p.played.value.board.history;
+      begins = p.played.value.begins.items;
+      events = p.played.value.events.items;
+    }
+
+-- its history is legal
+abbrev pub HasLegalHistory : PlayedPart → Type 0
+HasLegalHistory p = IsLegal p.played.value.board.config BOARD_ID p.played.value.board.history
+
+-- the text is this output of dispatchers that were played and changed so, whose histories are legal; the lines are those that are wanted,
+-- and `met` is whether it came as each of these expectations says
+pub record IsOutputOf (changes : List Change) (played : List PlayedPart) (output : Output) (wanted : Wanted) (times : TimeFormatData)
     (expectations : List Expectation) (met : Bool) (text : List ℕ) : Type 0 where
-  pub legal : IsLegal board.config BOARD_ID board.history
-  pub begun : begin_indices events ≡ range_with_len 0 (length (previews_of board.config board.history))
-  pub judges : list_all (is_met (playback_of board.config board.history events)) expectations ≡ met
-  pub is : IsPrinted output (selected wanted (playback_of board.config board.history events) times)
-      (playback_of board.config board.history events) times expectations text
+  pub legal : AllByRecursion HasLegalHistory played
+  pub judges : list_all (is_met (map playback_of played)) expectations ≡ met
+  pub is : IsPrinted output wanted (heads_of changes (drop 1 played)) (map playback_of played) times expectations text
 
--- the text is this output of what a rehearsal plays to
-pub record IsOutputOfRun (rehearsal : Rehearsal) (output : Output) (wanted : Wanted) (times : TimeFormatData)
+-- these dispatchers are those to which a rehearsal with these handovers plays, one after another
+abbrev pub PlaysThrough : Rehearsal → List Handover → List PlayedPart → Type 0
+PlaysThrough rehearsal handovers played =
+    ArePlayed rehearsal.maintain rehearsal.outages.items None
+    (parts_from (whole_part rehearsal.config rehearsal.until rehearsal.plans.items) handovers) played
+
+-- the text is this output of what a rehearsal with these handovers plays to
+pub record IsOutputOfRun (rehearsal : Rehearsal) (handovers : List Handover) (output : Output) (wanted : Wanted) (times : TimeFormatData)
     (expectations : List Expectation) (met : Bool) (text : List ℕ) : Type 0 where
-  pub board : BoardData
-  pub events : List Event
-  pub played : PlaysTo (setting_of rehearsal) rehearsal.config rehearsal.plans.items board events
-  pub tale : IsOutputOf board events output wanted times expectations met text
+  pub played : List PlayedPart
+  pub plays : PlaysThrough rehearsal handovers played
+  pub tale : IsOutputOf (map change_of handovers) played output wanted times expectations met text
 
 -- these bytes are read as a value that asks for this, which is that of a JSON text where they are one
-abbrev pub IsRequestBy : Changes → List ℕ → Output → Option StartData → List Expectation → Rehearsal → Type 0
-IsRequestBy changes input output start expectations rehearsal =
-    (value : Data) × IsReadAs input value × IsRequestIn changes value output start expectations rehearsal
+abbrev pub IsRequestBy : Changes → List ℕ → Output → Option StartData → List Expectation → List Handover → Rehearsal → Type 0
+IsRequestBy changes input output start expectations handovers rehearsal =
+    (value : Data) × IsReadAs input value × IsRequestIn changes value output start expectations handovers rehearsal
 
 -- the text is the output that these bytes ask for, of a rehearsal with the end and the maintenance that they ask for, by the moments and
--- the expectations that they ask for
+-- the expectations that they ask for, with the reloads and restarts that they tell
 pub record IsOutputFor (changes : Changes) (wanted : Wanted) (input : List ℕ) (met : Bool) (text : List ℕ) : Type 0 where
   pub output : Output
   pub start : Option StartData
   pub expectations : List Expectation
+  pub handovers : List Handover
   pub rehearsal : Rehearsal
-  pub asked : IsRequestBy changes input output start expectations rehearsal
-  pub tale : IsOutputOfRun rehearsal output wanted (times_from start) expectations met text
+  pub asked : IsRequestBy changes input output start expectations handovers rehearsal
+  pub tale : IsOutputOfRun rehearsal handovers output wanted (times_from start) expectations met text
 
 -- of bytes that were given before and now, and of bytes that were taken before and now: what was taken since is the output that those that
 -- were given since ask for

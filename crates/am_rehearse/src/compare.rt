@@ -1,8 +1,10 @@
 //! `am-rehearse compare`: simulates a story under two configurations, and prints what differs.
 use crate::play::until_of;
-use crate::run::{logbook_of, play_or_refuse};
-use am_cli::fault::InputFault;
+use crate::render::logbook_of;
+use crate::run::refused;
+use am_cli::fault::{FaultKind, InputFault};
 use am_cli::faults::Refusal;
+use am_cli::place::JsonPointer;
 use am_command::request::CompareRequest;
 use am_commands::faults::accept;
 use am_commands::given::given_to;
@@ -14,9 +16,13 @@ use am_console::progress::Progress;
 use am_input::faults::ReceiversOf;
 use am_input::input::{Changes, Input, Overrides, read_input};
 use am_input::zone_files::ZoneFiles;
-use am_rehearsal::play::Played;
+use am_plans::origin::Origin;
+use am_rehearsal::play::{Played, play};
+use am_rehearsal::playing::PartFault;
 use am_terms::clock::Elapsed;
 use am_terms::dated::UtcDates;
+use am_terms::handover::{Handover, Keeps};
+use am_terms::rehearsal::Rehearsal;
 use am_terms::watch::Watch;
 use am_timeline::comparison::{Comparison, compare_notices};
 use am_timeline::playback::Playback;
@@ -164,18 +170,49 @@ fn play_input<W: Watch>(
 ) -> Result<PlayedStory, InputFault> {
     let Input {
         rehearsal,
+        handovers,
         origins,
         start,
         expectations: _,
         output: _,
         dropped,
     } = input;
+    check_handovers(alloc, handovers.as_slice())?;
     let played = play_or_refuse(alloc, rehearsal, origins.as_slice(), watch)?;
     Ok(PlayedStory {
         played,
         start,
         ignored: dropped,
     })
+}
+
+/// Refuses a story that reloads or restarts the dispatcher.
+fn check_handovers(alloc: Global, handovers: &[Handover]) -> Result<(), InputFault> {
+    let name = match handovers.first() {
+        None => return Ok(()),
+        Some(handover) if handover.keeps == Keeps::All => "reload",
+        Some(_) => "restart",
+    };
+    Err(
+        JsonPointer::Root
+            .member(name)
+            .refuse(alloc, FaultKind::BadValue),
+    )
+}
+
+/// Plays a rehearsal whose planned actions are at these places of the input.
+fn play_or_refuse<W: Watch>(
+    alloc: Global,
+    rehearsal: Rehearsal,
+    origins: &[Origin],
+    watch: &mut W,
+) -> Result<Box<Played>, InputFault> {
+    let ended = play(alloc, rehearsal, watch);
+    watch.end();
+    match ended {
+        Ok(played) => Ok(Box::new(alloc, played)?),
+        Err(fault) => Err(refused(alloc, PartFault { part: 0, fault }, origins)),
+    }
 }
 
 fn compare_played(

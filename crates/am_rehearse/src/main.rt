@@ -7,7 +7,9 @@
 
 mod compare;
 mod fault;
+mod head;
 mod play;
+mod render;
 mod run;
 mod wanted;
 

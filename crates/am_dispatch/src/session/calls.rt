@@ -7,6 +7,7 @@ ghost use Rattle.am_model.specs.Replay.{IsLegal};
 ghost use Rattle.am_model.specs.Views.{group_views, row_views};
 ghost use Rattle.am_model.specs.look_back.Preview.{preview};
 ghost use Rattle.am_board.specs.History.{IsFresh, kept_of, opening, reply_of, state_at};
+ghost use Rattle.am_lines.specs.Fault.{IsUnmade};
 ghost use Rattle.am_lines.specs.Reply.{flush_tokens, reply_tokens};
 ghost use Rattle.am_lines.specs.View.{due_tokens, group_view_tokens, listed, outlook_tokens, row_tokens};
 ghost use Rattle.am_dispatch.specs.Session.{Begins, Does, Finishes, IsSame, KeepsTicket, Leaves, Loads, Makes, Notes, Opens, Reports, Takes};
@@ -42,6 +43,7 @@ impl Session {
     pub fn open(alloc: Global, config: Config) -> Result<Session, LineFault>
         ensures board { IfOk result (λ session. session.board ≡ opening config HOME) }
         ensures tickets { IfOk result (λ session. session.tickets.items ≡ []) }
+        ensures refused { IfErr result IsUnmade }
     {
         let board = open_board(alloc, config)?;
         Ok(Session {
@@ -59,7 +61,7 @@ impl Session {
     ) -> Result<(), LineFault>
         requires { request ≢ Request.TakeHistory }
         ensures told { OnOk result (Does self.old request self.new answer.old answer.new) }
-        ensures refused { IfErr result (Leaves self.old self.new) }
+        ensures refused { IfErr result (Leaves self.old request self.new) }
     {
         match request {
             Request::Open(opening) => self.reopen(alloc, opening, answer),
@@ -90,7 +92,7 @@ impl Session {
         answer: &mut Answer,
     ) -> Result<(), LineFault>
         ensures told { OnOk result (Opens self.new asked answer.old answer.new) }
-        ensures refused { IfErr result (Leaves self.old self.new) }
+        ensures refused { IfErr result (Leaves self.old (Request.Open asked) self.new) }
     {
         let Opening { config, ignored } = asked;
         let board = open_board(alloc, config)?;
@@ -108,7 +110,7 @@ impl Session {
         ensures told { OnOk result
             (Makes self.old self.new (Call.Insert insertion.now insertion.alert) answer.old answer.new) }
         ensures tickets { self.new.tickets.items ≡ self.old.tickets.items }
-        ensures refused { IfErr result (Leaves self.old self.new) }
+        ensures refused { IfErr result (Leaves self.old (Request.Insert insertion) self.new) }
     {
         let Insertion { now, alert } = insertion;
         match self.board.insert(alloc, PASS, now, alert) {
@@ -126,7 +128,7 @@ impl Session {
         ensures told { OnOk result
             (Makes self.old self.new (call_of_silence silencing.now silencing.silence) answer.old answer.new) }
         ensures tickets { self.new.tickets.items ≡ self.old.tickets.items }
-        ensures refused { IfErr result (Leaves self.old self.new) }
+        ensures refused { IfErr result (Leaves self.old (Request.Silence silencing) self.new) }
     {
         let Silencing { now, silence } = silencing;
         match self.board.silence(alloc, PASS, now, silence) {
@@ -137,7 +139,7 @@ impl Session {
 
     fn begin(&mut self, alloc: Global, now: u64, answer: &mut Answer) -> Result<(), LineFault>
         ensures told { OnOk result (Begins self.old self.new now answer.old answer.new) }
-        ensures refused { IfErr result (Leaves self.old self.new) }
+        ensures refused { IfErr result (Leaves self.old (Request.Begin (record { now = now })) self.new) }
     {
         // (the memory for a ticket comes before the ticket)
         self.tickets.reserve(1)?;
@@ -181,7 +183,7 @@ impl Session {
     fn report(&mut self, reporting: Reporting, answer: &mut Answer) -> Result<(), LineFault>
         ensures told { OnOk result (Reports self.old self.new reporting answer.old answer.new) }
         ensures board { self.new.board ≡ self.old.board }
-        ensures refused { IfErr result (Leaves self.old self.new) }
+        ensures refused { IfErr result (Leaves self.old (Request.Report reporting) self.new) }
     {
         let Some(place) = find_ticket(self.tickets.as_slice(), reporting.ticket) else {
             return Err(LineFault::not_open("/report/ticket"));
@@ -200,7 +202,7 @@ impl Session {
     fn note(&mut self, alloc: Global, noting: Noting, answer: &mut Answer) -> Result<(), LineFault>
         ensures told { OnOk result (Notes self.old self.new noting answer.old answer.new) }
         ensures tickets { self.new.tickets.items ≡ self.old.tickets.items }
-        ensures refused { IfErr result (Leaves self.old self.new) }
+        ensures refused { IfErr result (Leaves self.old (Request.Note noting) self.new) }
     {
         let Some(place) = find_ticket(self.tickets.as_slice(), noting.ticket) else {
             return Err(LineFault::not_open("/note/ticket"));
@@ -220,7 +222,7 @@ impl Session {
 
     fn finish(&mut self, finishing: Finishing, answer: &mut Answer) -> Result<(), LineFault>
         ensures told { OnOk result (Finishes self.old self.new finishing answer.old answer.new) }
-        ensures refused { IfErr result (Leaves self.old self.new) }
+        ensures refused { IfErr result (Leaves self.old (Request.Finish finishing) self.new) }
     {
         let Some(place) = find_ticket(self.tickets.as_slice(), finishing.ticket) else {
             return Err(LineFault::not_open("/finish/ticket"));
@@ -241,7 +243,7 @@ impl Session {
     ) -> Result<(), LineFault>
         ensures told { OnOk result (Loads self.old self.new loading answer.old answer.new) }
         ensures tickets { self.new.tickets.items ≡ self.old.tickets.items }
-        ensures refused { IfErr result (Leaves self.old self.new) }
+        ensures refused { IfErr result (Leaves self.old (Request.Load loading) self.new) }
     {
         let Loading { now, row } = loading;
         let Some(row) = row_of(alloc, self.board.config(), row)? else {
@@ -256,7 +258,7 @@ impl Session {
     fn maintain(&mut self, alloc: Global, now: u64, answer: &mut Answer) -> Result<(), LineFault>
         ensures told { OnOk result (Makes self.old self.new (Call.Maintain now) answer.old answer.new) }
         ensures tickets { self.new.tickets.items ≡ self.old.tickets.items }
-        ensures refused { IfErr result (Leaves self.old self.new) }
+        ensures refused { IfErr result (Leaves self.old (Request.Maintain (record { now = now })) self.new) }
     {
         match self.board.maintain(alloc, PASS, now) {
             Ok(maintained) => self.tell(&Reply::Maintained(maintained), answer),
@@ -267,7 +269,7 @@ impl Session {
     fn forget(&mut self, alloc: Global, now: u64, answer: &mut Answer) -> Result<(), LineFault>
         ensures told { OnOk result (Makes self.old self.new (Call.Forget now) answer.old answer.new) }
         ensures tickets { self.new.tickets.items ≡ self.old.tickets.items }
-        ensures refused { IfErr result (Leaves self.old self.new) }
+        ensures refused { IfErr result (Leaves self.old (Request.Forget (record { now = now })) self.new) }
     {
         match self.board.forget(alloc, PASS, now) {
             Ok(forgotten) => self.tell(&Reply::Forgotten(forgotten), answer),
@@ -280,7 +282,7 @@ impl Session {
     pub fn take_history(&mut self, alloc: Global) -> Result<Vec<u8>, LineFault>
         ensures told { IfOk result (λ text. Takes self.old self.new text.items) }
         ensures tickets { self.new.tickets.items ≡ self.old.tickets.items }
-        ensures refused { IfErr result (Leaves self.old self.new) }
+        ensures refused { IfErr result (Leaves self.old Request.TakeHistory self.new) }
     {
         let line = self.history_line(alloc)?;
         match self.board.take_history(alloc) {
@@ -315,43 +317,49 @@ impl Session {
     }
 
     fn show_due(&self, answer: &mut Answer) -> Result<(), LineFault>
-        ensures { OnOk result (answer.new ≡ answer.old ++ due_tokens (next_due (state_at self.now.board))) }
+        ensures told { OnOk result (answer.new ≡ answer.old ++ due_tokens (next_due (state_at self.now.board))) }
+        ensures refused { IfErr result (λ fault. fault ≡ LineFault.NoMemory) }
     {
         Ok(write_due(self.board.next_due(), answer)?)
     }
 
     fn show_summary(&self, answer: &mut Answer) -> Result<(), LineFault>
-        ensures { OnOk result (TellsSummary self.now.board answer.old answer.new) }
+        ensures told { OnOk result (TellsSummary self.now.board answer.old answer.new) }
+        ensures refused { IfErr result (λ fault. fault ≡ LineFault.NoMemory) }
     {
         Ok(write_summary(&self.board.summary(), answer)?)
     }
 
     fn show_tickets(&self, answer: &mut Answer) -> Result<(), LineFault>
-        ensures { OnOk result (answer.new ≡ answer.old
+        ensures told { OnOk result (answer.new ≡ answer.old
             ++ listed (codes "tickets") (ticket_tokens self.now.board.config) self.now.tickets.items) }
+        ensures refused { IfErr result (λ fault. fault ≡ LineFault.NoMemory) }
     {
         Ok(write_tickets(self.board.config(), self.tickets.as_slice(), answer)?)
     }
 
     fn show_outlook(&self, alloc: Global, now: u64, answer: &mut Answer) -> Result<(), LineFault>
-        ensures { OnOk result (answer.new ≡ answer.old
+        ensures told { OnOk result (answer.new ≡ answer.old
             ++ outlook_tokens self.now.board.config (preview self.now.board.config self.now.board.history now)) }
+        ensures refused { IfErr result (λ fault. fault ≡ LineFault.NoMemory) }
     {
         let preview = self.board.preview(alloc, now)?;
         Ok(write_outlook(self.board.config(), preview.as_ref(), answer)?)
     }
 
     fn show_rows(&self, alloc: Global, answer: &mut Answer) -> Result<(), LineFault>
-        ensures { OnOk result (answer.new ≡ answer.old
+        ensures told { OnOk result (answer.new ≡ answer.old
             ++ listed (codes "rows") (row_tokens self.now.board.config) (row_views (state_at self.now.board))) }
+        ensures refused { IfErr result (λ fault. fault ≡ LineFault.NoMemory) }
     {
         let rows = self.board.rows(alloc)?;
         Ok(write_list(self.board.config(), "rows", rows.as_slice(), answer)?)
     }
 
     fn show_groups(&self, alloc: Global, answer: &mut Answer) -> Result<(), LineFault>
-        ensures { OnOk result (answer.new ≡ answer.old
+        ensures told { OnOk result (answer.new ≡ answer.old
             ++ listed (codes "groups") (group_view_tokens self.now.board.config) (group_views (state_at self.now.board))) }
+        ensures refused { IfErr result (λ fault. fault ≡ LineFault.NoMemory) }
     {
         let groups = self.board.groups(alloc)?;
         Ok(write_list(self.board.config(), "groups", groups.as_slice(), answer)?)
@@ -389,7 +397,8 @@ fn write_begun(config: &Config, ticket: &Ticket, answer: &mut Answer) -> Result<
 
 /// An empty board of the program.
 fn open_board(alloc: Global, config: Config) -> Result<Board, LineFault>
-    ensures { IfOk result (λ board. board ≡ opening config HOME) }
+    ensures board { IfOk result (λ board. board ≡ opening config HOME) }
+    ensures refused { IfErr result IsUnmade }
 {
     match Board::new(alloc, config, HOME) {
         Ok(board) => Ok(board),

@@ -1,8 +1,9 @@
 //! The notices that came, as text. `expectation_report` calls it.
 ghost use Rattle.std.specs.Prelude.{◌≡◌, ◌++◌, IfOk, OnOk, string_bytes};
-ghost use Rattle.std.specs.List.{flat_map};
-ghost use Rattle.am_judge.specs.ExpectationReport.{came_front, came_line, getter_text, got_alerts_text, got_by, got_if_shown, got_text};
-ghost use Rattle.am_judge.specs.ExpectationReport.{is_shown, nearest_text, none_text, resolved_word, unfitting_text};
+ghost use Rattle.std.specs.List.{list_any};
+ghost use Rattle.am_judge.specs.Expectation.{has_in_scope};
+ghost use Rattle.am_judge.specs.ExpectationReport.{all_got, came_front, came_line, getter_text, got_alerts_text, got_by, got_if_shown};
+ghost use Rattle.am_judge.specs.ExpectationReport.{got_in, got_text, is_shown, nearest_text, none_text, resolved_word, unfitting_text};
 
 use crate::expectation::{count_fitting, fits, has_in_scope, is_in_scope};
 use crate::expectation_report::differences::push_differences;
@@ -23,54 +24,82 @@ use std::alloc::{AllocError, Global};
 /// Adds the notices that came: those that fit, or else those in scope, or else the nearest.
 pub(crate) fn push_got<C: TimeFormat>(
     alloc: Global,
-    playback: &Playback,
+    playbacks: &[Playback<'_>],
     clock: &C,
     expectation: &Expectation,
     out: &mut String,
 ) -> Result<(), AllocError>
     ensures { OnOk result (string_bytes out.new ≡ string_bytes out.old
-        ++ got_text playback.now (C.times clock.now) expectation.now) }
+        ++ got_text playbacks.now (C.times clock.now) expectation.now) }
 {
-    if count_fitting(alloc, playback, expectation)? == 0 {
-        return push_unfitting(alloc, playback, clock, expectation, out);
+    if count_fitting(alloc, playbacks, expectation)? == 0 {
+        return push_unfitting(alloc, playbacks, clock, expectation, out);
     }
-    push_all_got(alloc, true, playback, clock, expectation, out)
+    push_all_got(alloc, true, playbacks, clock, expectation, out)
 }
 
 /// Adds those in scope, or else the nearest.
 fn push_unfitting<C: TimeFormat>(
     alloc: Global,
-    playback: &Playback,
+    playbacks: &[Playback<'_>],
     clock: &C,
     expectation: &Expectation,
     out: &mut String,
 ) -> Result<(), AllocError>
     ensures { OnOk result (string_bytes out.new ≡ string_bytes out.old
-        ++ unfitting_text playback.now (C.times clock.now) expectation.now) }
+        ++ unfitting_text playbacks.now (C.times clock.now) expectation.now) }
 {
-    if has_in_scope(playback, expectation) {
-        return push_all_got(alloc, false, playback, clock, expectation, out);
+    if have_in_scope(playbacks, expectation) {
+        return push_all_got(alloc, false, playbacks, clock, expectation, out);
     }
-    push_none(alloc, playback, clock, expectation, out)
+    push_none(alloc, playbacks, clock, expectation, out)
 }
 
 /// Adds that none came in scope, and the nearest.
 #[tactic(auto, unfolding(crate::specs::ExpectationReport::none_text))]
 fn push_none<C: TimeFormat>(
     alloc: Global,
-    playback: &Playback,
+    playbacks: &[Playback<'_>],
     clock: &C,
     expectation: &Expectation,
     out: &mut String,
 ) -> Result<(), AllocError>
     ensures { OnOk result (string_bytes out.new ≡ string_bytes out.old
-        ++ none_text playback.now (C.times clock.now) expectation.now) }
+        ++ none_text playbacks.now (C.times clock.now) expectation.now) }
 {
     out.push_str("  got       none\n")?;
-    push_nearest(alloc, playback, clock, expectation, out)
+    push_nearest(alloc, playbacks, clock, expectation, out)
 }
 
+/// Whether a playback has a notice in scope.
+fn have_in_scope(playbacks: &[Playback<'_>], expectation: &Expectation) -> bool
+    ensures { result ≡ list_any (has_in_scope expectation.now) playbacks.now }
+{
+    playbacks
+        .iter()
+        .any(|playback| has_in_scope(playback, expectation))
+}
+
+/// Adds the notices of all playbacks that are shown.
 fn push_all_got<C: TimeFormat>(
+    alloc: Global,
+    some_fit: bool,
+    playbacks: &[Playback<'_>],
+    clock: &C,
+    expectation: &Expectation,
+    out: &mut String,
+) -> Result<(), AllocError>
+    ensures { OnOk result (string_bytes out.new ≡ string_bytes out.old
+        ++ all_got some_fit playbacks.now (C.times clock.now) expectation.now) }
+{
+    for playback in playbacks {
+        push_got_in(alloc, some_fit, playback, clock, expectation, out)?;
+    }
+    Ok(())
+}
+
+/// Adds the notices of a playback that are shown.
+fn push_got_in<C: TimeFormat>(
     alloc: Global,
     some_fit: bool,
     playback: &Playback,
@@ -79,7 +108,7 @@ fn push_all_got<C: TimeFormat>(
     out: &mut String,
 ) -> Result<(), AllocError>
     ensures { OnOk result (string_bytes out.new ≡ string_bytes out.old
-        ++ flat_map (got_by some_fit playback.now (C.times clock.now) expectation.now) playback.now.events) }
+        ++ got_in some_fit (C.times clock.now) expectation.now playback.now) }
 {
     let events = playback.events();
     for event in events {
@@ -153,23 +182,23 @@ fn is_shown(
 #[tactic(auto, unfolding(crate::specs::ExpectationReport::nearest_text))]
 fn push_nearest<C: TimeFormat>(
     alloc: Global,
-    playback: &Playback,
+    playbacks: &[Playback<'_>],
     clock: &C,
     expectation: &Expectation,
     out: &mut String,
 ) -> Result<(), AllocError>
     ensures { OnOk result (string_bytes out.new ≡ string_bytes out.old
-        ++ nearest_text playback.now (C.times clock.now) expectation.now) }
+        ++ nearest_text playbacks.now (C.times clock.now) expectation.now) }
 {
-    match nearest_of(alloc, playback, expectation)? {
+    match nearest_of(alloc, playbacks, expectation)? {
         None => Ok(()),
-        Some(sent) => push_line(
+        Some(found) => push_line(
             alloc,
             "  nearest   ",
-            playback,
+            found.playback,
             clock,
             expectation,
-            &sent,
+            &found.sent,
             out,
         ),
     }

@@ -1,17 +1,18 @@
 //! What is expected, as text. `expectation_report` calls it.
 ghost use Rattle.std.specs.Prelude.{◌≡◌, ◌++◌, OnOk, codes, option_copied, string_bytes};
 ghost use Rattle.std.specs.List.{flat_map, join_by};
-ghost use Rattle.am_judge.specs.ExpectationReport.{about_text, amount_text, exact_text, expected_line, has_text, kind_of, kind_text};
-ghost use Rattle.am_judge.specs.ExpectationReport.{listed_text, matcher_shown, matchers_text, notices_wanted, operator_shown};
-ghost use Rattle.am_judge.specs.ExpectationReport.{reason_part, sets_text, span_text, wanted_reason_text, wanted_text};
+ghost use Rattle.am_judge.specs.ExpectationReport.{about_text, amount_text, exact_text, expected_line, has_text, integration_of};
+ghost use Rattle.am_judge.specs.ExpectationReport.{kind_of, kind_text, listed_text, matcher_shown, matchers_text, notices_wanted};
+ghost use Rattle.am_judge.specs.ExpectationReport.{operator_shown, reason_part, sets_text, span_text, wanted_reason_text, wanted_text};
 ghost use Rattle.am_timeline.specs.Shown.{set_shown};
 
 use am_alerts::labels::Labels;
 use am_alerts::matcher::{Matcher, Operator};
 use am_alerts::sequence::Sequence;
-use am_model::config::{Config, kind_at};
+use am_model::config::{Config, Integration};
 use am_terms::clock::{TimeFormat, push_number};
 use am_terms::expectation::{Amount, Content, Expectation, SentReason};
+use am_timeline::playback::Playback;
 use am_timeline::shown::{push_set, push_text};
 use am_timeline::table::push_count;
 use std::alloc::AllocError;
@@ -19,17 +20,17 @@ use std::alloc::AllocError;
 /// Adds the line on what is expected.
 #[tactic(auto, unfolding(crate::specs::ExpectationReport::expected_line))]
 pub(crate) fn push_expected<C: TimeFormat>(
-    config: &Config,
+    playbacks: &[Playback<'_>],
     clock: &C,
     expectation: &Expectation,
     out: &mut String,
 ) -> Result<(), AllocError>
     ensures { OnOk result (string_bytes out.new ≡ string_bytes out.old
-        ++ expected_line config.now (C.times clock.now) expectation.now) }
+        ++ expected_line playbacks.now (C.times clock.now) expectation.now) }
 {
     out.push_str("  expected  ")?;
     push_span(clock, expectation, out)?;
-    push_about(config, expectation, out)?;
+    push_about(playbacks, expectation, out)?;
     out.push_str(": ")?;
     push_notices(expectation, out)?;
     out.push_str("\n")
@@ -59,12 +60,12 @@ fn push_span<C: TimeFormat>(
 
 /// Adds whom an expectation is about.
 fn push_about(
-    config: &Config,
+    playbacks: &[Playback<'_>],
     expectation: &Expectation,
     out: &mut String,
 ) -> Result<(), AllocError>
     ensures { OnOk result (string_bytes out.new ≡ string_bytes out.old
-        ++ about_text config.now expectation.now.receiver expectation.now.kind expectation.now.integration) }
+        ++ about_text playbacks.now expectation.now.receiver expectation.now.kind expectation.now.integration) }
 {
     match (
         &expectation.receiver,
@@ -88,7 +89,7 @@ fn push_about(
             out.push_str(" -> ")?;
             push_text(name.as_str(), out)?;
             out.push_str(" ")?;
-            out.push_str(kind_of(config, name.as_str(), position))?;
+            out.push_str(kind_of(playbacks, name.as_str(), position))?;
             out.push_str("/")?;
             push_number(u64::from(position), out)
         }
@@ -115,14 +116,25 @@ fn push_kind(kind: &str, position: Option<u32>, out: &mut String) -> Result<(), 
     }
 }
 
-/// The kind of an integration of the receiver of this name.
-fn kind_of<'c>(config: &'c Config, name: &str, position: u32) -> &'c str
-    ensures { result.now ≡ kind_of config.now name.now position }
+/// The kind of the integration at a position of the receiver of this name, in the first playback whose
+/// configuration has it; empty where none has.
+fn kind_of<'s>(playbacks: &[Playback<'s>], name: &str, position: u32) -> &'s str
+    ensures { result.now ≡ kind_of playbacks.now name.now position }
 {
-    match config.receiver(name) {
-        None => "",
-        Some(receiver) => kind_at(receiver.integrations.as_slice(), position as usize),
+    for playback in playbacks {
+        if let Some(integration) = integration_of(playback.config(), name, position) {
+            return integration.kind.as_str();
+        }
     }
+    ""
+}
+
+/// The integration at a position of the receiver of this name, if a configuration has it.
+fn integration_of<'c>(config: &'c Config, name: &str, position: u32) -> Option<&'c Integration>
+    ensures { option_copied result ≡ integration_of config.now name.now position }
+{
+    let receiver = config.receiver(name)?;
+    receiver.integrations.as_slice().get(position as usize)
 }
 
 /// Adds how many notices are wanted.

@@ -147,7 +147,7 @@ fn inserts_set(resolves: bool, labels: &Labels, action: &Action) -> bool
     ensures { result ≡ inserts_set resolves labels.now action.now }
 {
     match action {
-        Action::Silence(_) => false,
+        Action::Silence(_) | Action::Load(_) => false,
         Action::Insert(alert) => does_as_said(alert, resolves) && alert.labels() == labels,
     }
 }

@@ -1,39 +1,58 @@
-//! Whether a configuration has the receiver and the integration of an expectation. `expectation` calls it.
+//! Whether a configuration of a story has the receiver and the integration of an expectation. `expectation` calls it.
 ghost use Rattle.std.specs.Prelude.{◌≡◌, IfErr, OnOk, false, true};
 ghost use Rattle.std.specs.List.{list_any};
 ghost use Rattle.std.specs.Str.{bytes_eq};
 ghost use Rattle.am_plans.specs.Expected.{has_integration, has_kind, has_target, is_named, is_target};
+ghost use Rattle.am_plans.specs.Expected.{some_has_target};
+ghost use Rattle.am_plans.specs.Configs.{configs_in};
 
+use crate::configs::Configs;
 use am_cli::fault::{FaultKind, InputFault};
 use am_cli::place::JsonPointer;
 use am_model::config::{Config, Integration, Receiver};
 use am_terms::expectation::Expectation;
+use am_terms::handover::Handover;
 use std::alloc::Global;
 
-/// Refuses a receiver that the configuration hasn't, and an integration that the receiver hasn't; where no receiver is
+/// Refuses a receiver that no configuration has, and an integration that the receiver hasn't in any; where no receiver is
 /// named, one that none has.
 pub(crate) fn check_target(
     alloc: Global,
-    config: &Config,
+    configs: &Configs<'_>,
     expectation: &Expectation,
     place: &JsonPointer<'_>,
 ) -> Result<(), InputFault>
-    ensures target { OnOk result (has_target config.now expectation.now ≡ true) }
-    ensures refused { IfErr result (λ _. has_target config.now expectation.now ≡ false) }
+    ensures target { OnOk result (some_has_target (configs_in configs.now) expectation.now ≡ true) }
+    ensures refused { IfErr result (λ _. some_has_target (configs_in configs.now) expectation.now ≡ false) }
 {
-    if has_target(config, expectation) {
+    if some_has_target(configs, expectation) {
         return Ok(());
     }
-    let wrong = wrong_member(config, expectation);
+    let wrong = wrong_member(configs, expectation);
     Err(place.member(wrong).refuse(alloc, FaultKind::BadValue))
 }
 
 /// The member for which there is no target: the receiver, if there is none of its name, or else the integration.
-fn wrong_member(config: &Config, expectation: &Expectation) -> &'static str {
+fn wrong_member(configs: &Configs<'_>, expectation: &Expectation) -> &'static str {
     match &expectation.receiver {
-        Some(name) if config.receiver(name.as_str()).is_none() => "receiver",
+        Some(name) if !configs.have_receiver(name.as_str()) => "receiver",
         _ => "integration",
     }
+}
+
+/// Whether a receiver of one of the configurations has what an expectation names.
+fn some_has_target(configs: &Configs<'_>, expectation: &Expectation) -> bool
+    ensures { result ≡ some_has_target (configs_in configs.now) expectation.now }
+{
+    has_target(configs.own, expectation) || later_has_target(configs.later, expectation)
+}
+
+fn later_has_target(later: &[Handover], expectation: &Expectation) -> bool
+    ensures { result ≡ list_any (λ h. has_target h.config expectation.now) later.now }
+{
+    later
+        .iter()
+        .any(|handover| has_target(&handover.config, expectation))
 }
 
 /// Whether a receiver of the configuration has what an expectation names.

@@ -251,7 +251,7 @@ fn inserts(
     ensures { IfOk result (λ does. does ≡ inserts resolves matchers.now action.now) }
 {
     match action {
-        Action::Silence(_) => Ok(false),
+        Action::Silence(_) | Action::Load(_) => Ok(false),
         Action::Insert(alert) => {
             if !does_as_said(alert, resolves) {
                 return Ok(false);

@@ -1,4 +1,4 @@
-use Rattle.std.proofs.Common.{◌≡◌, List, ap, slice_set}
+use Rattle.std.proofs.Common.{◌≡◌, ap, slice_set}
 use Rattle.std.proofs.lemmas.Option.{slice_get_read}
 use Rattle.std.proofs.lemmas.Result.{on_ok_weaker}
 use Rattle.am_model.specs.Ticket.{TicketData, recorded}

@@ -8,28 +8,29 @@ use Rattle.am_input.specs.Request.{DecodesToStart, output_for}
 use Rattle.am_input.specs.declared.input.Asked.{Asked}
 use Rattle.am_input.specs.declared.input.Output.{Output}
 use Rattle.am_model.specs.declared.config.Config.{Config}
+use Rattle.am_plans.specs.Configs.{configs_of}
 use Rattle.am_plans.proofs.Decodings.{none_read}
 use Rattle.am_plans.specs.Expected.{AreExpectedIn, HaveNoPatternIn, last_end}
 use Rattle.am_terms.specs.declared.rehearsal.TimedAction.{TimedAction}
 use Rattle.am_input.proofs.input.read_asked.Goals as goal
 
 -- what is never refused
-abbrev Tells : Dialect → Members → Option Output → Config → ℕ → List TimedAction → Asked → Type 0
-Tells d members output config until plans asked =
+abbrev Tells : Dialect → Members → Option Output → List Config → ℕ → List TimedAction → Asked → Type 0
+Tells d members output configs until plans asked =
     DecodesToStart (get_member (codes "start") members) asked.start × (output_for output (get_member (codes "output") members) ≡ Some asked.output)
-    × AreExpectedIn d config until (last_end until members) plans (get_member (codes "expect") members) asked.expectations.items
+    × AreExpectedIn d configs until (last_end until members) plans (get_member (codes "expect") members) asked.expectations.items
     × HaveNoPatternIn d (get_member (codes "expect") members)
 
 pub returns-in_err-start-clause-refused : goal.returns-in_err-start-clause-refused
 returns-in_err-start-clause-refused c =
     let r = c.args.rehearsal.now in
-    handed_on (Tells c.args.top.now.dialect (members_view c.args.top.now.members) c.args.output r.config r.until r.plans.items) c.from_residual.result c.in_err-start.field-0.0 c.from_residual.ensures.1
+    handed_on (Tells c.args.top.now.dialect (members_view c.args.top.now.members) c.args.output (configs_of r.config c.args.handovers.now) r.until r.plans.items) c.from_residual.result c.in_err-start.field-0.0 c.from_residual.ensures.1
     (λ refusal asked told. c.in_err-start.ensures.refused refusal asked.start told.0)
 
 pub returns-in_err-output-clause-refused : goal.returns-in_err-output-clause-refused
 returns-in_err-output-clause-refused c =
     let r = c.args.rehearsal.now in
-    handed_on (Tells c.args.top.now.dialect (members_view c.args.top.now.members) c.args.output r.config r.until r.plans.items) c.from_residual-in_err-output.result c.in_err-output.field-0.0 c.from_residual-in_err-output.ensures.1
+    handed_on (Tells c.args.top.now.dialect (members_view c.args.top.now.members) c.args.output (configs_of r.config c.args.handovers.now) r.until r.plans.items) c.from_residual-in_err-output.result c.in_err-output.field-0.0 c.from_residual-in_err-output.ensures.1
     (λ refusal asked told. none_read _ _ (sym c.in_err-output.ensures) told.1)
 
 pub returns-in_err-expectations-clause-refused : goal.returns-in_err-expectations-clause-refused
@@ -37,9 +38,9 @@ returns-in_err-expectations-clause-refused c =
     let r = c.args.rehearsal.now in
     let d = c.args.top.now.dialect in
     let members = members_view c.args.top.now.members in
-    handed_on (Tells d members c.args.output r.config r.until r.plans.items) c.from_residual-in_err-expectations.result c.in_err-expectations.field-0.0 c.from_residual-in_err-expectations.ensures.1
+    handed_on (Tells d members c.args.output (configs_of r.config c.args.handovers.now) r.until r.plans.items) c.from_residual-in_err-expectations.result c.in_err-expectations.field-0.0 c.from_residual-in_err-expectations.ensures.1
     (λ refusal asked told. c.in_err-expectations.ensures.refused refusal asked.expectations.items (
-      subst (λ (ps : List TimedAction). AreExpectedIn d r.config r.until (last_end r.until members) ps (get_member (codes "expect") members) asked.expectations.items)
+      subst (λ (ps : List TimedAction). AreExpectedIn d (configs_of r.config c.args.handovers.now) r.until (last_end r.until members) ps (get_member (codes "expect") members) asked.expectations.items)
           (sym c.as_slice-plans.ensures.value) told.2,
       told.3,
     ))

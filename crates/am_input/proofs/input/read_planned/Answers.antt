@@ -1,4 +1,4 @@
-use Rattle.std.proofs.Common.{◌≡◌, ◌∙◌, ℕ, List, Some, ap, arith, codes, subst, sym}
+use Rattle.std.proofs.Common.{◌≡◌, ◌||◌, ◌∙◌, ℕ, false, List, Some, ap, codes, subst, sym}
 use Rattle.std.specs.Prelude.{IsTrue}
 use Rattle.serde_json.specs.Data.{Members}
 use Rattle.serde_json.specs.Find.{get_member}
@@ -7,6 +7,9 @@ use Rattle.am_cli.proofs.Decoding.{handed_on}
 use Rattle.am_cli.specs.declared.reader.Dialect.{Dialect}
 use Rattle.am_input.proofs.OnePlan.{one_plan}
 use Rattle.am_input.specs.Configured.{IsConfigFor, file_in}
+use Rattle.am_input.specs.Handovers.{AreHandoversIn}
+use Rattle.am_plans.specs.Configs.{configs_of}
+use Rattle.am_terms.specs.declared.handover.Handover.{Handover}
 use Rattle.am_input.specs.Request.{IsWithoutPatterns, Requests}
 use Rattle.am_input.specs.declared.input.Asked.{Asked}
 use Rattle.am_input.specs.declared.input.Changes.{Changes}
@@ -19,10 +22,10 @@ use Rattle.am_terms.specs.declared.rehearsal.TimedAction.{TimedAction}
 use Rattle.am_input.proofs.input.read_planned.Goals as goal
 
 -- what is never refused, under a configuration
-abbrev Tells : Dialect → Changes → Members → Config → Input → Type 0
-Tells d changes members config input =
-    Requests d changes members input.output input.start input.expectations.items input.rehearsal × (input.rehearsal.config ≡ config)
-    × IsWithoutPatterns d changes members input.rehearsal
+abbrev Tells : Dialect → Changes → Members → Config → List Handover → Input → Type 0
+Tells d changes members config handovers input =
+    Requests d changes members input.output input.start input.expectations.items input.handovers.items input.rehearsal × (input.rehearsal.config ≡ config)
+    × (input.handovers.items ≡ handovers) × IsWithoutPatterns d changes members input.handovers.items input.rehearsal
 
 pub returns-clause-told : goal.returns-clause-told
 returns-clause-told c =
@@ -31,62 +34,68 @@ returns-clause-told c =
       known = c.requires.known;
       configures = subst (λ (config : Config). IsConfigFor (file_in c.args.changes) c.args.top.now.dialect members config)
           (sym c.in_ok-rehearsal.ensures.config) c.requires.configures;
+      hands_over = subst (λ (u : ℕ). AreHandoversIn c.args.top.now.dialect (file_in c.args.changes) u members c.args.handed.handovers.items)
+          (sym c.in_ok-rehearsal.ensures.until) c.requires.hands_over;
       zones = c.in_ok-read_zones.ensures.told;
       tells = c.in_ok-asked.ensures.output;
       starts = c.in_ok-asked.ensures.start;
-      ends = c.in_ok-until.ensures.until ∙ ap Some (sym c.in_ok-rehearsal.ensures.until);
+      ends = c.requires.ends ∙ ap Some (sym c.in_ok-rehearsal.ensures.until);
       maintains = c.in_ok-rehearsal.ensures.maintain;
       plans = c.in_ok-rehearsal.ensures.plans;
       outages = c.in_ok-rehearsal.ensures.outages;
-      places = subst (λ (config : Config). IsTrue (have_places config c.in_ok-rehearsal.rehearsal.outages.items)) (sym c.in_ok-rehearsal.ensures.config)
-          c.in_ok-rehearsal.ensures.places;
-      expects = c.in_ok-asked.ensures.expectations;
+      places = subst (λ (config : Config). IsTrue (have_places (configs_of config c.args.handed.handovers.items) c.in_ok-rehearsal.rehearsal.outages.items)) (sym c.in_ok-rehearsal.ensures.config)
+          (subst (λ (hs : List Handover). IsTrue (have_places (configs_of c.args.configured.config hs) c.in_ok-rehearsal.rehearsal.outages.items)) c.as_slice-later.ensures.value
+          c.in_ok-rehearsal.ensures.places);
+      expects = subst (λ (hs : List Handover). AreExpectedIn c.args.top.now.dialect (configs_of c.in_ok-rehearsal.rehearsal.config hs) c.in_ok-rehearsal.rehearsal.until
+          (last_end c.in_ok-rehearsal.rehearsal.until members) c.in_ok-rehearsal.rehearsal.plans.items (get_member (codes "expect") members) c.in_ok-asked.asked.expectations.items)
+          c.as_slice-later.ensures.value c.in_ok-asked.ensures.expectations;
     }
 
-pub returns-in_err-until-clause-refused : goal.returns-in_err-until-clause-refused
-returns-in_err-until-clause-refused c timed =
-    handed_on (Tells c.args.top.now.dialect c.args.changes (members_view c.args.top.now.members) c.args.configured.config) c.from_residual.result c.in_err-until.field-0.0 c.from_residual.ensures.1
-    (λ refusal x told. absurd (omega (arith, c.in_err-until.ensures.refused x.rehearsal.until told.0.ends, x.rehearsal.ends)))
-
 pub returns-in_err-read_zones-clause-refused : goal.returns-in_err-read_zones-clause-refused
-returns-in_err-read_zones-clause-refused c timed =
-    handed_on (Tells c.args.top.now.dialect c.args.changes (members_view c.args.top.now.members) c.args.configured.config) c.from_residual-in_err-read_zones.result c.in_err-read_zones.field-0.0 c.from_residual-in_err-read_zones.ensures.1
+returns-in_err-read_zones-clause-refused c timed later =
+    handed_on (Tells c.args.top.now.dialect c.args.changes (members_view c.args.top.now.members) c.args.configured.config c.args.handed.handovers.items) c.from_residual.result c.in_err-read_zones.field-0.0 c.from_residual.ensures.1
     (λ refusal x told. c.in_err-read_zones.ensures.refused refusal tt told.0.zones)
 
 pub returns-in_err-check_start-clause-refused : goal.returns-in_err-check_start-clause-refused
-returns-in_err-check_start-clause-refused c timed =
-    handed_on (Tells c.args.top.now.dialect c.args.changes (members_view c.args.top.now.members) c.args.configured.config) c.from_residual-in_err-check_start.result c.in_err-check_start.field-0.0 c.from_residual-in_err-check_start.ensures.1
-    (λ refusal x told. absurd (cc (c.in_err-check_start.ensures timed)))
+returns-in_err-check_start-clause-refused c timed later =
+    handed_on (Tells c.args.top.now.dialect c.args.changes (members_view c.args.top.now.members) c.args.configured.config c.args.handed.handovers.items) c.from_residual-in_err-check_start.result c.in_err-check_start.field-0.0 c.from_residual-in_err-check_start.ensures.1
+    (λ refusal x told.
+    let none : c.either.result ≡ false = c.either.ensures ∙ (λ i. timed i || later i) in
+    absurd (cc (c.in_err-check_start.ensures none)))
 
 pub returns-in_err-rehearsal-clause-refused : goal.returns-in_err-rehearsal-clause-refused
-returns-in_err-rehearsal-clause-refused c timed =
-    handed_on (Tells c.args.top.now.dialect c.args.changes (members_view c.args.top.now.members) c.args.configured.config) c.from_residual-in_err-rehearsal.result c.in_err-rehearsal.field-0.0 c.from_residual-in_err-rehearsal.ensures.1
+returns-in_err-rehearsal-clause-refused c timed later =
+    handed_on (Tells c.args.top.now.dialect c.args.changes (members_view c.args.top.now.members) c.args.configured.config c.args.handed.handovers.items) c.from_residual-in_err-rehearsal.result c.in_err-rehearsal.field-0.0 c.from_residual-in_err-rehearsal.ensures.1
     (λ refusal x told. c.in_err-rehearsal.ensures.refused refusal x.rehearsal (
       told.0.maintains,
       told.0.outages,
-      subst (λ (config : Config). IsTrue (have_places config x.rehearsal.outages.items)) told.1 told.0.places,
-      told.2.plans,
+      subst (λ (config : Config). IsTrue (have_places (configs_of config c.as_slice-later.result.now) x.rehearsal.outages.items)) told.1
+          (subst (λ (hs : List Handover). IsTrue (have_places (configs_of x.rehearsal.config hs) x.rehearsal.outages.items)) (told.2 ∙ sym c.as_slice-later.ensures.value) told.0.places),
+      told.3.plans,
     ))
 
 -- the rehearsal that is told is the one that was read, as far as expectations hang on it
 pub returns-in_err-asked-clause-refused : goal.returns-in_err-asked-clause-refused
-returns-in_err-asked-clause-refused c timed =
+returns-in_err-asked-clause-refused c timed later =
     let d = c.args.top.now.dialect in
     let members = members_view c.args.top.now.members in
     let r = c.in_ok-rehearsal.rehearsal in
-    handed_on (Tells d c.args.changes members c.args.configured.config) c.from_residual-in_err-asked.result c.in_err-asked.field-0.0 c.from_residual-in_err-asked.ensures.1
+    handed_on (Tells d c.args.changes members c.args.configured.config c.args.handed.handovers.items) c.from_residual-in_err-asked.result c.in_err-asked.field-0.0 c.from_residual-in_err-asked.ensures.1
     (λ refusal x told.
     let config : x.rehearsal.config ≡ r.config = told.1 ∙ sym c.in_ok-rehearsal.ensures.config in
-    let until : x.rehearsal.until ≡ r.until = same_some told.0.ends (c.in_ok-until.ensures.until ∙ ap Some (sym c.in_ok-rehearsal.ensures.until)) in
+    let until : x.rehearsal.until ≡ r.until = same_some told.0.ends (c.requires.ends ∙ ap Some (sym c.in_ok-rehearsal.ensures.until)) in
     let plans : x.rehearsal.plans.items ≡ r.plans.items = one_plan d members x.rehearsal.plans.items r.plans.items told.0.plans c.in_ok-rehearsal.ensures.plans in
     let asked : Asked = record { start = x.start; expectations = x.expectations; output = x.output } in
     let found = get_member (codes "expect") members in
     let xs = x.expectations.items in
+    let hs = c.as_slice-later.result.now in
+    let handovers : x.handovers.items ≡ hs = told.2 ∙ sym c.as_slice-later.ensures.value in
     c.in_err-asked.ensures.refused refusal asked (
       told.0.starts,
       told.0.tells,
-      subst (λ (ps : List TimedAction). AreExpectedIn d r.config r.until (last_end r.until members) ps found xs) plans
-          (subst (λ (u : ℕ). AreExpectedIn d r.config u (last_end u members) x.rehearsal.plans.items found xs) until
-          (subst (λ (k : Config). AreExpectedIn d k x.rehearsal.until (last_end x.rehearsal.until members) x.rehearsal.plans.items found xs) config told.0.expects)),
-      told.2.expects,
+      subst (λ (ps : List TimedAction). AreExpectedIn d (configs_of r.config hs) r.until (last_end r.until members) ps found xs) plans
+          (subst (λ (u : ℕ). AreExpectedIn d (configs_of r.config hs) u (last_end u members) x.rehearsal.plans.items found xs) until
+          (subst (λ (k : Config). AreExpectedIn d (configs_of k hs) x.rehearsal.until (last_end x.rehearsal.until members) x.rehearsal.plans.items found xs) config
+          (subst (λ (ls : List Handover). AreExpectedIn d (configs_of x.rehearsal.config ls) x.rehearsal.until (last_end x.rehearsal.until members) x.rehearsal.plans.items found xs) handovers told.0.expects))),
+      told.3.expects,
     ))

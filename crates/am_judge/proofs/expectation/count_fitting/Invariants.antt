@@ -1,11 +1,11 @@
-use Rattle.std.proofs.Common.{◌≡◌, ◌≤◌, take}
-use Rattle.std.specs.Prelude.{count_by}
-use Rattle.am_judge.specs.Expectation.{ends_fitting}
+use Rattle.std.proofs.Common.{◌≡◌, ◌≤◌, ◌*◌, ◌^◌, take}
+use Rattle.std.specs.Prelude.{sum_by}
+use Rattle.am_judge.specs.Expectation.{count_in}
 use Rattle.am_judge.proofs.expectation.count_fitting.Given as goal
 
--- those so far were counted
-abbrev pub invariant-loop-event : goal.invariant-loop-event
-invariant-loop-event l = record {
-  counted : l.count ≡ count_by (ends_fitting l.playback l.expectation) (take l.event-index l.events);
-  fits : l.count ≤ l.event-index;
+-- those of the playbacks so far were counted, of each less than a `usize` holds
+abbrev pub invariant-loop-playback : goal.invariant-loop-playback
+invariant-loop-playback l = record {
+  counted : l.count ≡ sum_by (count_in l.expectation) (take l.playback-index l.playbacks);
+  fits : l.count ≤ l.playback-index * 2 ^ 64;
 }

@@ -5,13 +5,13 @@ use Rattle.am_judge.proofs.junit.junit_text.Goals as goal
 
 pub returns : goal.returns
 returns g c =
-    let playback = c.args.playback.now in
+    let playbacks = c.args.playbacks.now in
     let times = g.C.TimeFormat.times c.args.clock.now in
     let xs = c.args.expectations.now in
     let unmet = c.in_ok-unmet.unmet in
-    let head : List ℕ = suite_head (length xs) (length (unmet_from playback 0 xs)) in
-    let cases : List ℕ = cases_text playback times 0 xs in
-    let fails : unmet.len ≡ length (unmet_from playback 0 xs) = unmet.ok.0 ∙ ap length c.in_ok-unmet.ensures in
+    let head : List ℕ = suite_head (length xs) (length (unmet_from playbacks 0 xs)) in
+    let cases : List ℕ = cases_text playbacks times 0 xs in
+    let fails : unmet.len ≡ length (unmet_from playbacks 0 xs) = unmet.ok.0 ∙ ap length c.in_ok-unmet.ensures in
     let is_head : string_bytes c.push_head.new.out ≡ string_bytes c.new-out.result ++ head =
     c.in_ok-push_head.ensures
     ∙ ap (λ (n : ℕ). string_bytes c.new-out.result ++ suite_head (length xs) n) (c.len.ensures ∙ fails) in

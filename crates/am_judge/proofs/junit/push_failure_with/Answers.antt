@@ -1,4 +1,4 @@
-use Rattle.std.proofs.Common.{◌≡◌, ◌∙◌, ◌++◌, List, ℕ, codes, string_bytes}
+use Rattle.std.proofs.Common.{◌∙◌, List, ℕ, codes, string_bytes}
 use Rattle.am_timeline.specs.Escaped.{escaped}
 use Rattle.am_timeline.proofs.Appended.{two_added}
 use Rattle.am_judge.proofs.junit.push_failure_with.Goals as goal

@@ -12,6 +12,6 @@ pub returns : goal.returns
 returns c =
     let members = members_view c.args.call.now.members in
     let matchers : List MatcherParts = c.in_ok-matchers.matchers.items in
-    subst (λ (m : Dialect). Has (IsList (DecodesToMatcher m)) (codes "matchers") members matchers) c.in_ok-required.ensures.dialect
-    (decoded_by (IsList (DecodesToMatcher c.in_ok-required.field-0.dialect)) (get_member (codes "matchers") members) (view c.in_ok-required.field-0.value) matchers
-    c.in_ok-required.ensures.value c.in_ok-matchers.ensures.told)
+    subst (λ (m : Dialect). Has (IsList (DecodesToMatcher m)) (codes "matchers") members matchers) c.in_ok-listed.ensures.dialect
+    (decoded_by (IsList (DecodesToMatcher c.in_ok-listed.listed.dialect)) (get_member (codes "matchers") members) (view c.in_ok-listed.listed.value) matchers
+    c.in_ok-listed.ensures.value c.in_ok-matchers.ensures.told)

@@ -11,7 +11,10 @@ pub returns : goal.returns
 returns c =
     let members = members_view c.args.line.now.members in (
       c.in_ok-config.ensures.fault,
-      inl (subst (λ (m : Dialect). Has (DecodesToConfig m) (codes "config") members c.in_ok-config.config) c.in_ok-required.ensures.dialect
-          (decoded_by (DecodesToConfig c.in_ok-required.field-0.dialect) (get_member (codes "config") members) (view c.in_ok-required.field-0.value) c.in_ok-config.config
-          c.in_ok-required.ensures.value c.in_ok-config.ensures.told)),
+      inl (
+        subst (λ (m : Dialect). Has (DecodesToConfig m) (codes "config") members c.in_ok-config.config) c.in_ok-required.ensures.dialect
+            (decoded_by (DecodesToConfig c.in_ok-required.field-0.dialect) (get_member (codes "config") members) (view c.in_ok-required.field-0.value) c.in_ok-config.config
+            c.in_ok-required.ensures.value c.in_ok-config.ensures.told),
+        c.nothing.ensures,
+      ),
     )

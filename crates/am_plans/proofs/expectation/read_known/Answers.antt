@@ -7,6 +7,7 @@ use Rattle.am_cli.proofs.Decoding.{handed_on}
 use Rattle.am_cli.specs.Read.{has_only}
 use Rattle.am_cli.specs.declared.reader.Dialect.{Dialect}
 use Rattle.am_model.specs.declared.config.Config.{Config}
+use Rattle.am_plans.specs.Configs.{configs_in}
 use Rattle.am_plans.proofs.Contents.{are_alike, same_target}
 use Rattle.am_plans.proofs.Decodings.{is_there, true_false}
 use Rattle.am_plans.specs.Expected.{IsExpectedOf, IsKnownIn, HasNoPatternIn, field_names, has_alerts}
@@ -15,28 +16,28 @@ use Rattle.am_terms.specs.declared.rehearsal.TimedAction.{TimedAction}
 use Rattle.am_plans.proofs.expectation.read_known.Goals as goal
 
 -- what is never refused
-abbrev Tells : Dialect → Config → ℕ → ℕ → List TimedAction → Data → Expectation → Type 0
-Tells d config until last plans value x = IsKnownIn d config until last plans value x × HasNoPatternIn d value
+abbrev Tells : Dialect → List Config → ℕ → ℕ → List TimedAction → Data → Expectation → Type 0
+Tells d configs until last plans value x = IsKnownIn d configs until last plans value x × HasNoPatternIn d value
 
 pub returns-in_err-expectation-clause-refused : goal.returns-in_err-expectation-clause-refused
 returns-in_err-expectation-clause-refused c =
-    handed_on (Tells c.args.reader.now.dialect c.args.config.now c.args.until c.args.last c.args.plans.now (view c.args.reader.now.value)) c.from_residual.result c.in_err-expectation.field-0.0 c.from_residual.ensures.1
+    handed_on (Tells c.args.reader.now.dialect (configs_in c.args.configs.now) c.args.until c.args.last c.args.plans.now (view c.args.reader.now.value)) c.from_residual.result c.in_err-expectation.field-0.0 c.from_residual.ensures.1
     (λ refusal x told. c.in_err-expectation.ensures.refused refusal x (told.0.says, told.1))
 
 pub returns-in_err-check_target-clause-refused : goal.returns-in_err-check_target-clause-refused
 returns-in_err-check_target-clause-refused c =
     let d = c.args.reader.now.dialect in
     let value = view c.args.reader.now.value in
-    handed_on (Tells d c.args.config.now c.args.until c.args.last c.args.plans.now value) c.from_residual-in_err-check_target.result c.in_err-check_target.field-0.0 c.from_residual-in_err-check_target.ensures.1
+    handed_on (Tells d (configs_in c.args.configs.now) c.args.until c.args.last c.args.plans.now value) c.from_residual-in_err-check_target.result c.in_err-check_target.field-0.0 c.from_residual-in_err-check_target.ensures.1
     (λ refusal x told.
     let alike = are_alike d c.args.until c.args.last c.args.plans.now value x c.in_ok-expectation.expectation told.0.says c.in_ok-expectation.ensures.told in
-    true_false (same_target c.args.config.now x c.in_ok-expectation.expectation alike) told.0.target c.in_err-check_target.ensures.refused)
+    true_false (same_target (configs_in c.args.configs.now) x c.in_ok-expectation.expectation alike) told.0.target c.in_err-check_target.ensures.refused)
 
 pub returns-in_err-check_content-clause-refused : goal.returns-in_err-check_content-clause-refused
 returns-in_err-check_content-clause-refused c =
     let d = c.args.reader.now.dialect in
     let value = view c.args.reader.now.value in
-    handed_on (Tells d c.args.config.now c.args.until c.args.last c.args.plans.now value) c.from_residual-in_err-check_content.result c.in_err-check_content.field-0.0 c.from_residual-in_err-check_content.ensures.1
+    handed_on (Tells d (configs_in c.args.configs.now) c.args.until c.args.last c.args.plans.now value) c.from_residual-in_err-check_content.result c.in_err-check_content.field-0.0 c.from_residual-in_err-check_content.ensures.1
     (λ refusal x told.
     let alike = are_alike d c.args.until c.args.last c.args.plans.now value x c.in_ok-expectation.expectation told.0.says c.in_ok-expectation.ensures.told in
     let there = is_there (λ (ms : Members). IsExpectedOf d c.args.until c.args.last c.args.plans.now ms x × IsTrue (has_only d field_names ms)) (as_object value) told.0.says in

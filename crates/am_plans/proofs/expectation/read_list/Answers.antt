@@ -9,6 +9,7 @@ use Rattle.am_cli.proofs.Decoding.{handed_on, missing, starved}
 use Rattle.am_cli.specs.Decoding.{DecodeEach}
 use Rattle.am_cli.specs.declared.reader.Dialect.{Dialect}
 use Rattle.am_model.specs.declared.config.Config.{Config}
+use Rattle.am_plans.specs.Configs.{configs_in}
 use Rattle.am_plans.specs.Expected.{AreExpectedIn, HaveNoPatternIn, IsKnownIn, HasNoPatternIn}
 use Rattle.am_plans.proofs.Lists.{decode_next}
 use Rattle.am_plans.proofs.NoPattern.{no_pattern_in, told_all}
@@ -17,18 +18,18 @@ use Rattle.am_terms.specs.declared.rehearsal.TimedAction.{TimedAction}
 use Rattle.am_plans.proofs.expectation.read_list.Goals as goal
 
 -- what is never refused
-abbrev Tells : Dialect → Config → ℕ → ℕ → List TimedAction → Data → List Expectation → Type 0
-Tells d config until last plans value xs = AreExpectedIn d config until last plans (Some value) xs × HaveNoPatternIn d (Some value)
+abbrev Tells : Dialect → List Config → ℕ → ℕ → List TimedAction → Data → List Expectation → Type 0
+Tells d configs until last plans value xs = AreExpectedIn d configs until last plans (Some value) xs × HaveNoPatternIn d (Some value)
 
 pub loop-index-preserved : goal.loop-index-preserved
 loop-index-preserved c =
-    let Expects = IsKnownIn c.args.member.now.dialect c.args.config.now c.args.until c.args.last c.args.plans.now in
+    let Expects = IsKnownIn c.args.member.now.dialect (configs_in c.args.configs.now) c.args.until c.args.last c.args.plans.now in
     let value = c.index-values-index.result in
     let x = c.in_ok-read_known.field-0 in
     let here : c.loop-index.index < length c.in_ok-values.values.now = omega arith in
     let read : Expects (view value) x =
     subst (λ (v : Value). Expects (view v) x) c.item-item.ensures.value
-    (subst (λ (dialect : Dialect). IsKnownIn dialect c.args.config.now c.args.until c.args.last c.args.plans.now (view c.item-item.result.value) x) c.item-item.ensures.dialect
+    (subst (λ (dialect : Dialect). IsKnownIn dialect (configs_in c.args.configs.now) c.args.until c.args.last c.args.plans.now (view c.item-item.result.value) x) c.item-item.ensures.dialect
     c.in_ok-read_known.ensures.told) in
     record {
       told = decode_next Expects c.in_ok-values.values.now c.loop-index.index value x c.loop-index.expectations.items _ here c.index-values-index.is
@@ -38,7 +39,7 @@ loop-index-preserved c =
 
 pub returns-clause-told : goal.returns-clause-told
 returns-clause-told c =
-    let Expects = IsKnownIn c.args.member.now.dialect c.args.config.now c.args.until c.args.last c.args.plans.now in
+    let Expects = IsKnownIn c.args.member.now.dialect (configs_in c.args.configs.now) c.args.until c.args.last c.args.plans.now in
     let values = c.in_ok-values.values.now in
     let xs = c.loop-index.expectations.items in
     let all : DecodeEach Expects (items_view values) xs =
@@ -51,16 +52,16 @@ pub returns-in_err-values-clause-refused : goal.returns-in_err-values-clause-ref
 returns-in_err-values-clause-refused c =
     let d = c.args.member.now.dialect in
     let value = view c.args.member.now.value in
-    handed_on (Tells d c.args.config.now c.args.until c.args.last c.args.plans.now value) c.from_residual.result c.in_err-values.field-0.0 c.from_residual.ensures.1
+    handed_on (Tells d (configs_in c.args.configs.now) c.args.until c.args.last c.args.plans.now value) c.from_residual.result c.in_err-values.field-0.0 c.from_residual.ensures.1
     (λ refusal xs told.
-    missing (λ items. DecodeEach (IsKnownIn d c.args.config.now c.args.until c.args.last c.args.plans.now) items xs) (as_array value) c.in_err-values.ensures.items told.0.0)
+    missing (λ items. DecodeEach (IsKnownIn d (configs_in c.args.configs.now) c.args.until c.args.last c.args.plans.now) items xs) (as_array value) c.in_err-values.ensures.items told.0.0)
 
 pub returns-in_err-refuse_many-clause-refused : goal.returns-in_err-refuse_many-clause-refused
 returns-in_err-refuse_many-clause-refused c =
     let d = c.args.member.now.dialect in
     let value = view c.args.member.now.value in
-    let Expects = IsKnownIn d c.args.config.now c.args.until c.args.last c.args.plans.now in
-    handed_on (Tells d c.args.config.now c.args.until c.args.last c.args.plans.now value) c.from_residual-in_err-refuse_many.result c.in_err-refuse_many.field-0.0 c.from_residual-in_err-refuse_many.ensures.1
+    let Expects = IsKnownIn d (configs_in c.args.configs.now) c.args.until c.args.last c.args.plans.now in
+    handed_on (Tells d (configs_in c.args.configs.now) c.args.until c.args.last c.args.plans.now value) c.from_residual-in_err-refuse_many.result c.in_err-refuse_many.field-0.0 c.from_residual-in_err-refuse_many.ensures.1
     (λ refusal xs told.
     let all = told_all Expects (as_array value) c.in_ok-values.values.now xs c.in_ok-values.ensures.items told.0.0 in
     absurd (omega (arith, all, told.0.1, c.in_err-refuse_many.ensures.refused)))
@@ -69,18 +70,18 @@ pub returns-in_err-read_known-clause-refused : goal.returns-in_err-read_known-cl
 returns-in_err-read_known-clause-refused c =
     let d = c.args.member.now.dialect in
     let value = view c.args.member.now.value in
-    let Expects = IsKnownIn d c.args.config.now c.args.until c.args.last c.args.plans.now in
+    let Expects = IsKnownIn d (configs_in c.args.configs.now) c.args.until c.args.last c.args.plans.now in
     let one = c.index-values-index.result in
     let here : c.loop-index.index < length c.in_ok-values.values.now = omega arith in
-    handed_on (Tells d c.args.config.now c.args.until c.args.last c.args.plans.now value) c.from_residual-in_err-read_known.result c.in_err-read_known.field-0.0 c.from_residual-in_err-read_known.ensures.1
+    handed_on (Tells d (configs_in c.args.configs.now) c.args.until c.args.last c.args.plans.now value) c.from_residual-in_err-read_known.result c.in_err-read_known.field-0.0 c.from_residual-in_err-read_known.ensures.1
     (λ refusal xs told.
     let at = no_pattern_in Expects d (as_array value) c.in_ok-values.values.now xs c.loop-index.index one c.in_ok-values.ensures.items here c.index-values-index.is told.0.0 told.1 in
-    let Says = λ (e : Dialect) (v : Value). IsKnownIn e c.args.config.now c.args.until c.args.last c.args.plans.now (view v) at.0 × HasNoPatternIn e (view v) in
+    let Says = λ (e : Dialect) (v : Value). IsKnownIn e (configs_in c.args.configs.now) c.args.until c.args.last c.args.plans.now (view v) at.0 × HasNoPatternIn e (view v) in
     c.in_err-read_known.ensures.refused refusal at.0
     (subst (λ (e : Dialect). Says e c.item-item.result.value) (sym c.item-item.ensures.dialect)
     (subst (λ (v : Value). Says d v) (sym c.item-item.ensures.value) (at.1, at.2))))
 
 pub returns-in_err-push-clause-refused : goal.returns-in_err-push-clause-refused
 returns-in_err-push-clause-refused c =
-    starved (Tells c.args.member.now.dialect c.args.config.now c.args.until c.args.last c.args.plans.now (view c.args.member.now.value))
+    starved (Tells c.args.member.now.dialect (configs_in c.args.configs.now) c.args.until c.args.last c.args.plans.now (view c.args.member.now.value))
     c.from_residual-in_err-push.result c.from_residual-in_err-push.ensures.1

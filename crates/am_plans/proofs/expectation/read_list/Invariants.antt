@@ -1,12 +1,13 @@
 use Rattle.std.proofs.Common.{◌≡◌, length, take}
 use Rattle.serde_json.specs.View.{items_view}
 use Rattle.am_cli.specs.Decoding.{DecodeEach}
+use Rattle.am_plans.specs.Configs.{configs_in}
 use Rattle.am_plans.specs.Expected.{IsKnownIn}
 use Rattle.am_plans.proofs.expectation.read_list.Given as goal
 
 -- what the values so far say is expected
 abbrev pub invariant-loop-index : goal.invariant-loop-index
 invariant-loop-index l = record {
-  told : DecodeEach (IsKnownIn l.member.dialect l.config l.until l.last l.plans) (items_view (take l.index l.values)) l.expectations.items;
+  told : DecodeEach (IsKnownIn l.member.dialect (configs_in l.configs) l.until l.last l.plans) (items_view (take l.index l.values)) l.expectations.items;
   count : length l.expectations.items ≡ l.index;
 }

@@ -1,20 +1,28 @@
-use Rattle.std.proofs.Common.{Result, IfErr, subst}
-use Rattle.am_cli.specs.declared.fault.InputFault.TheVariants.{NoMemory}
-use Rattle.am_rehearsal.specs.Play.{setting_of}
-use Rattle.am_rehearsal.specs.WhyNot.{IsWhyNot}
-use Rattle.am_rehearsal.specs.declared.play.PlayFault.{PlayFault}
-use Rattle.am_rehearsal.specs.declared.play.Played.{Played}
+use Rattle.std.proofs.Common.{None, List, Result, IfErr, IfOk, subst}
+use Rattle.am_rehearsal.specs.Parts.{PartData, parts_from, whole_part}
+use Rattle.am_rehearsal.specs.Playing.{ArePlayed, IsWhyNotParts}
 use Rattle.am_rehearse.specs.Faults.{RefusesPlay}
 use Rattle.am_rehearse.proofs.Refusals.{passed, unplayed}
 use Rattle.am_rehearse.proofs.run.play_or_refuse.Goals as goal
+use Rattle.am_terms.specs.declared.rehearsal.Outage.{Outage}
 
-pub returns-in_err-new-in-Ok-clause-refused : goal.returns-in_err-new-in-Ok-clause-refused
-returns-in_err-new-in-Ok-clause-refused g c =
-    passed (RefusesPlay c.args.rehearsal) c.from_residual.result NoMemory c.from_residual.ensures.1 tt
+pub returns-in-Ok-clause-plays : goal.returns-in-Ok-clause-plays
+returns-in-Ok-clause-plays g c =
+    let maintain = c.args.rehearsal.maintain in
+    let played = c.in-Ok.played.items in
+    let told : ArePlayed maintain c.as_slice.result.now None c.in_ok-parts.parts.items played =
+    subst (λ ended. IfOk ended (λ parts. ArePlayed maintain c.as_slice.result.now None c.in_ok-parts.parts.items parts.items)) c.in-Ok.is c.play_parts-ended.ensures.played in
+    let parts = parts_from (whole_part c.args.rehearsal.config c.args.rehearsal.until c.args.rehearsal.plans.items) c.args.handovers.items in
+    subst (λ (outages : List Outage). ArePlayed maintain outages None parts played) c.as_slice.ensures.value
+    (subst (λ (parts : List PartData). ArePlayed maintain c.as_slice.result.now None parts played) c.in_ok-parts.ensures told)
 
-pub returns-in-Err-clause-refused : goal.returns-in-Err-clause-refused
-returns-in-Err-clause-refused g c =
+pub returns-clause-refused : goal.returns-clause-refused
+returns-clause-refused g c =
     let rehearsal = c.args.rehearsal in
-    let Why = IsWhyNot (setting_of rehearsal) rehearsal.config rehearsal.plans.items in
-    unplayed rehearsal c.in-Err.fault c.refused.result c.refused.ensures.memory c.refused.ensures.limit
-    (subst (λ (ended : Result Played PlayFault). IfErr ended Why) c.in-Err.is c.play-ended.ensures.refused)
+    let fault = c.in-Err.fault in
+    let all = parts_from (whole_part rehearsal.config rehearsal.until rehearsal.plans.items) c.args.handovers.items in
+    let told : IsWhyNotParts rehearsal.maintain c.as_slice.result.now c.in_ok-parts.parts.items fault =
+    subst (λ ended. IfErr ended (IsWhyNotParts rehearsal.maintain c.as_slice.result.now c.in_ok-parts.parts.items)) c.in-Err.is c.play_parts-ended.ensures.refused in
+    unplayed rehearsal c.args.handovers.items fault.part fault.fault c.refused.result c.refused.ensures.memory c.refused.ensures.limit
+    (subst (λ (outages : List Outage). IsWhyNotParts rehearsal.maintain outages all fault) c.as_slice.ensures.value
+    (subst (λ (parts : List PartData). IsWhyNotParts rehearsal.maintain c.as_slice.result.now parts fault) c.in_ok-parts.ensures told))

@@ -1,4 +1,7 @@
-use Rattle.am_dispatch.proofs.Making.{finishes, first_ticket, held_there, made, untold_leaves}
+use Rattle.std.proofs.Common.{refl}
+use Rattle.am_lines.specs.declared.request.Request.TheVariants.{Finish}
+use Rattle.am_dispatch.proofs.Leaving.{made_all, not_open_unmade, unmade_leaves}
+use Rattle.am_dispatch.proofs.Making.{finishes, first_ticket, held_there, made}
 use Rattle.am_dispatch.proofs.session.Session.finish.Goals as goal
 
 pub returns-in-Ok-clause-told : goal.returns-in-Ok-clause-told
@@ -9,4 +12,23 @@ returns-in-Ok-clause-told c =
     (made _ _ _ _ _ _ _ c.in-Ok.ensures.reply c.in-Ok.ensures.recorded c.tell.ensures.told)
 
 pub returns-in-Ok-clause-refused : goal.returns-in-Ok-clause-refused
-returns-in-Ok-clause-refused c = untold_leaves _ _ _ _ _ c.tell.ensures.untold
+returns-in-Ok-clause-refused c =
+    let at = first_ticket _ _ _ _ _ c.as_slice.ensures.value c.in-Some.ensures.first
+    (held_there _ _ _ _ c.as_slice.ensures.value c.in-Some.ensures.within c.remove-own.ensures.value) in
+    made_all _ _ _ (Finish c.args.finishing) _ _
+    (λ _ makes. record { place = _; ticket = _; at = at; makes = makes; tickets = c.remove-own.ensures.items })
+    c.in-Ok.ensures.reply c.in-Ok.ensures.recorded c.tell.ensures.untold
+
+pub returns-in-Err-clause-refused : goal.returns-in-Err-clause-refused
+returns-in-Err-clause-refused c = record {
+  place = _;
+  ticket = _;
+  at = first_ticket _ _ _ _ _ c.as_slice.ensures.value c.in-Some.ensures.first
+      (held_there _ _ _ _ c.as_slice.ensures.value c.in-Some.ensures.within c.remove-own.ensures.value);
+  not_open = c.in-Err.ensures.not_open;
+  board = c.in-Err.ensures.refused;
+  tickets = c.remove-own.ensures.items;
+}
+
+pub returns-in_default-clause-refused : goal.returns-in_default-clause-refused
+returns-in_default-clause-refused c = unmade_leaves _ _ _ (Finish c.args.finishing) (not_open_unmade _ _ c.not_open.ensures) (refl, refl)

@@ -1,4 +1,10 @@
-use Rattle.am_dispatch.proofs.Making.{first_ticket, held_there, notes, untold_leaves}
+use Rattle.std.proofs.Common.{[], ℕ, Ok, refl}
+use Rattle.am_model.specs.declared.fault.NoteFault.TheVariants.{NotReady}
+use Rattle.am_model.specs.declared.record.Reply.TheVariants.{Noted}
+use Rattle.am_lines.specs.declared.request.Request.TheVariants.{Note}
+use Rattle.am_lines.specs.Reply.{reply_tokens}
+use Rattle.am_dispatch.proofs.Leaving.{not_open_unmade, note_unmade, unmade_leaves, untold_all}
+use Rattle.am_dispatch.proofs.Making.{first_ticket, held_there, notes}
 use Rattle.am_dispatch.proofs.session.Session.note.Goals as goal
 
 pub returns-in-Ok-clause-told : goal.returns-in-Ok-clause-told
@@ -8,4 +14,19 @@ returns-in-Ok-clause-told c =
     (held_there _ _ _ _ c.as_slice.ensures.value c.in-Some.ensures.within c.index-own.ensures)) c.in-Some-find_notice.ensures c.ticket.ensures.ticket c.in-Ok.ensures.noted c.tell.ensures.told
 
 pub returns-in-Ok-clause-refused : goal.returns-in-Ok-clause-refused
-returns-in-Ok-clause-refused c = untold_leaves _ _ _ _ _ c.tell.ensures.untold
+returns-in-Ok-clause-refused c =
+    let at = first_ticket _ _ _ _ _ c.as_slice.ensures.value c.in-Some.ensures.first
+    (held_there _ _ _ _ c.as_slice.ensures.value c.in-Some.ensures.within c.index-own.ensures) in
+    untold_all _ _ _ (Note c.args.noting) c.tell.ensures.untold (
+      reply_tokens c.note.new.self.config Noted,
+      (notes {T = ℕ} {E = ℕ} (Ok 0) _ _ _ [] (reply_tokens c.note.new.self.config Noted) _ _ _ _ at c.in-Some-find_notice.ensures c.ticket.ensures.ticket c.in-Ok.ensures.noted refl, refl),
+    )
+
+pub returns-in-Err-clause-refused : goal.returns-in-Err-clause-refused
+returns-in-Err-clause-refused c = unmade_leaves _ _ _ (Note c.args.noting) (note_unmade _ _ c.of_note-in-Err.ensures) (c.in-Err.ensures.refused, refl)
+
+pub returns-in_default-clause-refused : goal.returns-in_default-clause-refused
+returns-in_default-clause-refused c = unmade_leaves _ _ _ (Note c.args.noting) (not_open_unmade _ _ c.not_open.ensures) (refl, refl)
+
+pub returns-in_default-find_notice-clause-refused : goal.returns-in_default-find_notice-clause-refused
+returns-in_default-find_notice-clause-refused c = unmade_leaves _ _ _ (Note c.args.noting) (note_unmade NotReady _ c.of_note.ensures) (refl, refl)

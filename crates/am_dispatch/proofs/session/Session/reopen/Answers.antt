@@ -1,12 +1,26 @@
-use Rattle.std.proofs.Common.{◌≡◌, []}
-use Rattle.am_dispatch.proofs.Making.{opens, untold_leaves}
+use Rattle.std.proofs.Common.{◌≡◌, [], ap, refl}
+use Rattle.am_board.specs.History.{BoardData}
+use Rattle.am_lines.specs.declared.request.Request.TheVariants.{Open}
+use Rattle.am_lines.specs.Reply.{opened_tokens}
+use Rattle.am_dispatch.proofs.Leaving.{unmade_passed, untold_all}
+use Rattle.am_dispatch.proofs.Making.{opens}
 use Rattle.am_dispatch.proofs.session.Session.reopen.Goals as goal
 
 pub returns-clause-told : goal.returns-clause-told
 returns-clause-told c =
     let none : c.replace.new.dest.items ≡ [] = rw c.replace.ensures.after c.new.ensures.items in
     opens c.told.result c.write_opened.result c.in_ok-board.board c.replace.new.dest.items c.args.asked c.args.answer.now c.write_opened.new.answer c.told.ensures.ok
-    c.in_ok-board.ensures none c.write_opened.ensures
+    c.in_ok-board.ensures.board none c.write_opened.ensures
 
 pub returns-clause-refused : goal.returns-clause-refused
-returns-clause-refused c = untold_leaves _ _ _ _ _ c.told.ensures.err
+returns-clause-refused c =
+    let none : c.replace.new.dest.items ≡ [] = rw c.replace.ensures.after c.new.ensures.items in
+    untold_all _ c.args.self.now (record {
+      board = c.in_ok-board.board;
+      tickets = c.replace.new.dest;
+      ours = ap (λ (b : BoardData). b.id) c.in_ok-board.ensures.board;
+    }) (Open c.args.asked) c.told.ensures.err (opened_tokens c.args.asked.ignored, (c.in_ok-board.ensures.board, none, refl))
+
+pub returns-in_err-board-clause-refused : goal.returns-in_err-board-clause-refused
+returns-in_err-board-clause-refused c =
+    unmade_passed _ _ c.args.self.now c.args.self.now (Open c.args.asked) c.from_residual.ensures.1 c.in_err-board.ensures.refused (refl, refl)

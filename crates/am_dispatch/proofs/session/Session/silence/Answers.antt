@@ -1,8 +1,15 @@
-use Rattle.am_dispatch.proofs.Making.{made, untold_leaves}
+use Rattle.std.proofs.Common.{refl}
+use Rattle.am_lines.specs.declared.request.Request.TheVariants.{Silence}
+use Rattle.am_dispatch.proofs.Leaving.{board_unmade, made_all, unmade_leaves}
+use Rattle.am_dispatch.proofs.Making.{made}
 use Rattle.am_dispatch.proofs.session.Session.silence.Goals as goal
 
 pub returns-in-Ok-clause-told : goal.returns-in-Ok-clause-told
 returns-in-Ok-clause-told c = made _ _ _ _ _ _ _ c.in-Ok.ensures.reply c.in-Ok.ensures.recorded c.tell.ensures.told
 
 pub returns-in-Ok-clause-refused : goal.returns-in-Ok-clause-refused
-returns-in-Ok-clause-refused c = untold_leaves _ _ _ _ _ c.tell.ensures.untold
+returns-in-Ok-clause-refused c =
+    made_all _ _ _ (Silence c.args.silencing) _ _ (λ _ makes. (makes, refl)) c.in-Ok.ensures.reply c.in-Ok.ensures.recorded c.tell.ensures.untold
+
+pub returns-in-Err-clause-refused : goal.returns-in-Err-clause-refused
+returns-in-Err-clause-refused c = unmade_leaves _ _ _ (Silence c.args.silencing) (board_unmade _ _ _ c.of_board.ensures) (c.in-Err.ensures.refused, refl)

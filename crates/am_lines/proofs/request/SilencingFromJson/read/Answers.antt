@@ -1,4 +1,4 @@
-use Rattle.std.proofs.Common.{◌≡◌, List, codes, subst, sym}
+use Rattle.std.proofs.Common.{List, codes, subst, sym}
 use Rattle.serde_json.specs.View.{members_view, view}
 use Rattle.am_alerts.specs.declared.matcher.MatcherParts.{MatcherParts}
 use Rattle.am_cli.specs.Configured.{DecodesToMatcher}

@@ -1,0 +1,12 @@
+-- Configs: the configurations under which a story is played.
+use Rattle.std.specs.Prelude.{List, ◌∷◌, map}
+use Rattle.am_model.specs.declared.config.Config.{Config}
+use Rattle.am_plans.specs.declared.configs.Configs.{Configs}
+use Rattle.am_terms.specs.declared.handover.Handover.{Handover}
+
+-- the one with which it starts, and those of its reloads and restarts
+abbrev pub configs_of : Config → List Handover → List Config
+configs_of config handovers = config ∷ map (λ (h : Handover). h.config) handovers
+
+abbrev pub configs_in : Configs → List Config
+configs_in configs = configs_of configs.own.now configs.later.now

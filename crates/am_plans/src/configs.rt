@@ -1,0 +1,57 @@
+//! The configurations under which a story is played. Outages and expectations are checked by them.
+ghost use Rattle.std.specs.Prelude.{◌≡◌, is_some, find};
+ghost use Rattle.std.specs.List.{list_any};
+ghost use Rattle.std.specs.Str.{bytes_eq};
+ghost use Rattle.am_plans.specs.Configs.{configs_in};
+ghost use Rattle.am_plans.specs.Decoding.{has_place, some_has_place};
+
+use am_model::config::Config;
+use am_terms::handover::Handover;
+
+/// The configurations of a story.
+#[derive(Drop)]
+pub struct Configs<'c> {
+    /// The one with which it starts.
+    pub own: &'c Config,
+    /// Those of its reloads and restarts are in these.
+    pub later: &'c [Handover],
+}
+
+impl Configs<'_> {
+    /// Returns whether one of the configurations has a receiver of this name, and the receiver what is said of its
+    /// integrations.
+    pub fn have_place(&self, receiver: &str, position: Option<u32>) -> bool
+        ensures { result ≡ some_has_place (configs_in self.now) receiver.now position }
+    {
+        has_place(self.own, receiver, position) || later_has_place(self.later, receiver, position)
+    }
+
+    /// Returns whether one of the configurations has a receiver of this name.
+    pub fn have_receiver(&self, name: &str) -> bool {
+        self.own.receiver(name).is_some()
+            || self
+                .later
+                .iter()
+                .any(|handover| handover.config.receiver(name).is_some())
+    }
+}
+
+fn later_has_place(later: &[Handover], receiver: &str, position: Option<u32>) -> bool
+    ensures { result ≡ list_any (λ h. has_place h.config receiver.now position) later.now }
+{
+    later
+        .iter()
+        .any(|handover| has_place(&handover.config, receiver, position))
+}
+
+fn has_place(config: &Config, receiver: &str, position: Option<u32>) -> bool
+    ensures { result ≡ has_place config.now receiver.now position }
+{
+    match config.receiver(receiver) {
+        None => false,
+        Some(receiver) => match position {
+            None => true,
+            Some(position) => (position as usize) < receiver.integrations.len(),
+        },
+    }
+}

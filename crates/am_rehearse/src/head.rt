@@ -1,0 +1,133 @@
+//! The line between what two dispatchers did, where a story reloads or restarts the dispatcher. `render` prints it.
+ghost use Rattle.std.specs.Prelude.{◌≡◌, ◌++◌, IfOk, OnOk, codes, decimal, map, string_bytes};
+ghost use Rattle.am_rehearse.specs.Head.{change_of, entries_word, head_text, heads_of, kept_text, taken_text};
+
+use am_rehearsal::playing::PlayedPart;
+use am_terms::clock::{TimeFormat, push_column, push_number};
+use am_terms::handover::{Handover, Keeps};
+use std::alloc::{AllocError, Global};
+
+/// When a new dispatcher begins, and what it keeps of the one before it.
+#[derive(Clone, Copy)]
+pub(crate) struct Change {
+    pub(crate) at: u64,
+    pub(crate) keeps: Keeps,
+}
+
+/// What the line on a new dispatcher says.
+#[derive(Clone, Copy)]
+pub(crate) struct Head {
+    pub(crate) change: Change,
+    /// How many rows the log before it had.
+    pub(crate) rows: usize,
+    /// How many of these it took over.
+    pub(crate) taken: usize,
+}
+
+/// Returns when the dispatchers of a story change.
+pub(crate) fn changes_of(alloc: Global, handovers: &[Handover]) -> Result<Vec<Change>, AllocError>
+    ensures { IfOk result (λ changes. changes.items ≡ map change_of handovers.now) }
+{
+    let mut changes = Vec::with_capacity(alloc, handovers.len())?;
+    for handover in handovers {
+        changes.push(Change {
+            at: handover.at,
+            keeps: handover.keeps,
+        })?;
+    }
+    Ok(changes)
+}
+
+/// Returns what the lines on these new dispatchers say. The parts are theirs.
+pub(crate) fn heads_of(
+    alloc: Global,
+    changes: &[Change],
+    parts: &[PlayedPart],
+) -> Result<Vec<Head>, AllocError>
+    ensures { IfOk result (λ heads. heads.items ≡ heads_of changes.now parts.now) }
+{
+    let mut heads = Vec::with_capacity(alloc, changes.len())?;
+    add_heads(changes, parts, &mut heads)?;
+    Ok(heads)
+}
+
+/// Adds them.
+fn add_heads(
+    changes: &[Change],
+    parts: &[PlayedPart],
+    heads: &mut Vec<Head>,
+) -> Result<(), AllocError>
+    ensures { OnOk result (heads.new.items ≡ heads.old.items ++ heads_of changes.now parts.now) }
+{
+    match (changes.split_first(), parts.split_first()) {
+        (Some((change, changes)), Some((part, parts))) => {
+            heads.push(Head {
+                change: *change,
+                rows: part.rows,
+                taken: part.taken,
+            })?;
+            add_heads(changes, parts, heads)
+        }
+        _ => Ok(()),
+    }
+}
+
+/// Adds the line on a new dispatcher, between empty lines.
+#[tactic(auto, unfolding(crate::specs::Head::head_text))]
+pub(crate) fn push_head<C: TimeFormat>(
+    clock: &C,
+    head: &Head,
+    out: &mut String,
+) -> Result<(), AllocError>
+    ensures { OnOk result (string_bytes out.new ≡ string_bytes out.old ++ head_text (C.times clock.now) head.now) }
+{
+    out.push_str("\n")?;
+    push_column(clock, head.change.at, out)?;
+    push_kept(head, out)?;
+    out.push_str("\n\n")
+}
+
+fn push_kept(head: &Head, out: &mut String) -> Result<(), AllocError>
+    ensures { OnOk result (string_bytes out.new ≡ string_bytes out.old ++ kept_text head.now head.now.change.keeps) }
+{
+    match head.change.keeps {
+        Keeps::All => {
+            out.push_str("reload  ")?;
+            push_taken(head, out)
+        }
+        Keeps::Log => {
+            out.push_str("restart ")?;
+            push_taken(head, out)
+        }
+        Keeps::Nothing => out.push_str("restart log and silences are lost"),
+    }
+}
+
+/// Adds how much of the log is taken over.
+fn push_taken(head: &Head, out: &mut String) -> Result<(), AllocError>
+    ensures { OnOk result (string_bytes out.new ≡ string_bytes out.old ++ taken_text head.now.rows head.now.taken) }
+{
+    push_number(head.taken as u64, out)?;
+    push_of(head.rows, out)
+}
+
+fn push_of(rows: usize, out: &mut String) -> Result<(), AllocError>
+    ensures { OnOk result (string_bytes out.new
+        ≡ string_bytes out.old ++ (codes " of " ++ decimal rows ++ entries_word rows ++ codes " taken over")) }
+{
+    out.push_str(" of ")?;
+    push_number(rows as u64, out)?;
+    out.push_str(entries_word(rows))?;
+    out.push_str(" taken over")
+}
+
+#[tactic(auto, unfolding(crate::specs::Head::entries_word))]
+fn entries_word(rows: usize) -> &'static str
+    ensures { result.now ≡ entries_word rows }
+{
+    if rows == 1 {
+        " log entry"
+    } else {
+        " log entries"
+    }
+}

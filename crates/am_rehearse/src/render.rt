@@ -1,0 +1,624 @@
+//! What is printed of a rehearsal that was played, one dispatcher after another. `run` calls it.
+ghost use Rattle.std.specs.Prelude.{◌≡◌, ◌==◌, ◌&&◌, ◌++◌, IfErr, IfOk, OnOk, Some, None, false, not, if◌then◌else◌};
+ghost use Rattle.std.specs.Prelude.{drop, length, map, option_map, string_bytes};
+ghost use Rattle.std.specs.List.{AllByRecursion, list_all};
+ghost use Rattle.am_input.specs.Request.{times_from};
+ghost use Rattle.am_judge.specs.Expectation.{is_met, unmet_from};
+ghost use Rattle.am_judge.specs.Junit.{junit_text};
+ghost use Rattle.am_model.specs.Replay.{IsLegal};
+ghost use Rattle.am_rehearse.specs.Head.{heads_of};
+ghost use Rattle.am_rehearse.specs.Printed.{IsOutputOf, IsPrinted, all_lines, end_text, expectations_section, has_summary, is_page};
+ghost use Rattle.am_rehearse.specs.Printed.{HasLegalHistory, has_lines, head_for, later_lines, log_of};
+ghost use Rattle.am_rehearse.specs.Printed.{part_text, playback_of, shown_text, summary};
+ghost use Rattle.am_timeline.specs.Changed.{changed};
+ghost use Rattle.am_timeline.specs.Filtered.{left_of, names_nothing};
+ghost use Rattle.am_timeline.specs.Runs.{short_timeline_text};
+ghost use Rattle.am_timeline.specs.Table.{table_text};
+ghost use Rattle.am_timeline.specs.Timeline.{timeline_text};
+ghost use Rattle.am_undelivered.specs.Undelivered.{undelivered_text};
+
+use crate::head::{Change, Head, heads_of, push_head};
+use crate::run::Judgement;
+use crate::wanted::Wanted;
+use am_cli::fault::InputFault;
+use am_input::input::Output;
+use am_judge::expectation::{is_met, unmet_expectations};
+use am_judge::expectation_report::expectations_text;
+use am_judge::junit::junit_text;
+use am_picture::page::page;
+use am_picture::scene::Scene;
+use am_rehearsal::play::Played;
+use am_rehearsal::playing::PlayedPart;
+use am_terms::clock::{Elapsed, TimeFormat};
+use am_terms::dated::UtcDates;
+use am_terms::expectation::Expectation;
+use am_timeline::changed::changed_events;
+use am_timeline::filtered::{Selection, filtered_events};
+use am_timeline::json::json_text;
+use am_timeline::logbook::Logbook;
+use am_timeline::notices::notices_text;
+use am_timeline::playback::Playback;
+use am_timeline::short_timeline::short_timeline_text;
+use am_timeline::table::table_text;
+use am_timeline::timeline::timeline_text;
+use am_undelivered::report::undelivered_text;
+use std::alloc::{AllocError, Global};
+
+/// What is printed of a rehearsal.
+#[derive(Drop)]
+pub(crate) struct Rendered {
+    pub(crate) text: String,
+    /// Whether every expectation is met.
+    pub(crate) is_met: bool,
+    pub(crate) judgement: Judgement,
+}
+
+/// Lines, and whether there is an event that they are of.
+#[derive(Drop)]
+struct Lines {
+    text: String,
+    /// Whether the filter leaves an event.
+    found: bool,
+}
+
+/// What is printed of a rehearsal whose dispatchers changed so, with dates if its start is told.
+pub(crate) fn render_from(
+    alloc: Global,
+    changes: &[Change],
+    played: &[PlayedPart],
+    start: &Option<UtcDates>,
+    expectations: &[Expectation],
+    output: Output,
+    wanted: &Wanted,
+) -> Result<Rendered, InputFault>
+    ensures told { IfOk result (λ rendered. IsOutputOf changes.now played.now output wanted.now (times_from start.now)
+        expectations.now rendered.is_met (string_bytes rendered.text)) }
+    ensures refused { IfErr result (λ fault. fault ≡ InputFault.NoMemory) }
+{
+    match start {
+        None => Ok(render_by(
+            alloc,
+            changes,
+            played,
+            &Elapsed,
+            expectations,
+            output,
+            wanted,
+        )?),
+        Some(start) => Ok(render_by(alloc, changes, played, start, expectations, output, wanted)?),
+    }
+}
+
+/// The same, with moments that this clock shows.
+fn render_by<C: TimeFormat>(
+    alloc: Global,
+    changes: &[Change],
+    played: &[PlayedPart],
+    clock: &C,
+    expectations: &[Expectation],
+    output: Output,
+    wanted: &Wanted,
+) -> Result<Rendered, AllocError>
+    ensures { IfOk result (λ rendered. IsOutputOf changes.now played.now output wanted.now (C.times clock.now)
+        expectations.now rendered.is_met (string_bytes rendered.text)) }
+{
+    let heads = heads_of(alloc, changes, later(played))?;
+    let logs = logbooks_of(alloc, played)?;
+    let playbacks = playbacks_of(alloc, logs.as_slice(), played)?;
+    let heads = heads.as_slice();
+    let playbacks = playbacks.as_slice();
+    render_parts(alloc, heads, playbacks, clock, expectations, output, wanted)
+}
+
+/// The parts of all dispatchers but the first.
+fn later(played: &[PlayedPart]) -> &[PlayedPart]
+    ensures { result.now ≡ drop 1 played.now }
+{
+    match played.split_first() {
+        None => &[],
+        Some((_, later)) => later,
+    }
+}
+
+/// What is printed of playbacks, behind the first with these heads.
+fn render_parts<C: TimeFormat>(
+    alloc: Global,
+    heads: &[Head],
+    playbacks: &[Playback<'_>],
+    clock: &C,
+    expectations: &[Expectation],
+    output: Output,
+    wanted: &Wanted,
+) -> Result<Rendered, AllocError>
+    ensures met { IfOk result (λ rendered. rendered.is_met ≡ list_all (is_met playbacks.now) expectations.now) }
+    ensures printed { IfOk result (λ rendered. IsPrinted output wanted.now heads.now playbacks.now (C.times clock.now)
+        expectations.now (string_bytes rendered.text)) }
+{
+    let is_met = are_met(alloc, playbacks, expectations)?;
+    let lines = printed(alloc, heads, playbacks, clock, expectations, output, wanted)?;
+    let judgement = judge(alloc, playbacks, clock, expectations, wanted, lines.found)?;
+    Ok(Rendered {
+        text: lines.text,
+        is_met,
+        judgement,
+    })
+}
+
+/// The output that is asked for. Of a page nothing is said.
+fn printed<C: TimeFormat>(
+    alloc: Global,
+    heads: &[Head],
+    playbacks: &[Playback<'_>],
+    clock: &C,
+    expectations: &[Expectation],
+    output: Output,
+    wanted: &Wanted,
+) -> Result<Lines, AllocError>
+    ensures { IfOk result (λ lines. IsPrinted output wanted.now heads.now playbacks.now (C.times clock.now)
+        expectations.now (string_bytes lines.text)) }
+{
+    if is_page(output) {
+        return picture_of(alloc, playbacks, clock);
+    }
+    let mut lines = all_lines(alloc, heads, playbacks, clock, output, wanted)?;
+    push_end(
+        alloc,
+        playbacks,
+        clock,
+        expectations,
+        output,
+        &mut lines.text,
+    )?;
+    Ok(lines)
+}
+
+pub(crate) fn is_page(output: Output) -> bool
+    ensures { result ≡ is_page output }
+{
+    match output {
+        Output::Html => true,
+        Output::Timeline | Output::Full | Output::Notices | Output::Delivered | Output::Json =>
+            false,
+    }
+}
+
+/// The lines of all dispatchers.
+fn all_lines<C: TimeFormat>(
+    alloc: Global,
+    heads: &[Head],
+    playbacks: &[Playback<'_>],
+    clock: &C,
+    output: Output,
+    wanted: &Wanted,
+) -> Result<Lines, AllocError>
+    ensures { IfOk result (λ lines. string_bytes lines.text
+        ≡ all_lines output wanted.now (C.times clock.now) heads.now playbacks.now) }
+{
+    match playbacks.split_first() {
+        None => Ok(Lines {
+            text: String::new(alloc),
+            found: false,
+        }),
+        Some((first, later)) => {
+            let mut lines = lines_of(alloc, first, clock, output, wanted)?;
+            let found = push_later(alloc, heads, later, clock, output, wanted, &mut lines.text)?;
+            lines.found = lines.found || found;
+            Ok(lines)
+        }
+    }
+}
+
+/// Adds the lines of these dispatchers, each behind its head. Returns whether there is an event that they are of.
+fn push_later<C: TimeFormat>(
+    alloc: Global,
+    heads: &[Head],
+    playbacks: &[Playback<'_>],
+    clock: &C,
+    output: Output,
+    wanted: &Wanted,
+    out: &mut String,
+) -> Result<bool, AllocError>
+    ensures { OnOk result (string_bytes out.new
+        ≡ string_bytes out.old ++ later_lines output wanted.now (C.times clock.now) heads.now playbacks.now) }
+{
+    match heads.split_first() {
+        None => Ok(false),
+        Some((head, heads)) => match playbacks.split_first() {
+            None => Ok(false),
+            Some((playback, playbacks)) => {
+                push_head_for(clock, head, output, out)?;
+                let found = push_lines(alloc, playback, clock, output, wanted, out)?;
+                let more = push_later(alloc, heads, playbacks, clock, output, wanted, out)?;
+                Ok(found || more)
+            }
+        },
+    }
+}
+
+/// Adds a head to an output that has more than lines.
+fn push_head_for<C: TimeFormat>(
+    clock: &C,
+    head: &Head,
+    output: Output,
+    out: &mut String,
+) -> Result<(), AllocError>
+    ensures { OnOk result (string_bytes out.new
+        ≡ string_bytes out.old ++ head_for output (C.times clock.now) head.now) }
+{
+    if !has_summary(output) {
+        return Ok(());
+    }
+    push_head(clock, head, out)
+}
+
+/// Adds the lines of one dispatcher. Returns whether there is an event that they are of.
+fn push_lines<C: TimeFormat>(
+    alloc: Global,
+    playback: &Playback<'_>,
+    clock: &C,
+    output: Output,
+    wanted: &Wanted,
+    out: &mut String,
+) -> Result<bool, AllocError>
+    ensures { OnOk result (string_bytes out.new
+        ≡ string_bytes out.old ++ part_text output wanted.now (C.times clock.now) playback.now) }
+{
+    let lines = lines_of(alloc, playback, clock, output, wanted)?;
+    out.push_str(lines.text.as_str())?;
+    Ok(lines.found)
+}
+
+/// The lines of one dispatcher, of the groups that are wanted.
+fn lines_of<C: TimeFormat>(
+    alloc: Global,
+    playback: &Playback<'_>,
+    clock: &C,
+    output: Output,
+    wanted: &Wanted,
+) -> Result<Lines, AllocError>
+    ensures text { IfOk result (λ lines. string_bytes lines.text
+        ≡ part_text output wanted.now (C.times clock.now) playback.now) }
+    ensures found { IfOk result (λ lines. lines.found ≡ has_lines wanted.now playback.now) }
+{
+    let left = filtered_events(alloc, playback, &wanted.filter)?;
+    let filtered = playback.with_events(left.of(playback.events()));
+    Ok(Lines {
+        text: text_of(alloc, playback, &filtered, clock, output, wanted)?,
+        found: !filtered.events().is_empty(),
+    })
+}
+
+/// The lines that are wanted, where the filter leaves these.
+fn text_of<C: TimeFormat>(
+    alloc: Global,
+    playback: &Playback<'_>,
+    filtered: &Playback<'_>,
+    clock: &C,
+    output: Output,
+    wanted: &Wanted,
+) -> Result<String, AllocError>
+    ensures { IfOk result (λ text. string_bytes text ≡ shown_text output
+        (if wanted.now.changes then changed filtered.now (C.times clock.now) else filtered.now) playback.now
+        (C.times clock.now)) }
+{
+    let kept = wanted_events(alloc, filtered, clock, wanted)?;
+    let shown = filtered.with_events(kept.of(filtered.events()));
+    shown_text(alloc, &shown, playback, clock, output)
+}
+
+/// The logbooks of these dispatchers.
+fn logbooks_of(alloc: Global, played: &[PlayedPart]) -> Result<Vec<Logbook<'_>>, AllocError>
+    ensures logbooks { IfOk result (λ logs. logs.items ≡ map log_of played.now) }
+    ensures legal { OnOk result (AllByRecursion HasLegalHistory played.now) }
+{
+    let mut logs = Vec::with_capacity(alloc, played.len())?;
+    add_logbooks(alloc, played, &mut logs)?;
+    Ok(logs)
+}
+
+/// Adds them.
+fn add_logbooks<'s>(
+    alloc: Global,
+    played: &'s [PlayedPart],
+    logs: &mut Vec<Logbook<'s>>,
+) -> Result<(), AllocError>
+    ensures logbooks { OnOk result (logs.new.items ≡ logs.old.items ++ map log_of played.now) }
+    ensures legal { OnOk result (AllByRecursion HasLegalHistory played.now) }
+{
+    match played.split_first() {
+        None => Ok(()),
+        Some((part, later)) => {
+            logs.push(logbook_of(alloc, &part.played)?)?;
+            add_logbooks(alloc, later, logs)
+        }
+    }
+}
+
+/// The playbacks of these dispatchers, of which these are the logbooks.
+fn playbacks_of<'s>(
+    alloc: Global,
+    logs: &'s [Logbook<'s>],
+    played: &'s [PlayedPart],
+) -> Result<Vec<Playback<'s>>, AllocError>
+    requires logbooks { logs.now ≡ map log_of played.now }
+    ensures { IfOk result (λ playbacks. playbacks.items ≡ map playback_of played.now) }
+{
+    let mut playbacks = Vec::with_capacity(alloc, logs.len())?;
+    add_playbacks(logs, played, &mut playbacks)?;
+    Ok(playbacks)
+}
+
+/// Adds them.
+fn add_playbacks<'s>(
+    logs: &'s [Logbook<'s>],
+    played: &'s [PlayedPart],
+    playbacks: &mut Vec<Playback<'s>>,
+) -> Result<(), AllocError>
+    requires logbooks { logs.now ≡ map log_of played.now }
+    ensures { OnOk result (playbacks.new.items ≡ playbacks.old.items ++ map playback_of played.now) }
+{
+    match played.split_first() {
+        None => Ok(()),
+        Some((part, later)) => match logs.split_first() {
+            None => Ok(()),
+            Some((log, logs)) => {
+                playbacks.push(Playback::new(log, part.played.events.as_slice()))?;
+                add_playbacks(logs, later, playbacks)
+            }
+        },
+    }
+}
+
+/// The logbook of a rehearsal that was played.
+pub(crate) fn logbook_of(alloc: Global, played: &Played) -> Result<Logbook<'_>, AllocError>
+    ensures logbook { IfOk result (λ log. log ≡ record {
+      config = played.now.board.config;
+      history = played.now.board.history;
+      begins = played.now.begins.items;
+    }) }
+    ensures legal { IfOk result (λ _. IsLegal played.now.board.config played.now.board.id played.now.board.history) }
+{
+    Logbook::new(
+        alloc,
+        played.board.config(),
+        played.history(),
+        played.begins.as_slice(),
+    )
+}
+
+/// The events of a playback whose lines are wanted: all, or those that say something new.
+fn wanted_events<C: TimeFormat>(
+    alloc: Global,
+    filtered: &Playback<'_>,
+    clock: &C,
+    wanted: &Wanted,
+) -> Result<Selection, AllocError>
+    ensures { IfOk result (λ events. record filtered.now { events = left_of events filtered.now.events }
+        ≡ (if wanted.now.changes then changed filtered.now (C.times clock.now) else filtered.now)) }
+{
+    if wanted.changes {
+        let changes = changed_events(alloc, filtered, clock)?;
+        return Ok(Selection::Only(changes));
+    }
+    Ok(Selection::All)
+}
+
+/// What a rehearsal came to, besides the output.
+fn judge<C: TimeFormat>(
+    alloc: Global,
+    playbacks: &[Playback<'_>],
+    clock: &C,
+    expectations: &[Expectation],
+    wanted: &Wanted,
+    found: bool,
+) -> Result<Judgement, AllocError>
+    ensures unmet { IfOk result (λ judgement. judgement.unmet.items ≡ unmet_from playbacks.now 0 expectations.now) }
+    ensures junit { IfOk result (λ judgement. option_map string_bytes judgement.junit
+        ≡ (if wanted.now.junit then Some (junit_text playbacks.now (C.times clock.now) expectations.now) else None)) }
+    ensures found { IfOk result (λ judgement. judgement.found_nothing ≡ (not (names_nothing wanted.now.filter) && not found)) }
+{
+    let found_nothing = !wanted.filter.is_empty() && !found;
+    let junit = junit_of(alloc, playbacks, clock, expectations, wanted)?;
+    let unmet = unmet_expectations(alloc, playbacks, expectations)?;
+    Ok(Judgement {
+        unmet,
+        junit,
+        found_nothing,
+    })
+}
+
+/// The report on all expectations, as XML of JUnit, if it is wanted.
+fn junit_of<C: TimeFormat>(
+    alloc: Global,
+    playbacks: &[Playback<'_>],
+    clock: &C,
+    expectations: &[Expectation],
+    wanted: &Wanted,
+) -> Result<Option<String>, AllocError>
+    ensures { IfOk result (λ junit. option_map string_bytes junit
+        ≡ (if wanted.now.junit then Some (junit_text playbacks.now (C.times clock.now) expectations.now) else None)) }
+{
+    if !wanted.junit {
+        return Ok(None);
+    }
+    Ok(Some(junit_text(alloc, playbacks, clock, expectations)?))
+}
+
+/// The page of a rehearsal with one dispatcher.
+fn picture_of<C: TimeFormat>(
+    alloc: Global,
+    playbacks: &[Playback<'_>],
+    clock: &C,
+) -> Result<Lines, AllocError> {
+    let text = match playbacks.first() {
+        None => String::new(alloc),
+        Some(playback) => picture(alloc, playback, clock)?,
+    };
+    Ok(Lines { text, found: true })
+}
+
+/// A rehearsal that was played as a page.
+fn picture<C: TimeFormat>(
+    alloc: Global,
+    playback: &Playback<'_>,
+    clock: &C,
+) -> Result<String, AllocError> {
+    let scene = Scene {
+        log: playback.logbook(),
+        events: playback.events(),
+    };
+    let undelivered = undelivered_text(alloc, playback, clock)?;
+    page(alloc, &scene, clock, "Rehearsal", undelivered.as_str())
+}
+
+/// Whether every expectation is met.
+fn are_met(
+    alloc: Global,
+    playbacks: &[Playback<'_>],
+    expectations: &[Expectation],
+) -> Result<bool, AllocError>
+    ensures { IfOk result (λ met. met ≡ list_all (is_met playbacks.now) expectations.now) }
+{
+    for expectation in expectations {
+        if !is_met(alloc, playbacks, expectation)? {
+            return Ok(false);
+        }
+    }
+    Ok(true)
+}
+
+/// The lines of one dispatcher, of which this is the playback, with what is below them: of the rehearsal that is shown.
+fn shown_text<C: TimeFormat>(
+    alloc: Global,
+    shown: &Playback<'_>,
+    playback: &Playback<'_>,
+    clock: &C,
+    output: Output,
+) -> Result<String, AllocError>
+    ensures { IfOk result (λ text. string_bytes text ≡ shown_text output shown.now playback.now (C.times clock.now)) }
+{
+    match output {
+        Output::Timeline => short_timeline(alloc, shown, playback, clock),
+        Output::Full => full_timeline(alloc, shown, playback, clock),
+        Output::Notices => notices_text(alloc, shown, clock, true),
+        Output::Delivered => notices_text(alloc, shown, clock, false),
+        Output::Json => json_text(alloc, shown, clock),
+        Output::Html => Ok(String::new(alloc)),
+    }
+}
+
+/// The timeline with one line for a run of like flushes, and what is below it.
+fn short_timeline<C: TimeFormat>(
+    alloc: Global,
+    shown: &Playback<'_>,
+    playback: &Playback<'_>,
+    clock: &C,
+) -> Result<String, AllocError>
+    ensures { IfOk result (λ text. string_bytes text ≡ short_timeline_text shown.now (C.times clock.now)
+        ++ summary playback.now (C.times clock.now)) }
+{
+    let mut text = short_timeline_text(alloc, shown, clock)?;
+    push_summary(alloc, playback, clock, &mut text)?;
+    Ok(text)
+}
+
+/// The timeline with a line for each event, and what is below it.
+fn full_timeline<C: TimeFormat>(
+    alloc: Global,
+    shown: &Playback<'_>,
+    playback: &Playback<'_>,
+    clock: &C,
+) -> Result<String, AllocError>
+    ensures { IfOk result (λ text. string_bytes text ≡ timeline_text shown.now (C.times clock.now)
+        ++ summary playback.now (C.times clock.now)) }
+{
+    let mut text = timeline_text(alloc, shown, clock)?;
+    push_summary(alloc, playback, clock, &mut text)?;
+    Ok(text)
+}
+
+/// Adds the table of the receivers, and the alerts that nobody was notified of.
+fn push_summary<C: TimeFormat>(
+    alloc: Global,
+    playback: &Playback<'_>,
+    clock: &C,
+    text: &mut String,
+) -> Result<(), AllocError>
+    ensures { OnOk result (string_bytes text.new
+        ≡ string_bytes text.old ++ summary playback.now (C.times clock.now)) }
+{
+    push_table(alloc, playback, clock, text)?;
+    push_undelivered(alloc, playback, clock, text)
+}
+
+fn push_table<C: TimeFormat>(
+    alloc: Global,
+    playback: &Playback<'_>,
+    clock: &C,
+    text: &mut String,
+) -> Result<(), AllocError>
+    ensures { OnOk result (string_bytes text.new ≡ string_bytes text.old ++ table_text playback.now (C.times clock.now)) }
+{
+    let table = table_text(alloc, playback, clock)?;
+    text.push_str(table.as_str())
+}
+
+fn push_undelivered<C: TimeFormat>(
+    alloc: Global,
+    playback: &Playback<'_>,
+    clock: &C,
+    text: &mut String,
+) -> Result<(), AllocError>
+    ensures { OnOk result (string_bytes text.new
+        ≡ string_bytes text.old ++ undelivered_text playback.now (C.times clock.now)) }
+{
+    let undelivered = undelivered_text(alloc, playback, clock)?;
+    text.push_str(undelivered.as_str())
+}
+
+/// Whether an output has more than the lines.
+fn has_summary(output: Output) -> bool
+    ensures { result ≡ has_summary output }
+{
+    match output {
+        Output::Timeline | Output::Full => true,
+        Output::Notices | Output::Delivered | Output::Json | Output::Html => false,
+    }
+}
+
+/// Adds what became of the expectations to an output that tells it.
+fn push_end<C: TimeFormat>(
+    alloc: Global,
+    playbacks: &[Playback<'_>],
+    clock: &C,
+    expectations: &[Expectation],
+    output: Output,
+    text: &mut String,
+) -> Result<(), AllocError>
+    ensures { OnOk result (string_bytes text.new
+        ≡ string_bytes text.old ++ end_text output playbacks.now (C.times clock.now) expectations.now) }
+{
+    if !has_summary(output) {
+        return Ok(());
+    }
+    push_judged(alloc, playbacks, clock, expectations, text)
+}
+
+/// Adds what became of the expectations, behind an empty line, if there are any.
+fn push_judged<C: TimeFormat>(
+    alloc: Global,
+    playbacks: &[Playback<'_>],
+    clock: &C,
+    expectations: &[Expectation],
+    text: &mut String,
+) -> Result<(), AllocError>
+    ensures { OnOk result (string_bytes text.new
+        ≡ string_bytes text.old ++ expectations_section playbacks.now (C.times clock.now) expectations.now) }
+{
+    if expectations.is_empty() {
+        return Ok(());
+    }
+    let judgement = expectations_text(alloc, playbacks, clock, expectations)?;
+    text.push_str("\n")?;
+    text.push_str(judgement.as_str())
+}

@@ -6,3 +6,4 @@ pub mod invariant
 pub mod load
 pub mod maintain
 pub mod note
+pub mod unsilenced

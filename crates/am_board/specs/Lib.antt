@@ -44,3 +44,5 @@ pub mod Order
 pub mod Preview
 -- what a call does to the stored state of a board
 pub mod Step
+-- label sets that no silence mutes, as they are noted
+pub mod Unsilenced

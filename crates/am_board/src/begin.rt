@@ -2,8 +2,8 @@
 //! once.
 //!
 //! Steps, if the history has room (`take_with_room`): `Groups::first_due` picks the group,
-//! `put_in_order` sorts it, `plan` finds what is unmuted and whom to notify. A begin that opens a
-//! flush allocates in this order:
+//! `prepare` sorts it and notes what no silence mutes, `plan` finds what is unmuted and whom to
+//! notify. A begin that opens a flush allocates in this order:
 //! - the unmuted alerts, their label sets, the integrations that need an update;
 //! - all that goes into the board and the ticket;
 //! - the capacity of the history, the open flush, the log keys.
@@ -56,6 +56,11 @@ pub enum Begun {
     /// A flush was opened.
     Flush(Ticket),
 }
+
+/// How many label sets are noted for each known alert at most, before all are noted anew.
+///
+/// An alert is noted once for each of its groups, and again where its group notes anew.
+const NOTED_PER_ALERT: usize = 4;
 
 /// The group that a begin takes.
 #[derive(Clone, Copy)]
@@ -133,20 +138,24 @@ pub(crate) fn take_with_room(
     if is_quiet {
         return begin_quiet(alloc, state, chosen);
     }
-    put_in_order(alloc, state, place);
+    prepare(alloc, state, place, t);
     match plan(alloc, config, id, state, sources, chosen)? {
         None => begin_quiet(alloc, state, chosen),
         Some(planned) => begin_flush(alloc, id, state, chosen, planned),
     }
 }
 
-/// Works the order by labels of the alerts of the group at a place out, unless it is there.
-fn put_in_order(alloc: Global, state: &mut State, place: usize)
+/// Computes the order by labels of the alerts of the group at a place, and notes those that no
+/// silence mutes at `t`.
+fn prepare(alloc: Global, state: &mut State, place: usize, t: u64)
     requires place { place < length state.old.groups.items }
     requires apart { All (λ g. IsDistinct same_member g.members) (map group_state state.old.groups.items) }
     ensures { state.new ≡ state.old }
 {
-    state.groups.put_in_order(place, alloc);
+    let limit = state.known.len().saturating_mul(NOTED_PER_ALERT);
+    state
+        .groups
+        .prepare(place, alloc, &mut state.silences, t, limit);
 }
 
 /// When a group of this route that is taken at `t` is due again.

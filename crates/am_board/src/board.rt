@@ -347,8 +347,16 @@ impl Board {
     ///
     /// # Errors
     ///
-    /// In this order, and each changes nothing: `NoIntegration`, `Unordered`, `Ahead`,
-    /// `HistoryFull`, then `NoMemory`.
+    /// In this order, and each changes nothing:
+    /// - `NoIntegration`: no route has the row's position, or its receiver has no such integration.
+    /// - `Unordered`: the row's label sets aren't in ascending order, each once.
+    /// - `Ahead`: the row's time is after the call's.
+    /// - `HistoryFull`: the history has no capacity for the record.
+    /// - `NoMemory`.
+    ///
+    /// A row that `rows` of a board returned has none of the first three under that board's
+    /// configuration, nor has one that `carried` returned for it under the new configuration, if
+    /// `now` isn't before the last call of that board (`am_model::law::rows_may_be_loaded`).
     pub fn load(
         &mut self,
         alloc: Global,

@@ -8,6 +8,7 @@ ghost use Rattle.am_board.specs.Refinement.{member_state, group_state};
 ghost use Rattle.am_model.specs.declared.config.Config.{Config};
 
 use crate::members::Members;
+use crate::silences::NotedSilences;
 use am_alerts::alert::Alert;
 use am_alerts::labels::Labels;
 pub use am_model::group::GroupName;
@@ -72,12 +73,19 @@ pub(crate) fn reserve_members(group: &mut Group, more: usize) -> Result<(), Allo
     group.members.reserve(more)
 }
 
-/// Works the order of a group's alerts by their labels out, unless it is there.
-pub(crate) fn put_in_order(group: &mut Group, alloc: Global)
+/// Computes the order of a group's alerts by labels, and notes those that no silence mutes at `t`.
+pub(crate) fn prepare(
+    group: &mut Group,
+    alloc: Global,
+    silences: &mut NotedSilences,
+    t: u64,
+    limit: usize,
+)
     requires { IsDistinct same_member (group_state group.old).members }
-    ensures { group.new ≡ group.old }
+    ensures group { group.new ≡ group.old }
+    ensures silences { silences.new ≡ silences.old }
 {
-    group.members.put_in_order(alloc);
+    group.members.prepare(alloc, silences, t, limit);
 }
 
 /// Marks a group that a begin took: it is flushed, and due again at this time.

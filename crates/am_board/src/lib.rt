@@ -6,9 +6,9 @@
 //!
 //! - `board`, `history`, `ticket`, `preview`, `previewed`, `views`, `fault`: the public calls and
 //!   types.
-//! - `state`, `known`, `groups`, `group`, `members`, `flush`: the stored state. Contracts see the
+//! - `state`, `known`, `groups`, `group`, `members`, `silences`, `flush`: the stored state. Contracts see the
 //!   tables as plain lists in the order of arrival, with their capacity.
-//! - `due`, `order`, `destinations`: indexes and caches, which only save time. No contract above
+//! - `due`, `order`, `noted`, `unsilenced`, `destinations`: indexes and caches, which only save time. No contract above
 //!   them mentions them.
 //! - `insert`, `silence`, `begin` (with `unmuted`, `dedup`, `plan`), `note`, `finish`, `maintain`,
 //!   `forget`, `load`: one module for each call, named after it.
@@ -39,15 +39,18 @@ mod load;
 mod maintain;
 mod members;
 mod note;
+mod noted;
 mod order;
 pub mod own_ticket;
 mod plan;
 pub mod preview;
 pub mod previewed;
 mod silence;
+mod silences;
 mod state;
 pub mod ticket;
 mod unmuted;
+mod unsilenced;
 pub mod views;
 
 pub use am_model::{config, law, notice, reason, record};

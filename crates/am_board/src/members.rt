@@ -18,7 +18,10 @@ ghost use Rattle.am_board.specs.Order.{member_cmp};
 
 use crate::flush::LeavingAlert;
 use crate::group::Member;
+use crate::noted::{note_members, noted_in};
 use crate::order::{forget, keep_where, ordered, renew};
+use crate::silences::NotedSilences;
+use crate::unsilenced::NotedPlace;
 use am_alerts::labels::Labels;
 use indexmap::IndexMap;
 use std::alloc::{AllocError, Global};
@@ -30,6 +33,8 @@ pub(crate) struct Members {
     members: IndexMap<Labels, Member>,
     /// Their places in the order of their labels. None after a label set came or left.
     order: Option<Vec<usize>>,
+    /// Where those that no silence mutes are noted, in this order.
+    noted: NotedPlace,
 }
 
 impl Model for Members {
@@ -53,6 +58,7 @@ impl Members {
         Members {
             members: IndexMap::new(alloc),
             order: None,
+            noted: NotedPlace::default(),
         }
     }
 
@@ -64,6 +70,7 @@ impl Members {
         Ok(Members {
             members: IndexMap::with_capacity(alloc, room)?,
             order: None,
+            noted: NotedPlace::default(),
         })
     }
 
@@ -95,12 +102,28 @@ impl Members {
         ordered(alloc, &self.order, self.members.values().as_slice())
     }
 
-    /// Computes the order of the alerts by labels, unless it is there and if memory allows.
-    pub(crate) fn put_in_order(&mut self, alloc: Global)
+    /// Where those that no silence mutes are noted, in the order of their labels.
+    pub(crate) fn noted(&self) -> NotedPlace {
+        self.noted
+    }
+
+    /// Computes the order of the alerts by labels, and notes those that no silence mutes at `t`
+    /// (milliseconds). What is there is kept, and what lacks memory is left out.
+    pub(crate) fn prepare(
+        &mut self,
+        alloc: Global,
+        silences: &mut NotedSilences,
+        t: u64,
+        limit: usize,
+    )
         requires { IsDistinct same_member (map member_state self.old.items) }
-        ensures { self.new ≡ self.old }
+        ensures members { self.new ≡ self.old }
+        ensures silences { silences.new ≡ silences.old }
     {
-        renew(alloc, &mut self.order, self.members.values().as_slice());
+        let last = noted_in(&self.order, self.noted);
+        let members = self.members.values().as_slice();
+        renew(alloc, &mut self.order, members);
+        self.noted = note_members(alloc, silences, &self.order, members, last, t, limit);
     }
 
     /// Reserves memory for so many more alerts.

@@ -136,7 +136,7 @@ fn muted_in(
     let mut muted = Vec::new(alloc);
     for member in members {
         let labels = member.alert.labels();
-        let silences = &state.silences;
+        let silences = state.silences.all();
         let rules = config.rules.as_slice();
         let known = state.known.as_slice();
         let found = mute_cause_under(alloc, labels, t, silences, rules, known, sources)?;

@@ -13,11 +13,11 @@ ghost use Rattle.am_model.specs.Upkeep.{same_silence};
 use crate::config::Config;
 use crate::fault::Fault;
 use crate::record::{Call, Record, Reply, Silenced};
+use crate::silences::NotedSilences;
 use crate::state::State;
 use am_alerts::matcher::{Matcher, MatcherParts};
 use am_alerts::sequence::Sequence;
 use am_mute::silence::Silence;
-use am_mute::silences::Silences;
 use std::alloc::{AllocError, Global};
 
 /// Puts a silence in place of the one with its id, or adds it.
@@ -75,7 +75,7 @@ fn place_for(config: &Config, state: &State, id: u64) -> Result<Option<usize>, F
 }
 
 /// Puts a silence in place of the one with its id, which is at this place, or adds it.
-fn keep_silence(alloc: Global, silences: &mut Silences, place: Option<usize>, silence: Silence)
+fn keep_silence(alloc: Global, silences: &mut NotedSilences, place: Option<usize>, silence: Silence)
     requires place { place ≡ position (same_silence silence) silences.old.items }
     requires room { 0 < silences.old.room }
     ensures { silences.new.items ≡ upsert same_silence silence silences.old.items }

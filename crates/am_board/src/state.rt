@@ -7,9 +7,9 @@ use crate::group::GroupName;
 use crate::groups::Groups;
 use crate::known::Known;
 use crate::record::Record;
+use crate::silences::NotedSilences;
 use am_alerts::labels::Labels;
 use am_alerts::limits::MAX_MOMENT;
-use am_mute::silences::Silences;
 use am_nflog::NfLog;
 use std::alloc::{AllocError, Global};
 
@@ -22,7 +22,7 @@ pub(crate) struct State {
     pub(crate) inserts: u64,
     pub(crate) known: Known,
     pub(crate) groups: Groups,
-    pub(crate) silences: Silences,
+    pub(crate) silences: NotedSilences,
     pub(crate) log: NfLog<GroupName, Labels>,
     pub(crate) flushes: Vec<OpenFlush>,
     /// The number of the next flush.
@@ -41,7 +41,7 @@ impl State {
             inserts: 0,
             known: Known::new(alloc),
             groups: Groups::new(alloc),
-            silences: Silences::new(alloc),
+            silences: NotedSilences::new(alloc),
             log: NfLog::new(alloc)?,
             flushes: Vec::new(alloc),
             next_number: 1,

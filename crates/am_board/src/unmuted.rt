@@ -6,6 +6,7 @@
 ghost use Rattle.std.specs.Prelude.{◌≡◌, ◌&&◌, IfOk, filter, map};
 ghost use Rattle.std.specs.List.{IsDistinct};
 ghost use Rattle.am_alerts.specs.AlertData.{is_resolved};
+ghost use Rattle.am_mute.specs.Mute.{is_muted};
 ghost use Rattle.am_mute.specs.Sources.{AreLearnt};
 ghost use Rattle.am_nflog.specs.Members.{is_empty};
 ghost use Rattle.am_model.specs.Begin.{alert_cmp, label_sets};
@@ -18,11 +19,12 @@ use crate::config::Config;
 use crate::flush::{AlertSets, LeavingAlert};
 use crate::group::{Group, Member};
 use crate::state::State;
+use crate::unsilenced::NotedPlace;
 use am_alerts::alert::Alert;
 use am_alerts::labels::Labels;
 use am_alerts::sequence::Sequence;
 use am_mute::inhibit::InhibitRule;
-use am_mute::mute::muted_under;
+use am_mute::mute::{muted_under, muted_with};
 use am_mute::sources::Sources;
 use am_nflog::Members;
 use std::alloc::{AllocError, Global};
@@ -62,6 +64,7 @@ impl Unmuted {
             state,
             sources,
             members.as_slice(),
+            group.members.noted(),
             t,
         )?;
         Ok(Unmuted {
@@ -117,6 +120,7 @@ fn firing_and_resolved(
     state: &State,
     sources: &Sources,
     members: &[&Member],
+    noted: NotedPlace,
     t: u64,
 ) -> Result<(Vec<Alert>, Vec<Alert>), AllocError>
     requires { AreLearnt rules.now state.now.known.items sources.now }
@@ -125,11 +129,10 @@ fn firing_and_resolved(
 {
     let mut firing = Vec::new(alloc);
     let mut resolved = Vec::new(alloc);
+    let mut place = noted;
     for member in members {
         let alert = &member.alert;
-        let silences = &state.silences;
-        let known = state.known.as_slice();
-        if muted_under(alloc, alert.labels(), t, silences, rules, known, sources)? {
+        if is_muted(alloc, rules, state, sources, alert.labels(), &mut place, t)? {
             continue;
         }
         if alert.resolved_at(t) {
@@ -139,6 +142,32 @@ fn firing_and_resolved(
         }
     }
     Ok((firing, resolved))
+}
+
+/// Whether a label set is muted at `t`.
+///
+/// If it is noted at a place that no silence mutes it, none is looked at, and the place becomes the
+/// next one.
+fn is_muted(
+    alloc: Global,
+    rules: &[InhibitRule],
+    state: &State,
+    sources: &Sources,
+    labels: &Labels,
+    place: &mut NotedPlace,
+    t: u64,
+) -> Result<bool, AllocError>
+    requires { AreLearnt rules.now state.now.known.items sources.now }
+    ensures { IfOk result (λ muted.
+        muted ≡ is_muted labels.now t state.now.silences.items rules.now state.now.known.items) }
+{
+    let known = state.known.as_slice();
+    if state.silences.is_noted(*place, labels, t) {
+        *place = place.next();
+        return muted_with(alloc, labels, t, &[], rules, known, sources);
+    }
+    let silences = state.silences.all();
+    muted_under(alloc, labels, t, silences, rules, known, sources)
 }
 
 /// The members that are resolved at `t`, muted ones too.

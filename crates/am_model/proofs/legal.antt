@@ -12,4 +12,6 @@ pub mod FewGroups
 pub mod FewKnown
 pub mod Histories
 pub mod KnownMembers
+pub mod LedRows
+pub mod LoadableRows
 pub mod RowMoments

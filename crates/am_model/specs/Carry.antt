@@ -1,7 +1,7 @@
 -- Carry: which rows a log under a new configuration takes over of a log under an old one. Alertmanager's nflog finds a row again by the
 -- receiver's name, the integration's kind and place, and the group's key (stateKey).
-use Rattle.std.specs.Prelude.{◌≡◌, true, All, ℕ, ◌+◌, ◌-◌, Bool, ◌&&◌, ◌==◌, nat_lt, List, [], ◌∷◌, ◌++◌, length, map, fold, take, count_by, Option, Some}
-use Rattle.std.specs.Prelude.{None, if◌then◌else◌}
+use Rattle.std.specs.Prelude.{◌≡◌, true, All, ℕ, ◌+◌, ◌-◌, Bool, ◌&&◌, ◌==◌, nat_lt, List}
+use Rattle.std.specs.Prelude.{[], ◌∷◌, ◌++◌, length, map, fold, take, count_by, Option, Some, None, if◌then◌else◌}
 use Rattle.std.specs.List.{list_any}
 use Rattle.std.specs.Str.{bytes_eq}
 use Rattle.am_alerts.specs.Labels.{same_label_set}
@@ -14,7 +14,7 @@ use Rattle.am_model.specs.declared.views.RowView.{RowView}
 use Rattle.am_model.specs.Config.{kind_at}
 use Rattle.am_model.specs.Configured.{route_of, integrations_named}
 use Rattle.am_model.specs.Insert.{names_for}
-use Rattle.am_model.specs.Load.{has_integration}
+use Rattle.am_model.specs.Load.{has_integration, may_load}
 use Rattle.am_model.specs.State.{same_name}
 
 -- the place of the integration at a position among those of its kind: how many of these stand before it
@@ -77,7 +77,8 @@ rows_at row (Some integration) routes = map (moved row integration) routes
 -- carried: the rows that a log under the new configuration takes over for a row of one under the old: all that it had but the route and
 -- the integration's position. A route inherits by where the row's alerts go under the new configuration. Where several do, the one at
 -- the row's own position has it alone, since each of the others has a row of its own where the configuration is the same; where that
--- one doesn't, all have it, so that an alert that was told isn't told again, by whichever of them it comes
+-- one doesn't, all have it, so that an alert that was told isn't told again, by whichever of them it comes. Where the positions of several
+-- shifted, the one that is now at the row's own position has it alone, and one of the others may have none: there it can be told again
 abbrev pub carried : Config → Config → RowView → List RowView
 carried old new row =
     let receiver = (route_of old row.group).receiver in
@@ -89,9 +90,11 @@ carried old new row =
 abbrev pub is_led_to : Config → RowView → Bool
 is_led_to config row = list_any (λ labels. list_any (same_name row.group) (names_for config labels)) (row.firing ++ row.resolved)
 
--- a row that is taken over has an integration of the new configuration, and is else the row that it stands for
+-- a row that is taken over has an integration of the new configuration and an alert that goes to its group there, and is else the row
+-- that it stands for
 pub record IsTakenOver (new : Config) (row taken : RowView) : Type 0 where
   pub there : has_integration new taken ≡ true
+  pub led : is_led_to new taken ≡ true
   pub labels : taken.group.labels ≡ row.group.labels
   pub moment : taken.moment ≡ row.moment
   pub expiry : taken.expiry ≡ row.expiry
@@ -102,8 +105,15 @@ pub record IsTakenOver (new : Config) (row taken : RowView) : Type 0 where
 abbrev pub CarriedRowsFit : Type 0
 CarriedRowsFit = (old new : Config) (row : RowView) → All (IsTakenOver new row) (carried old new row)
 
+-- where a row may be loaded under the old configuration, each row that is taken over for it may be loaded under the new one
+abbrev pub CarriedRowsMayBeLoaded : Type 0
+CarriedRowsMayBeLoaded =
+    (old new : Config) (t : ℕ) (row : RowView) → may_load old t row ≡ true
+    → All (λ taken. may_load new t taken ≡ true) (carried old new row)
+
 -- a restart: under the same configuration a row is taken over as it is, and once, if it has an integration and an alert that goes to its
 -- group
 abbrev pub RestartsCarryRows : Type 0
 RestartsCarryRows =
-    (config : Config) (row : RowView) → has_integration config row ≡ true → is_led_to config row ≡ true → carried config config row ≡ row ∷ []
+    (config : Config) (row : RowView) → has_integration config row ≡ true → is_led_to config row ≡ true
+    → carried config config row ≡ row ∷ []

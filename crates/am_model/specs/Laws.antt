@@ -12,15 +12,20 @@ use Rattle.am_model.specs.declared.record.Record.{Record}
 use Rattle.am_model.specs.declared.record.Reply.{Reply}
 use Rattle.am_model.specs.declared.record.Reply.TheVariants.{Inserted, Silenced, NothingDue, Quiet, Flush}
 use Rattle.am_model.specs.declared.record.Reply.TheVariants.{Finished, Maintained, Forgotten, Loaded, Noted}
+use Rattle.am_model.specs.Carry.{carried, is_led_to}
+use Rattle.am_model.specs.Load.{may_load}
+use Rattle.am_model.specs.declared.views.RowView.{RowView}
 use Rattle.am_model.specs.Records.{now_of}
 use Rattle.am_model.specs.Configured.{route_of}
 use Rattle.am_model.specs.Finish.{same_key}
 use Rattle.am_model.specs.Forget.{after_forget}
 use Rattle.am_model.specs.Insert.{same_alert, same_member, same_group, names_for}
+use Rattle.am_model.specs.look_back.Entry.{row_in}
 use Rattle.am_model.specs.Replay.{reply, after, after_call, replay, IsLegal}
 use Rattle.am_model.specs.Upkeep.{same_silence}
 use Rattle.am_model.specs.State.{MemberState, GroupState, AskedState, FlushState, State, opening_state, at_moment, same_name}
-use Rattle.am_model.specs.State.{has_group, members_in}
+use Rattle.am_model.specs.State.{has_group, members_in, moment}
+use Rattle.am_model.specs.Views.{row_views}
 
 -- one record more is one step more
 abbrev pub ReplayAppends : Type 0
@@ -139,6 +144,35 @@ ReplaysKnowMembers = (config : Config) (history : List Record) → KnowsMembers 
 -- any list of records, legal or not, leaves such a state
 abbrev pub ReplaysAreConsistent : Type 0
 ReplaysAreConsistent = (config : Config) (history : List Record) → IsConsistent (replay config history)
+
+-- any list of records, legal or not, leaves rows that may be loaded under the same configuration, from the clock on
+abbrev pub RowsMayBeLoaded : Type 0
+RowsMayBeLoaded =
+    (config : Config) (history : List Record) (t : ℕ) → (replay config history).clock ≤ t
+    → All (λ row. may_load config t row ≡ true) (replay config history).rows
+
+-- a handover: each row that is taken over for one of those that are shown may be loaded at any state under the new configuration, by a
+-- call that hands in the clock's moment or a later one
+abbrev pub HandoversMayBeLoaded : Type 0
+HandoversMayBeLoaded =
+    (old new : Config) (history : List Record) (s : State) (now : ℕ) → (replay old history).clock ≤ now
+    → All (λ row. All (λ taken. may_load new (moment s now) taken ≡ true) (carried old new row)) (row_views (replay old history))
+
+-- each row that records load has an alert that goes to its group, as each that is taken over has
+abbrev pub LoadsAreLed : Config → List Record → Type 0
+LoadsAreLed config history = All (λ r. (row : RowView) → row_in r.call ≡ Some row → is_led_to config row ≡ true) history
+
+-- then each row of the log has one
+abbrev pub RowsAreLed : Type 0
+RowsAreLed =
+    (config : Config) (history : List Record) → LoadsAreLed config history
+    → All (λ row. is_led_to config row ≡ true) (replay config history).rows
+
+-- and a restart under the same configuration takes each row that is shown over as it is, and once
+abbrev pub RestartsKeepRows : Type 0
+RestartsKeepRows =
+    (config : Config) (history : List Record) → LoadsAreLed config history
+    → All (λ row. carried config config row ≡ row ∷ []) (row_views (replay config history))
 
 -- a legal history keeps its begins
 abbrev pub LegalKeepsBegins : Type 0

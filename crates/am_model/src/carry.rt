@@ -16,10 +16,17 @@ use std::alloc::{AllocError, Global};
 /// one. They are as the row, but for the route's position and the integration's.
 ///
 /// There is one for each new route that has the row's receiver and puts an alert of the row into a
-/// group with the row's group labels; but the one at the row's own position has it alone, if it is
-/// among them. So an alert that was told isn't told again, by whichever of these routes it comes. The
-/// integration is the one of the same kind and the same place among the receiver's integrations of
-/// its kind. There is no row where the receiver has none.
+/// group with the row's group labels. Exception: if the route at the row's own position is one of
+/// them, it has the row alone. Under an unchanged configuration each of the others has a row of its
+/// own. The integration is the one of the same kind and the same place among the receiver's
+/// integrations of its kind. There is no row where the receiver has none.
+///
+/// An alert of the row isn't sent a second time by a route that has the row. A second notification
+/// can come in these cases:
+/// - `group_by`, the receiver's name or the order of integrations of one kind changed.
+/// - The alert goes to several routes of one receiver with the same group labels, and their
+///   positions shifted. Then the route at the row's own position has the row alone, also where it is
+///   another route than before, and one of the others may have none.
 ///
 /// Alertmanager's log finds a row again by receiver, integration and group key. That key has the
 /// matchers from the root down, so there each change of a matcher makes a first notice.

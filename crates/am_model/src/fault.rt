@@ -77,8 +77,9 @@ pub enum NoteFault {
 
 /// Why a load is refused. The board doesn't change.
 ///
-/// The order is `NoIntegration`, `Unordered`, `Ahead`, `HistoryFull`, `NoMemory`: first what is so
-/// of the row whenever it is handed in.
+/// The order is `NoIntegration`, `Unordered`, `Ahead`, `HistoryFull`, `NoMemory`. The first two
+/// are of the row and the configuration, at whatever time it is handed in. `Ahead` is of the time
+/// too: a later load of the row can succeed.
 #[derive(Clone, Copy, Debug, PartialEq, Eq, Error)]
 pub enum LoadFault {
     #[error("out of memory")]

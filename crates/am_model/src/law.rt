@@ -1,8 +1,9 @@
 //! The laws of histories, the limits and the faults' numbers, as calls that verifiers read. Each
 //! has an empty body: its `ensures` is the statement.
-ghost use Rattle.am_model.specs.Carry.{CarriedRowsFit, RestartsCarryRows};
+ghost use Rattle.am_model.specs.Carry.{CarriedRowsFit, CarriedRowsMayBeLoaded, RestartsCarryRows};
 ghost use Rattle.am_model.specs.Laws.{ReplayAppends, LegalAppends, ClockIsMoment, BeginningsAreLegal};
 ghost use Rattle.am_model.specs.Laws.{ReplaysAreConsistent, ReplaysKnowMembers, LegalKeepsBegins};
+ghost use Rattle.am_model.specs.Laws.{RowsMayBeLoaded, HandoversMayBeLoaded, RowsAreLed, RestartsKeepRows};
 ghost use Rattle.am_model.specs.Laws.{ForgettingChangesNoReply, ForgettingChangesNoState};
 ghost use Rattle.am_model.specs.look_back.Interval.{BeginsKeepTheInterval};
 ghost use Rattle.am_model.specs.look_back.Laws.{EveryLegalHistory, AlertsAreFound, ShownAlertsAreFound, RowsAreFound, ShownRowsAreFound};
@@ -118,12 +119,31 @@ pub fn forgetting_changes_no_answer()
 
 /// States what `carried` returns.
 ///
-/// Clause `fit`: each row that it returns has an integration of the new configuration, and is else
-/// as the row that it stands for. Clause `restart`: under the same configuration it returns the row
-/// itself alone, if it has an integration there and one of its alerts goes to its group.
+/// Clause `fit`: each row that it returns has an integration of the new configuration and an alert
+/// that goes to its group there, and is else as the row that it stands for. Clause `restart`: under
+/// the same configuration it returns the row itself alone, if it has an integration there and one of
+/// its alerts goes to its group. Clause `led`: after every list of records, legal or not, each row
+/// of the log has such an alert, if each row that was loaded had one. Clause `kept`: then each row
+/// that a board returns is returned itself alone, under the same configuration.
 pub fn rows_are_carried()
     ensures fit { CarriedRowsFit }
     ensures restart { RestartsCarryRows }
+    ensures led { RowsAreLed }
+    ensures kept { RestartsKeepRows }
+{}
+
+/// States that the rows of a log may be loaded, and so may those that `carried` returns for them.
+///
+/// Clause `own`: after every list of records, legal or not, each row of the log may be loaded under
+/// the same configuration, from the clock on. Its route and its integration are there, its label
+/// sets are in order, and its time isn't later. Clause `carried`: where a row may be loaded under an
+/// old configuration, each that `carried` returns for it may be loaded under the new one. Clause
+/// `handover`: that is true of each row that a board returns, at any state of a board of the new
+/// configuration, if the load hands in the old board's clock or a later time.
+pub fn rows_may_be_loaded()
+    ensures own { RowsMayBeLoaded }
+    ensures carried { CarriedRowsMayBeLoaded }
+    ensures handover { HandoversMayBeLoaded }
 {}
 
 /// States which alerts are in which group after a legal history, read off the history from its end.

@@ -116,6 +116,7 @@ impl<G: Eq + Hash + Drop, N: Ord + Drop> NfLog<G, N> {
         ensures put { IfOk result (λ put. put ≡ is_later row (row_of G.eq self.old key)) }
         ensures ok { OnOk result (self.new ≡ merged G.eq self.old key row) }
         ensures err { OnErr result (self.new ≡ self.old) }
+        ensures known_succeeds { IsTrue (is_known G.eq self.old key) → IsOk result }
         ensures distinct { HasDistinctKeys G.eq self.new }
     {
         if !is_later(&row, self.get(&key)) {

@@ -17,9 +17,8 @@ ghost use Rattle.am_model.specs.Upkeep.{is_deserted};
 use super::Groups;
 use crate::finish::take_leaving;
 use crate::flush::LeavingAlert;
-use crate::group::{
-    Group, GroupName, Member, mark_begun, put_in_order, reserve_members, take_resolved,
-};
+use crate::group::{Group, GroupName, Member, mark_begun, prepare, reserve_members, take_resolved};
+use crate::silences::NotedSilences;
 use am_alerts::labels::Labels;
 use std::alloc::{AllocError, Global};
 
@@ -86,13 +85,22 @@ impl Groups {
         self.due.change(&group.name, before, group.due);
     }
 
-    /// Works the order by labels of the alerts of the group at a place out, unless it is there.
-    pub(crate) fn put_in_order(&mut self, i: usize, alloc: Global)
+    /// Computes the order by labels of the alerts of the group at a place, and notes those that no
+    /// silence mutes at `t`.
+    pub(crate) fn prepare(
+        &mut self,
+        i: usize,
+        alloc: Global,
+        silences: &mut NotedSilences,
+        t: u64,
+        limit: usize,
+    )
         requires place { i < length self.old.items }
         requires apart { All (λ g. IsDistinct same_member g.members) (map group_state self.old.items) }
-        ensures { self.new ≡ self.old }
+        ensures groups { self.new ≡ self.old }
+        ensures silences { silences.new ≡ silences.old }
     {
-        put_in_order(&mut self.groups[i], alloc);
+        prepare(&mut self.groups[i], alloc, silences, t, limit);
     }
 
     /// Marks the group at a place as taken by a begin, and due again at this time.

@@ -1,29 +1,31 @@
--- The rows that are carried over: each has an integration of the new configuration, and under the same one a row is its own.
-use Rattle.std.proofs.Common.{◌≡◌, ℕ, zero, suc, ◌+◌, ◌-◌, ◌<◌, ◌≤◌, Bool, true, false, cond, ◌&&◌, ◌||◌, nat_le, nat_lt, Option, Some, None, List, [], ◌∷◌, ◌++◌, length, map, fold, take, get_or, refl, sym, ap, ◌∙◌, subst, arith, if◌then◌else◌}
-use Rattle.std.specs.Prelude.{All, ◌==◌, count_by}
+-- The rows that are carried over: each has an integration of the new configuration and an alert that goes to its group, each may be loaded
+-- where the row might, and under the same configuration a row is its own.
+use Rattle.std.proofs.Common.{◌≡◌, ℕ, zero, suc, ◌+◌, ◌-◌, ◌<◌, ◌≤◌, Bool, true, false, cond, ◌&&◌, ◌||◌, nat_le, nat_lt, Option, Some, None, List, [], ◌∷◌, ◌++◌, length, map, fold, take, refl, sym, ap, ◌∙◌, subst, arith, if◌then◌else◌}
+use Rattle.std.specs.Prelude.{◌==◌, count_by}
 use Rattle.std.specs.List.{AllByRecursion, list_any}
 use Rattle.std.specs.Str.{bytes_eq}
-use Rattle.std.proofs.lemmas.Bool.{false≢true, and_parts, eqb-true, or_left, or_right, le-leb, lt-ltb, ltb-true, ne_eqb}
+use Rattle.std.proofs.lemmas.Bool.{false≢true, and_from, and_parts, eqb-true, or_left, or_right, le-leb, lt-ltb, ltb-true, ne_eqb}
 use Rattle.std.proofs.lemmas.Cmp.{nat_eq_equiv}
 use Rattle.std.proofs.lemmas.List.Folds.{list_any-append}
 use Rattle.std.proofs.lemmas.List.Sums.{sum_by-cons}
 use Rattle.std.proofs.lemmas.Slice.Eq.{bytes_eq-Decides}
-use Rattle.am_alerts.specs.Labels.{same_label_set}
+use Rattle.am_alerts.specs.Labels.{same_label_set, label_set_cmp}
 use Rattle.am_alerts.specs.Route.{group_labels_of}
 use Rattle.am_alerts.specs.RoutingTree.{route_at, routes_of, last_of}
 use Rattle.am_alerts.specs.declared.labels.Label.{Label}
 use Rattle.am_alerts.proofs.Positions.{routes_of-exist}
+use Rattle.am_nflog.specs.Members.{is_ascending}
 use Rattle.am_model.specs.declared.config.Config.{Config}
 use Rattle.am_model.specs.declared.config.Integration.{Integration}
 use Rattle.am_model.specs.declared.group.GroupName.{GroupName}
 use Rattle.am_model.specs.declared.views.RowView.{RowView}
-use Rattle.am_model.specs.Carry.{place_at, position_of, moved_to, inherits, with_position, with_heir, with_heirs, heirs, own_or_all, moved, rows_at, carried, is_led_to, IsTakenOver, CarriedRowsFit, RestartsCarryRows}
+use Rattle.am_model.specs.Carry.{place_at, position_of, moved_to, inherits, with_position, with_heir, with_heirs, heirs, own_or_all, moved, rows_at, carried, is_led_to, IsTakenOver, CarriedRowsFit, CarriedRowsMayBeLoaded, RestartsCarryRows}
 use Rattle.am_model.specs.Config.{kind_at}
 use Rattle.am_model.specs.Configured.{route_of, integrations_named}
 use Rattle.am_model.specs.Insert.{name_in, names_for}
-use Rattle.am_model.specs.Load.{has_integration}
+use Rattle.am_model.specs.Load.{has_integration, is_ordered, may_load}
 use Rattle.am_model.specs.State.{same_name}
-use Rattle.am_model.proofs.lists.Distinct.{all_from, all_to}
+use Rattle.am_model.proofs.lists.Distinct.{all_from, all_to, all-both, all-weaker}
 use Rattle.am_model.proofs.lists.Sets.{any-map}
 
 -- ---- positions of integrations
@@ -107,10 +109,10 @@ module _ (config : Config) (receiver : List ℕ) (group : List Label) where
     each-route labels [] ps h all = all
     each-route labels (p ∷ routes) ps h all = each-route labels routes (with_heir config receiver group labels ps p) h.1 (each-heir labels ps p h.0 all)
 
-    each-set : ((labels : List Label) → AllByRecursion (λ p. inherits config receiver group labels p ≡ true → P p) (routes_of config.routes labels))
-        → (sets : List (List Label)) (ps : List ℕ) → AllByRecursion P ps → AllByRecursion P (fold (with_heirs config receiver group) ps sets)
-    each-set h [] ps all = all
-    each-set h (labels ∷ sets) ps all = each-set h sets (with_heirs config receiver group ps labels) (each-route labels (routes_of config.routes labels) ps (h labels) all)
+    each-set : (sets : List (List Label)) → AllByRecursion (λ labels. AllByRecursion (λ p. inherits config receiver group labels p ≡ true → P p) (routes_of config.routes labels)) sets
+        → (ps : List ℕ) → AllByRecursion P ps → AllByRecursion P (fold (with_heirs config receiver group) ps sets)
+    each-set [] h ps all = all
+    each-set (labels ∷ sets) h ps all = each-set sets h.1 (with_heirs config receiver group ps labels) (each-route labels (routes_of config.routes labels) ps h.0 all)
 
   -- a position that is among them stays
   module _ (p : ℕ) where
@@ -220,34 +222,72 @@ restarts_carry_rows config row there led =
 
 -- ---- each row that is carried
 
--- a route that inherits is one of the configuration, with the row's receiver
-abbrev IsHeir : Config → List ℕ → ℕ → Type 0
-IsHeir config receiver p = (p ≤ last_of config.routes) × ((route_at config.routes p).receiver ≡ receiver)
+-- a test that an element passes, some element passes
+any-own : {X : Type 0} (xs : List X) → AllByRecursion (λ x. (test : X → Bool) → test x ≡ true → list_any test xs ≡ true) xs
+any-own [] = tt
+any-own {X} (x ∷ xs) = (
+  (λ test h. or_left (test x) (list_any test xs) h),
+  all-weaker (λ (y : X). (test : X → Bool) → test y ≡ true → list_any test xs ≡ true) (λ y. (test : X → Bool) → test y ≡ true → list_any test (x ∷ xs) ≡ true)
+      (λ y later test h. or_right (test x) (list_any test xs) (later test h)) xs (any-own xs),
+)
 
-each-heir-is : (config : Config) (receiver : List ℕ) (row : RowView) → AllByRecursion (IsHeir config receiver) (heirs config receiver row)
-each-heir-is config receiver row =
-    each-set config receiver row.group.labels (IsHeir config receiver) one row.resolved (fold (with_heirs config receiver row.group.labels) [] row.firing)
-    (each-set config receiver row.group.labels (IsHeir config receiver) one row.firing [] tt)
-  where
-    those : (labels : List Label) (routes : List ℕ) → AllByRecursion (λ p. p ≤ last_of config.routes) routes → AllByRecursion (λ p. inherits config receiver row.group.labels labels p ≡ true → IsHeir config receiver p) routes
-    those labels [] all = tt
-    those labels (p ∷ routes) all = (
-      (λ does.
-          let own = and_parts (bytes_eq (route_at config.routes p).receiver receiver) (same_label_set row.group.labels (group_labels_of (route_at config.routes p) labels)) does in
-          (all.0, (bytes_eq-Decides (route_at config.routes p).receiver receiver).0 own.0)),
-      those labels routes all.1,
-    )
+module _ (config : Config) (receiver : List ℕ) (row : RowView) where
+  -- the row's group of the route at a position, and whether a label set goes to it
+  abbrev group_at : ℕ → GroupName
+  group_at p = record { route = p; labels = row.group.labels }
 
-    one : (labels : List Label) → AllByRecursion (λ p. inherits config receiver row.group.labels labels p ≡ true → IsHeir config receiver p) (routes_of config.routes labels)
-    one labels = those labels (routes_of config.routes labels) (all_to (λ (p : ℕ). p ≤ last_of config.routes) (routes_of config.routes labels) (routes_of-exist config.routes labels))
+  abbrev goes_to_group_at : ℕ → List Label → Bool
+  goes_to_group_at p labels = list_any (same_name (group_at p)) (names_for config labels)
 
-moved-there : (config : Config) (receiver : List ℕ) (row : RowView) (q p : ℕ) → q < length (integrations_named receiver config.receivers) → IsHeir config receiver p → IsTakenOver config row (moved row q p)
+  -- a route that inherits is one of the configuration, with the row's receiver, and an alert of the row goes to the row's group of it
+  record IsHeir (p : ℕ) : Type 0 where
+    pub there : p ≤ last_of config.routes
+    pub same : (route_at config.routes p).receiver ≡ receiver
+    pub led : list_any (goes_to_group_at p) (row.firing ++ row.resolved) ≡ true
+
+  -- by a label set of the row each of its routes that inherits is so
+  heirs-by : (labels : List Label) → ((test : List Label → Bool) → test labels ≡ true → list_any test (row.firing ++ row.resolved) ≡ true)
+      → AllByRecursion (λ p. inherits config receiver row.group.labels labels p ≡ true → IsHeir p) (routes_of config.routes labels)
+  heirs-by labels own =
+      let routes = routes_of config.routes labels in
+      all-both (λ p. p ≤ last_of config.routes) (λ p. (test : ℕ → Bool) → test p ≡ true → list_any test routes ≡ true) (λ p. inherits config receiver row.group.labels labels p ≡ true → IsHeir p)
+      (λ p there among does.
+      let same_group = same_label_set row.group.labels (group_labels_of (route_at config.routes p) labels) in
+      let is = and_parts (bytes_eq (route_at config.routes p).receiver receiver) same_group does in
+      record {
+        there = there;
+        same = (bytes_eq-Decides (route_at config.routes p).receiver receiver).0 is.0;
+        led =
+            own (goes_to_group_at p)
+            (any-map (same_name (group_at p)) (name_in config labels) routes
+            ∙ among (λ r. same_name (group_at p) (name_in config labels r)) (and_from (p == p) same_group (nat_eq_equiv.refl p) is.1));
+      })
+      routes (all_to (λ (p : ℕ). p ≤ last_of config.routes) routes (routes_of-exist config.routes labels)) (any-own routes)
+
+  heirs-by-each : (sets : List (List Label)) → ((test : List Label → Bool) → list_any test sets ≡ true → list_any test (row.firing ++ row.resolved) ≡ true)
+      → AllByRecursion (λ labels. AllByRecursion (λ p. inherits config receiver row.group.labels labels p ≡ true → IsHeir p) (routes_of config.routes labels)) sets
+  heirs-by-each sets within =
+      all-weaker (λ labels. (test : List Label → Bool) → test labels ≡ true → list_any test sets ≡ true)
+      (λ labels. AllByRecursion (λ p. inherits config receiver row.group.labels labels p ≡ true → IsHeir p) (routes_of config.routes labels))
+      (λ labels own. heirs-by labels (λ test h. within test (own test h))) sets (any-own sets)
+
+  each-heir-is : AllByRecursion IsHeir (heirs config receiver row)
+  each-heir-is =
+      let group = row.group.labels in
+      each-set config receiver group IsHeir row.resolved
+      (heirs-by-each row.resolved (λ test h. list_any-append test row.firing row.resolved ∙ or_right (list_any test row.firing) (list_any test row.resolved) h))
+      (fold (with_heirs config receiver group) [] row.firing)
+      (each-set config receiver group IsHeir row.firing
+      (heirs-by-each row.firing (λ test h. list_any-append test row.firing row.resolved ∙ or_left (list_any test row.firing) (list_any test row.resolved) h)) [] tt)
+
+moved-there : (config : Config) (receiver : List ℕ) (row : RowView) (q p : ℕ) → q < length (integrations_named receiver config.receivers) → IsHeir config receiver row p → IsTakenOver config row (moved row q p)
 moved-there config receiver row q p within heir =
     record {
       there =
-          ap (λ b. b && nat_lt q (length (integrations_named (route_at config.routes p).receiver config.receivers))) (le-leb p (last_of config.routes) heir.0)
-          ∙ ap (λ r. nat_lt q (length (integrations_named r config.receivers))) heir.1
+          ap (λ b. b && nat_lt q (length (integrations_named (route_at config.routes p).receiver config.receivers))) (le-leb p (last_of config.routes) heir.there)
+          ∙ ap (λ r. nat_lt q (length (integrations_named r config.receivers))) heir.same
           ∙ lt-ltb q (length (integrations_named receiver config.receivers)) within;
+      led = heir.led;
       labels = refl;
       moment = refl;
       expiry = refl;
@@ -255,7 +295,7 @@ moved-there config receiver row q p within heir =
       resolved = refl;
     }
 
-each-moved : (config : Config) (receiver : List ℕ) (row : RowView) (q : ℕ) → q < length (integrations_named receiver config.receivers) → (ps : List ℕ) → AllByRecursion (IsHeir config receiver) ps
+each-moved : (config : Config) (receiver : List ℕ) (row : RowView) (q : ℕ) → q < length (integrations_named receiver config.receivers) → (ps : List ℕ) → AllByRecursion (IsHeir config receiver row) ps
     → AllByRecursion (IsTakenOver config row) (map (moved row q) ps)
 each-moved config receiver row q within [] all = tt
 each-moved config receiver row q within (p ∷ ps) all = (moved-there config receiver row q p within all.0, each-moved config receiver row q within ps all.1)
@@ -281,10 +321,26 @@ fit-at : (new : Config) (receiver : List ℕ) (row : RowView) (olds : List Integ
 fit-at new receiver row olds None e = tt
 fit-at new receiver row olds (Some q) e =
     each-moved new receiver row q (moved-within olds (integrations_named receiver new.receivers) row.integration q e) (own_or_all row.group.route (heirs new receiver row))
-    (each-taker (IsHeir new receiver) row.group.route (heirs new receiver row) (each-heir-is new receiver row))
+    (each-taker (IsHeir new receiver row) row.group.route (heirs new receiver row) (each-heir-is new receiver row))
 
 pub carried_rows_fit : CarriedRowsFit
 carried_rows_fit old new row =
     let receiver = (route_of old row.group).receiver in
     let olds = integrations_named receiver old.receivers in
     all_from (IsTakenOver new row) (carried old new row) (fit-at new receiver row olds (moved_to olds row.integration (integrations_named receiver new.receivers)) refl)
+
+-- ---- where the row may be loaded
+
+taken-loads : (old new : Config) (t : ℕ) (row taken : RowView) → may_load old t row ≡ true → IsTakenOver new row taken → may_load new t taken ≡ true
+taken-loads old new t row taken may is =
+    let parts = and_parts (has_integration old row && is_ordered row) (nat_le row.moment t) may in
+    let ordered = (and_parts (has_integration old row) (is_ordered row) parts.0).1 in
+    and_from (has_integration new taken && is_ordered taken) (nat_le taken.moment t)
+    (and_from (has_integration new taken) (is_ordered taken) is.there ((λ i. is_ascending label_set_cmp (is.firing i) && is_ascending label_set_cmp (is.resolved i)) ∙ ordered))
+    (ap (λ m. nat_le m t) is.moment ∙ parts.1)
+
+pub carried_rows_may_be_loaded : CarriedRowsMayBeLoaded
+carried_rows_may_be_loaded old new t row may =
+    all_from (λ taken. may_load new t taken ≡ true) (carried old new row)
+    (all-weaker (IsTakenOver new row) (λ taken. may_load new t taken ≡ true) (λ taken is. taken-loads old new t row taken may is) (carried old new row)
+    (all_to (IsTakenOver new row) (carried old new row) (carried_rows_fit old new row)))

@@ -3,7 +3,6 @@ use Rattle.std.proofs.Common.{◌≡◌, ℕ, true, false, cond, Some, None, Lis
 use Rattle.std.specs.Prelude.{codes, find}
 use Rattle.std.specs.List.{AllByRecursion}
 use Rattle.std.specs.Option.{option_or}
-use Rattle.am_alerts.specs.declared.labels.Label.{Label}
 use Rattle.am_retry.specs.declared.outcome.Outcome.TheVariants.{Delivered}
 use Rattle.am_model.specs.declared.fault.LoadFault.TheVariants.{NoIntegration, Unordered, Ahead, HistoryFull}
 use Rattle.am_model.specs.declared.group.GroupName.{GroupName}

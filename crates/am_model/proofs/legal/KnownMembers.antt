@@ -51,7 +51,7 @@ or-false true c e h = absurd (true≢false e)
 or-false false c e h = h
 
 -- a name is among these
-abbrev IsAmong : List GroupName → GroupName → Type 0
+abbrev pub IsAmong : List GroupName → GroupName → Type 0
 IsAmong names name = list_any (same_name name) names ≡ true
 
 among-themselves : (names : List GroupName) → AllByRecursion (IsAmong names) names
@@ -62,18 +62,18 @@ among-themselves (n ∷ names) = (
 )
 
 -- an alert in the group of this name is the known one with its labels, has the stamp of these, and goes there
-record IsKnown (config : Config) (alerts : List AlertData) (stamps : List Label → ℕ) (name : GroupName) (m : MemberState) : Type 0 where
+pub record IsKnown (config : Config) (alerts : List AlertData) (stamps : List Label → ℕ) (name : GroupName) (m : MemberState) : Type 0 where
   pub known : find (same_alert m.alert) alerts ≡ Some m.alert
   pub stamped : m.stamp ≡ stamps m.alert.labels
   pub routed : IsAmong (names_for config m.alert.labels) name
 
-abbrev AreKnown : Config → List AlertData → (List Label → ℕ) → GroupState → Type 0
+abbrev pub AreKnown : Config → List AlertData → (List Label → ℕ) → GroupState → Type 0
 AreKnown config alerts stamps g = AllByRecursion (IsKnown config alerts stamps g.name) g.members
 
-abbrev KnowsBy : Config → State → (List Label → ℕ) → Type 0
+abbrev pub KnowsBy : Config → State → (List Label → ℕ) → Type 0
 KnowsBy config s stamps = AllByRecursion (AreKnown config s.known stamps) s.groups
 
-abbrev KnowsAll : Config → State → Type 0
+abbrev pub KnowsAll : Config → State → Type 0
 KnowsAll config s = (stamps : List Label → ℕ) × KnowsBy config s stamps
 
 -- ---- an insert, group by group
@@ -315,7 +315,7 @@ module _ (config : Config) (s : State) (stamps : List Label → ℕ) (t : ℕ) w
 
 -- ---- any list of records
 
-known_call : (config : Config) (s : State) (c : Call) → IsSteady s → KnowsAll config s → KnowsAll config (after_call config s c)
+pub known_call : (config : Config) (s : State) (c : Call) → IsSteady s → KnowsAll config s → KnowsAll config (after_call config s c)
 known_call config s (Insert now alert) steady h = known_insert config s (moment s now) alert steady h
 known_call config s (Silence now number matchers start end) steady h = h
 known_call config s (Begin now) steady h = (h.0, known_begin config s h.0 h.1 (moment s now) (taken s (moment s now)))

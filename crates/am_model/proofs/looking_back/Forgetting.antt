@@ -16,7 +16,6 @@ use Rattle.am_model.specs.declared.config.Config.{Config}
 use Rattle.am_model.specs.declared.config.Integration.{Integration}
 use Rattle.am_model.specs.declared.record.Call.{Call}
 use Rattle.am_model.specs.declared.record.Call.TheVariants.{Insert, Silence, Begin, Finish, Maintain, Forget, Load, Note}
-use Rattle.am_model.specs.declared.record.Reply.{Reply}
 use Rattle.am_model.specs.declared.record.Reply.TheVariants.{Flush}
 use Rattle.am_model.specs.Begin.{alert_cmp, label_sets, copied, copy_of, firing_of, resolved_of, asked_about, asked_of, sent, deadline_of, leaving_of, begun_group, reply_asking, reply_taking, flush_asking, after_asking, after_taking, taken}
 use Rattle.am_model.specs.Configured.{rules_of, route_muted}
@@ -27,7 +26,6 @@ use Rattle.am_model.specs.Laws.{IsConsistent, bare_reply, bare_state, replies_fr
 use Rattle.am_model.specs.Lists.{upsert, without, unless, changed_where, in_order}
 use Rattle.am_model.specs.Note.{may_note, after_note, after_note_of}
 use Rattle.am_model.specs.Notice.{NoticeData}
-use Rattle.am_model.specs.Records.{now_of}
 use Rattle.am_model.specs.Replay.{reply, after_call}
 use Rattle.am_model.specs.State.{GroupState, AskedState, FlushState, State, at_moment, moment, is_named, flush_numbered}
 use Rattle.am_model.specs.Upkeep.{same_silence}

@@ -1,6 +1,6 @@
 -- Laws of looking back: what was done and why follows from a history alone, with any number of open flushes.
-use Rattle.std.specs.Prelude.{◌≡◌, ℕ, ◌+◌, Bool, true, false, IsTrue, not, ◌&&◌, ◌||◌, ◌==◌, ◌⊎◌, max, All, List, [], ◌∷◌, map, filter}
-use Rattle.std.specs.Prelude.{find, count_by, Option, Some, None, if◌then◌else◌}
+use Rattle.std.specs.Prelude.{◌≡◌, ℕ, ◌+◌, Bool, true, false, IsTrue, not, ◌&&◌, ◌||◌, ◌==◌, ◌⊎◌}
+use Rattle.std.specs.Prelude.{max, All, List, [], ◌∷◌, map, filter, find, count_by, Option, Some, None, if◌then◌else◌}
 use Rattle.std.specs.List.{list_any}
 use Rattle.std.specs.Option.{option_map, option_or}
 use Rattle.am_alerts.specs.AlertData.{AlertData, is_resolved}
@@ -104,7 +104,8 @@ reports_delivery name integration past (Note now number i outcome) =
 -- what a record logs was delivered: where it logs an integration's success for a group, it reports so of that flush's notice
 abbrev pub LogsDelivered : Record → Past → Type 0
 LogsDelivered r past =
-    (name : GroupName) (integration : ℕ) → logs name integration past r.call ≡ true → reports_delivery name integration past r.call ≡ true
+    (name : GroupName) (integration : ℕ) → logs name integration past r.call ≡ true
+    → reports_delivery name integration past r.call ≡ true
 
 -- whether the last record that logged a row's integration for its group did so at the row's moment, and reported that its notice was
 -- delivered, or had nothing to send
@@ -303,8 +304,9 @@ NoticesListPresentAlerts config history = AtEach (λ r past. IsToldRightly confi
 -- ---- all of it, of one history
 
 -- what looking back says of a history: its alerts and its rows are found, and no two are alike; only what was delivered is logged, but for
--- what was handed in, which is put in only where it is later; and at each record a refiring alert stays, flushes end once, and a begin is at least an interval after any other of its group, unless a
--- maintenance between them found it without alerts, asks those that it has a reason to ask, and tells what is there
+-- what was handed in, which is put in only where it is later; and at each record a refiring alert stays, flushes end once, and a begin is
+-- at least an interval after any other of its group, unless a maintenance between them found it without alerts, asks those that it has a
+-- reason to ask, and tells what is there
 pub record LooksBack (config : Config) (history : List Record) : Type 0 where
   pub consistent : IsConsistent (replay config history)
   pub alerts : AlertsAreFound config history

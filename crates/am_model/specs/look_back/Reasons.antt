@@ -1,6 +1,6 @@
 -- Reasons: why a begin notifies an integration of its group's receiver, or why not, computed from the history before it, without a state.
-use Rattle.std.specs.Prelude.{◌≡◌, ◌≢◌, ◌↔◌, ℕ, ◌+◌, ◌<◌, ◌≤◌, Bool, true, false, ◌&&◌, ◌==◌, All, List, [], ◌∷◌, map}
-use Rattle.std.specs.Prelude.{filter, Option, Some, None, if◌then◌else◌}
+use Rattle.std.specs.Prelude.{◌≡◌, ◌≢◌, ◌↔◌, ℕ, ◌+◌, ◌<◌, ◌≤◌, Bool, true, false, ◌&&◌, ◌==◌}
+use Rattle.std.specs.Prelude.{All, List, [], ◌∷◌, map, filter, Option, Some, None, if◌then◌else◌}
 use Rattle.std.specs.List.{list_any}
 use Rattle.std.specs.Option.{option_map}
 use Rattle.am_alerts.specs.Labels.{same_label_set}
@@ -61,7 +61,8 @@ reason_where None reason = reason
 reason_where (Some until) reason = RouteMuted until
 
 -- the reason of an integration of a group about these label sets, by the entry that looking back finds
-abbrev pub reason_about : Config → GroupName → ℕ → Past → List (List Label) → List (List Label) → ℕ × Integration → Reason
+abbrev pub reason_about : Config → GroupName → ℕ → Past → List (List Label) → List (List Label) → ℕ × Integration
+    → Reason
 reason_about config name t past firing resolved i =
     reason_told (entry_in config name i.0 past) firing resolved i.1.send_resolved (route_of config name).repeat_interval t
 
@@ -91,7 +92,8 @@ Says NewAlert entry firing resolved send_resolved repeat t = (row : RowView) × 
 Says AllResolved entry firing resolved send_resolved repeat t =
     (row : RowView) × (entry ≡ Some row) × (firing ≡ []) × (resolved ≢ []) × (row.firing ≢ [])
 Says NewlyResolved entry firing resolved send_resolved repeat t =
-    (row : RowView) × (entry ≡ Some row) × (firing ≢ []) × HasAllFiring row firing × (send_resolved ≡ true) × HasMore resolved row.resolved
+    (row : RowView) × (entry ≡ Some row) × (firing ≢ []) × HasAllFiring row firing × (send_resolved ≡ true)
+    × HasMore resolved row.resolved
 Says Repeat entry firing resolved send_resolved repeat t =
     (row : RowView) × (entry ≡ Some row) × (firing ≢ []) × HasAllFiring row firing × HasAllResolved row resolved send_resolved
     × (row.moment + repeat < t)
@@ -104,7 +106,8 @@ Says (NotYet from) entry firing resolved send_resolved repeat t =
 Says (RouteMuted until) entry firing resolved send_resolved repeat t = ⊥
 
 -- the same where the group's route may be muted until a moment: then that alone is so
-abbrev pub SaysWhere : Option ℕ → Reason → Option RowView → List (List Label) → List (List Label) → Bool → ℕ → ℕ → Type 0
+abbrev pub SaysWhere : Option ℕ → Reason → Option RowView → List (List Label) → List (List Label) → Bool → ℕ → ℕ
+    → Type 0
 SaysWhere None reason entry firing resolved send_resolved repeat t = Says reason entry firing resolved send_resolved repeat t
 SaysWhere (Some until) reason entry firing resolved send_resolved repeat t = reason ≡ RouteMuted until
 

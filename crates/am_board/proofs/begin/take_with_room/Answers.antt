@@ -62,21 +62,21 @@ returns-then-is_quiet c =
     told config c.args.id c.args.pass c.args.now s c.begin_quiet.new.state (begin_cause config (vec_len s.history) (state_of s) (moment (state_of s) c.args.now)) c.begin_quiet.result cause
     (c.begin_quiet.ensures config c.args.id g c.requires.good (takes at) none)
 
-pub put_in_order-requires-clause-place : goal.put_in_order-requires-clause-place
-put_in_order-requires-clause-place c = c.in-Some.ensures.within
+pub prepare-requires-clause-place : goal.prepare-requires-clause-place
+prepare-requires-clause-place c = c.in-Some.ensures.within
 
-pub put_in_order-requires-clause-apart : goal.put_in_order-requires-clause-apart
-put_in_order-requires-clause-apart c = c.requires.good.consistent.members
+pub prepare-requires-clause-apart : goal.prepare-requires-clause-apart
+prepare-requires-clause-apart c = c.requires.good.consistent.members
 
 pub plan-requires-clause-good : goal.plan-requires-clause-good
-plan-requires-clause-good c = subst (StateInvariant c.args.config.now) (sym c.put_in_order.ensures) c.requires.good
+plan-requires-clause-good c = subst (StateInvariant c.args.config.now) (sym c.prepare.ensures) c.requires.good
 
 pub plan-requires-clause-sources : goal.plan-requires-clause-sources
 plan-requires-clause-sources c =
-    subst (λ (x : State). AreLearnt c.args.config.now.rules x.known.items c.args.sources.now) (sym c.put_in_order.ensures) c.requires.sources
+    subst (λ (x : State). AreLearnt c.args.config.now.rules x.known.items c.args.sources.now) (sym c.prepare.ensures) c.requires.sources
 
 pub plan-requires-clause-place : goal.plan-requires-clause-place
-plan-requires-clause-place c = subst (λ (x : State). c.in-Some.place < length x.groups.items) (sym c.put_in_order.ensures) c.in-Some.ensures.within
+plan-requires-clause-place c = subst (λ (x : State). c.in-Some.place < length x.groups.items) (sym c.prepare.ensures) c.in-Some.ensures.within
 
 -- what the begin works out, of the state before it was put in order
 abbrev Plans : Config → ℕ → ChosenGroup → Result (Option PlannedFlush) Fault → State → Type 0
@@ -87,7 +87,7 @@ pub returns-in_err-plan : goal.returns-in_err-plan
 returns-in_err-plan c =
     let at = (goal.at.returns-in_err-plan c).After-due_again-due in
     let p = err_from_is_err_and c.from_residual.result c.from_residual.ensures.1 in
-    let same = c.put_in_order.ensures in
+    let same = c.prepare.ensures in
     let plan = subst (Plans c.args.config.now c.args.id (chosen at) (Err c.in_err-plan.field-0.0)) same c.in_err-plan.ensures in
     rw (p.1, p.2) (
       planned_err c.args.config.now c.args.id c.args.state.now (chosen at) c.at.result.now (takes at) c.requires.room c.in_err-plan.field-0.0 plan,
@@ -99,14 +99,14 @@ opened : (c : In-Some-2) → IsChosen c.args.config.now c.args.state.now (record
     → IsPlan c.args.config.now c.args.id (vec_len c.args.state.now.flushes) (state_of c.args.state.now) c.moment-t.result (group_state c.at.result.now) (Ok (Some c.in-Some-2.planned))
 opened c takes =
     planned_some c.args.config.now c.args.id c.args.state.now _ c.at.result.now takes c.in_ok-plan.field-0 c.in-Some-2.planned
-    (subst (Plans c.args.config.now c.args.id (record { pass = c.args.pass; now = c.args.now; t = c.moment-t.result; place = c.in-Some.place; due = c.due_again-due.result }) (Ok c.in_ok-plan.field-0)) c.put_in_order.ensures c.in_ok-plan.ensures)
+    (subst (Plans c.args.config.now c.args.id (record { pass = c.args.pass; now = c.args.now; t = c.moment-t.result; place = c.in-Some.place; due = c.due_again-due.result }) (Ok c.in_ok-plan.field-0)) c.prepare.ensures c.in_ok-plan.ensures)
     c.in-Some-2.is
 
 pub begin_quiet-requires-in-None : goal.begin_quiet-requires-in-None
-begin_quiet-requires-in-None c = subst (λ (x : State). c.in-Some.place < length x.groups.items) (sym c.put_in_order.ensures) c.in-Some.ensures.within
+begin_quiet-requires-in-None c = subst (λ (x : State). c.in-Some.place < length x.groups.items) (sym c.prepare.ensures) c.in-Some.ensures.within
 
 pub begin_flush-requires-clause-place : goal.begin_flush-requires-clause-place
-begin_flush-requires-clause-place c = subst (λ (x : State). c.in-Some.place < length x.groups.items) (sym c.put_in_order.ensures) c.in-Some.ensures.within
+begin_flush-requires-clause-place c = subst (λ (x : State). c.in-Some.place < length x.groups.items) (sym c.prepare.ensures) c.in-Some.ensures.within
 
 pub begin_flush-requires-clause-none : goal.begin_flush-requires-clause-none
 begin_flush-requires-clause-none c =
@@ -133,7 +133,7 @@ returns-in-None c =
     let config = c.args.config.now in
     let s = c.args.state.now in
     let at = (goal.at.returns-in-None c).After-due_again-due in
-    let same = c.put_in_order.ensures in
+    let same = c.prepare.ensures in
     let g = c.at.result.now in
     let none = planned_none config c.args.id s (chosen at) g (takes at) c.in_ok-plan.field-0 (subst (Plans config c.args.id (chosen at) (Ok c.in_ok-plan.field-0)) same c.in_ok-plan.ensures) c.in-None.is in
     let cause = cause-quiet config c.args.id s (chosen at) g (takes at) c.requires.room none in
@@ -152,6 +152,6 @@ returns-in-Some-2 c =
     let cause = cause-few config s c.args.now c.moment-t.result c.moment-t.ensures c.requires.room plan.1 in
     let ends = subst (λ (x : State). StateInvariant config x → IsChosen config x (chosen at) g → asked_of config (state_of x) c.moment-t.result (group_state g) ≢ []
     → IsPlannedFlush config c.args.id (state_of x) c.moment-t.result (group_state g) c.in-Some-2.planned → IsEnd config c.args.id c.args.pass c.args.now x c.begin_flush.new.state c.begin_flush.result)
-    c.put_in_order.ensures (c.begin_flush.ensures config g) in
+    c.prepare.ensures (c.begin_flush.ensures config g) in
     told config c.args.id c.args.pass c.args.now s c.begin_flush.new.state (begin_cause config (vec_len s.history) (state_of s) (moment (state_of s) c.args.now)) c.begin_flush.result cause
     (ends c.requires.good (takes at) plan.0 plan.2)

@@ -21,7 +21,7 @@ loop-member-preserved c =
     let before : List MutedAlert = filter_map test (map member_state (take i c.args.members.now)) in
     let cause : c.in_ok-found.found ≡ mute_cause_of m.alert.labels c.args.t s.silences (rules_of c.args.config.now) s.known =
     c.in_ok-found.ensures.cause
-    ∙ (λ j. mute_cause_of (c.labels-labels.ensures.labels j) c.args.t c.args.state.now.silences.items (c.as_slice-rules.ensures j) (c.as_slice-known.ensures.value j)) in
+    ∙ (λ j. mute_cause_of (c.labels-labels.ensures.labels j) c.args.t (c.all-silences.ensures j).items (c.as_slice-rules.ensures j) (c.as_slice-known.ensures.value j)) in
     let more : filter_map test (map member_state (take (i + 1) c.args.members.now))
     ≡ before ++ cons_option (option_map (λ (x : MuteCause). record { labels = m.alert.labels; cause = x }) c.in_ok-found.found) [] =
     muted-more test c.args.members.now i m (omega arith) c.member-item.is

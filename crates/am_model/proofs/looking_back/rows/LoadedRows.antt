@@ -1,5 +1,5 @@
 -- Each load is told what becomes of its row by what looking back finds.
-use Rattle.std.proofs.Common.{◌≡◌, ℕ, true, None, Some, List, ◌∷◌, refl, sym, ap, ◌∙◌, subst}
+use Rattle.std.proofs.Common.{◌≡◌, ℕ, true, Some, List, ◌∷◌, refl, sym, ap, ◌∙◌, subst}
 use Rattle.am_model.specs.declared.config.Config.{Config}
 use Rattle.am_model.specs.declared.record.Call.{Call}
 use Rattle.am_model.specs.declared.record.Call.TheVariants.{Load}

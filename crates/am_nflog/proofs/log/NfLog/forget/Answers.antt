@@ -1,5 +1,4 @@
-use Rattle.std.proofs.Common.{◌≡◌, ◌||◌, filter, is_some, sym, ap, ◌∙◌, subst, rules}
-use Rattle.std.specs.List.{list_any}
+use Rattle.std.proofs.Common.{ap, ◌∙◌, rules}
 use Rattle.std.proofs.lemmas.Map.Made.{filter_same_pairs}
 use Rattle.am_nflog.proofs.CallerLemmas.{rows_of-without_unused}
 use Rattle.am_nflog.specs.Log.{rows_of, without_unused}

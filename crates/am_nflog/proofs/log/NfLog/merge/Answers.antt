@@ -1,7 +1,12 @@
-use Rattle.std.proofs.Common.{◌≡◌, true, sym, ap, ◌∙◌, if◌then◌else◌}
+use Rattle.std.proofs.Common.{◌≡◌, true, is_some, sym, ap, ◌∙◌, true≢false, if◌then◌else◌}
 use Rattle.am_nflog.proofs.CallerLemmas.{insert_entry-merged}
-use Rattle.am_nflog.specs.Log.{row_of, with_key, with_row, is_later}
+use Rattle.am_nflog.specs.Log.{is_known, row_of, with_key, with_row, is_later}
 use Rattle.am_nflog.proofs.log.NfLog.merge.Goals as goal
+
+-- the map's insert fails only where the key is new
+pub returns-in_err-insert-clause-known_succeeds : goal.returns-in_err-insert-clause-known_succeeds
+returns-in_err-insert-clause-known_succeeds g c h =
+    absurd (true≢false (sym h ∙ ap (λ log. is_known g.G.PartialEq.eq log c.args.key) (sym c.self.view_is) ∙ ap is_some c.in_err-insert.ensures.absent))
 
 pub returns-clause-ok : goal.returns-clause-ok
 returns-clause-ok g c =

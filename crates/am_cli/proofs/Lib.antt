@@ -12,3 +12,5 @@ pub mod MatcherTexts
 pub mod Once
 -- what a configuration without a fault has, and one whose matchers look for no pattern
 pub mod Configured
+-- bytes that are being written
+pub mod Written

@@ -85,6 +85,17 @@ pub told_count : {X : Type 0} (decodes_to : Data → X → Type 0) (array : Opti
 told_count decodes_to None xs n count told = absurd told
 told_count decodes_to (Some items) xs n count told = sym (told_len decodes_to items xs told) ∙ cc
 
+-- a list that an array tells has as many items as there are values
+pub told_values : {X : Type 0} (decodes_to : Data → X → Type 0) (array : Option Items) (values : List Value) (xs : List X) → Some (items_view values) ≡ array
+    → MatchOption array ⊥ (λ items. DecodeEach decodes_to items xs) → length xs ≡ length values
+told_values decodes_to array values xs is told =
+    told_count decodes_to array xs (length values) (has_all array values (length values) is refl) told
+
+-- an array has no other number of items than there are values
+pub counted : (array : Option Items) (values : List Value) (n : ℕ) → Some (items_view values) ≡ array → option_map items_len array ≡ Some n
+    → n ≡ length values
+counted array values n is count = let all = has_all array values (length values) is refl in cc
+
 -- members with one more behind them
 abbrev with_last : Members → List ℕ → Data → Members
 with_last no_members name value = member name value no_members

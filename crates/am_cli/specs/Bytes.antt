@@ -1,5 +1,5 @@
 -- What goes through a device.
-use Rattle.std.specs.Prelude.{ℕ, Bool, false, not, ◌&&◌, ◌==◌, List, [], length, take, Result, Ok, Err}
+use Rattle.std.specs.Prelude.{◌≡◌, ◌++◌, ℕ, Bool, false, not, ◌&&◌, ◌==◌, List, [], length, take, Result, Ok, Err}
 
 -- the bytes that an answer moves, at the front of these
 abbrev pub moved : {E : Type 0} → Result ℕ E → List ℕ → List ℕ
@@ -17,3 +17,12 @@ pub record IoTraceData : Type 0 where
   pub failed : ℕ
   pub ended : ℕ
   pub moved : List ℕ
+
+-- the front of the text is written
+pub record Breaks (IsText : List ℕ → Type 0) (taken taken_to : List ℕ) : Type 0 where
+  pub text : List ℕ
+  pub is : IsText text
+  pub front : List ℕ
+  pub behind : List ℕ
+  pub parts : text ≡ front ++ behind
+  pub takes : taken_to ≡ taken ++ front

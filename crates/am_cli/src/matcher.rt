@@ -1,17 +1,19 @@
 //! Matchers and inhibition rules in JSON. `config`, and readers of silences, call it.
-ghost use Rattle.std.specs.Prelude.{◌≡◌, ◌≢◌, IfErr, IfOk, IsSomeAnd, IsTrue, MatchOption};
-ghost use Rattle.serde_json.specs.View.{view};
+ghost use Rattle.std.specs.Prelude.{◌≡◌, ◌≢◌, ◌≤◌, [], IfErr, IfOk, IsSomeAnd, IsTrue, List, MatchOption, length};
+ghost use Rattle.serde_json.specs.View.{members_view, view};
 ghost use Rattle.serde_json.specs.Find.{as_str};
-ghost use Rattle.am_alerts.specs.Matcher.{compares_texts};
+ghost use Rattle.am_alerts.specs.Matcher.{compare_texts, compares_texts};
+ghost use Rattle.am_alerts.specs.declared.limits.TheConstants.{MAX_MATCHERS};
 ghost use Rattle.am_alerts.specs.declared.matcher.MatcherParts.{MatcherParts};
 ghost use Rattle.am_alerts.specs.declared.matcher.Operator.{Operator};
 ghost use Rattle.am_cli.specs.Configured.{DecodesToMatcher, IsMatcher, IsSound};
+ghost use Rattle.am_cli.specs.Decoding.{HasOr, IsList};
 ghost use Rattle.am_cli.specs.Read.{Excludes};
 ghost use Rattle.am_cli.specs.MatcherText.{IsMatcherText, operator_text};
 
 use crate::fault::{FaultKind, InputFault};
 use crate::matcher_text::parts_of_text;
-use crate::reader::{Dialect, FromJson, Reader};
+use crate::reader::{Dialect, FromJson, Object, Reader};
 use am_alerts::limits::{MAX_LABEL_BYTES, MAX_MATCHERS};
 use am_alerts::matcher::{Matcher, MatcherFault, MatcherParts, Operator};
 use am_alerts::text::Text;
@@ -129,25 +131,46 @@ impl<'v> FromJson<'v> for InhibitRule {
     fn read(reader: &Reader<'v, '_>) -> Result<InhibitRule, InputFault> {
         let rule = reader.object()?;
         rule.only(&["source", "target", "equal"])?;
-        let source = rule.list_or_none::<Matcher>("source")?;
-        let target = rule.list_or_none::<Matcher>("target")?;
+        let source = read_side(reader, &rule, "source")?;
+        let target = read_side(reader, &rule, "target")?;
         let equal = rule.list_or_none::<Text>("equal")?;
-        let sources = source.len();
         match InhibitRule::new(source, target, equal) {
             Ok(rule) => Ok(rule),
             Err(fault) => {
-                let list = list_at_fault(fault, sources);
+                let list = list_at_fault(fault);
                 Err(reader.refuse_at(&reader.place().member(list), FaultKind::BadValue))
             }
         }
     }
 }
 
-/// Which list of a rule, with so many source matchers, is at fault.
-fn list_at_fault(fault: RuleFault, sources: usize) -> &'static str {
+/// The matchers of one side of a rule. They are counted before the first is read: each can want much
+/// memory.
+fn read_side(
+    reader: &Reader<'_, '_>,
+    rule: &Object<'_, '_>,
+    name: &'static str,
+) -> Result<Vec<Matcher>, InputFault>
+    ensures told { IfOk result (λ matchers. HasOr (IsList (DecodesToMatcher rule.now.dialect)) [] name.now
+        (members_view rule.now.members) matchers.items) }
+    ensures refused { IfErr result (Excludes (λ (matchers : List MatcherParts).
+        HasOr (IsList (DecodesToMatcher rule.now.dialect)) [] name.now (members_view rule.now.members) matchers
+        × IsTrue (compare_texts matchers) × (length matchers ≤ MAX_MATCHERS))) }
+{
+    let Some(member) = rule.optional(name) else {
+        return Ok(Vec::new(rule.alloc()));
+    };
+    if member.array()?.len() > MAX_MATCHERS {
+        let side = reader.place().member(name);
+        return Err(reader.refuse_at(&side, FaultKind::BadValue));
+    }
+    member.list::<Matcher>()
+}
+
+/// Which list of a rule is at fault. Too many matchers were refused before.
+fn list_at_fault(fault: RuleFault) -> &'static str {
     match fault {
         RuleFault::TooManyNames => "equal",
-        RuleFault::TooManyMatchers if sources > MAX_MATCHERS => "source",
-        RuleFault::TooManyMatchers => "target",
+        RuleFault::TooManyMatchers => "source",
     }
 }

@@ -8,7 +8,7 @@
 //! with a line for each field and its default. The reader of a list hands the relation of its items
 //! on. It is a relation and not a function: a reference to a text and a built pattern have no value
 //! to compute. What decodes to a value that is `never_refused` is read, unless memory is refused.
-ghost use Rattle.std.specs.Prelude.{◌≡◌, ◌≢◌, ◌<◌, ◌≤◌, [], length, Some, IfErr, IfOk, IfSome, MatchOption};
+ghost use Rattle.std.specs.Prelude.{◌≡◌, ◌≢◌, ◌<◌, ◌≤◌, [], length, Some, IfErr, IfOk, IfSome, IsErrAnd, MatchOption};
 ghost use Rattle.std.specs.Prelude.{List, ℕ, IsTrue, find, is_ok, is_some, map, not, option_map, string_bytes, vec_len};
 ghost use Rattle.std.specs.List.{list_all};
 ghost use Rattle.std.specs.BTreeMap.{keys};
@@ -278,20 +278,22 @@ impl<'v, 'p> Reader<'v, 'p> {
         Ok(items)
     }
 
-    /// The items of an array that has at most so many, or else `Value`. They are read before they are
-    /// counted.
+    /// The items of an array that has at most so many, or else `Value`. They are counted before the
+    /// first is read: each can want much memory.
     pub fn list_up_to<T: FromJson<'v>>(&self, most: usize) -> Result<Vec<T>, InputFault>
         ensures count { IfOk result (λ items. HasItems (view self.now.value) (vec_len items)) }
         ensures told { IfOk result (λ items. IsList (T.decodes_to self.now.dialect) (view self.now.value) items.items) }
         ensures bound { IfOk result (λ items. vec_len items ≤ most) }
-        ensures refused { IfErr result (Excludes (λ (items : List T). IsList (T.decodes_to self.now.dialect) (view self.now.value) items
+        ensures too_many { (count : ℕ) → HasItems (view self.now.value) count → most < count
+            → IsErrAnd result (IsRefusedBy FaultKind.BadValue) }
+        ensures refused { IfErr result (Excludes (λ (items : List T).
+            IsList (T.decodes_to self.now.dialect) (view self.now.value) items
             × IsTrue (list_all T.never_refused items) × (length items ≤ most))) }
     {
-        let items = self.list::<T>()?;
-        if items.len() > most {
+        if self.array()?.len() > most {
             return Err(self.refuse(FaultKind::BadValue));
         }
-        Ok(items)
+        self.list::<T>()
     }
 
     /// The items of an array of length two, or `Kind`.

@@ -1,5 +1,6 @@
 //! Reading a whole input and writing a whole text. The programs' runs call it.
-ghost use Rattle.std.specs.Prelude.{◌≡◌, ◌≤◌, ◌<◌, ◌+◌, ◌++◌, ◌⊎◌, ◌↔◌, length, IfOk, IsErr, OnOk};
+ghost use Rattle.std.specs.Prelude.{◌≡◌, ◌≤◌, ◌<◌, ◌+◌, ◌++◌, ◌⊎◌, ◌↔◌, length, IfOk, IsErr, OnErr, OnOk, is_ok, if◌then◌else◌};
+ghost use Rattle.am_cli.specs.Bytes.{Breaks};
 
 use crate::device::{Sink, Source};
 use std::alloc::Global;
@@ -58,9 +59,12 @@ pub fn read_all<S: Source>(alloc: Global, source: &mut S) -> Result<Vec<u8>, Rea
     }
 }
 
-/// Writes all of these bytes. A write that takes none has failed.
+/// Writes all of these bytes. A write that takes none has failed. Where one fails, the front of the
+/// bytes may have been written.
 pub fn write_all<K: Sink>(sink: &mut K, bytes: &[u8]) -> Result<(), Unwritable>
     ensures whole { OnOk result (K.taken sink.new ≡ K.taken sink.old ++ bytes.now) }
+    ensures part { OnErr result (Breaks (λ text. text ≡ bytes.now) (K.taken sink.old) (K.taken sink.new)) }
+    ensures failed { K.failed sink.new ≡ K.failed sink.old + (if is_ok result then 0 else 1) }
     ensures unwritable { IsErr result ↔ (K.failed sink.old < K.failed sink.new) }
 {
     let mut rest = bytes;

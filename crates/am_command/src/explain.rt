@@ -357,7 +357,8 @@ fn no_receiver(
     }
 }
 
-/// Returns the name of the receiver that may be meant.
+/// Returns the name of the receiver that may be meant: one of the configuration that the place belongs to. What an outage or an
+/// expectation names may be of any configuration of the story.
 fn nearest_receiver<'v>(
     alloc: Global,
     top: &'v Value,
@@ -365,26 +366,75 @@ fn nearest_receiver<'v>(
     text: &'v str,
 ) -> Result<Option<&'v str>, AllocError> {
     let mut nearest = Nearest::to(text);
-    if let Some(receivers) = receivers_for(top, pointer) {
-        for receiver in receivers {
-            if let Some(name) = receiver.get("name").and_then(Value::as_str) {
-                nearest.consider(alloc, name)?;
-            }
+    if pointer.starts_with("/route") || pointer.starts_with("/children") {
+        consider_receivers(alloc, top, &mut nearest)?;
+    } else if let Some(reload) = reload_of(top, pointer) {
+        consider_configured(alloc, reload, &mut nearest)?;
+    } else {
+        consider_configured(alloc, top, &mut nearest)?;
+        if !pointer.starts_with("/config") && !pointer.starts_with("/alertmanager") {
+            consider_reloads(alloc, top, &mut nearest)?;
         }
     }
     Ok(nearest.found())
 }
 
-/// Returns the receivers of the configuration that a place belongs to.
-fn receivers_for<'v>(top: &'v Value, pointer: &str) -> Option<&'v Vec<Value>> {
-    let place = if pointer.starts_with("/route") || pointer.starts_with("/children") {
-        "/receivers"
-    } else if top.get("alertmanager").is_some() {
-        "/alertmanager/receivers"
-    } else {
-        "/config/receivers"
+/// Returns the reload that a place of a story belongs to.
+fn reload_of<'v>(top: &'v Value, pointer: &str) -> Option<&'v Value> {
+    let behind = pointer.strip_prefix("/reload/")?;
+    let reload = top.get("reload")?;
+    let (step, _) = behind.split_once('/')?;
+    match step.parse::<usize>() {
+        Ok(index) => reload.as_array()?.get(index),
+        Err(_) => Some(reload),
+    }
+}
+
+/// Tries the receivers of all reloads of a story.
+fn consider_reloads<'v>(
+    alloc: Global,
+    top: &'v Value,
+    nearest: &mut Nearest<'v>,
+) -> Result<(), AllocError> {
+    let Some(reload) = top.get("reload") else {
+        return Ok(());
     };
-    top.pointer(place)?.as_array()
+    let Some(list) = reload.as_array() else {
+        return consider_configured(alloc, reload, nearest);
+    };
+    for reload in list {
+        consider_configured(alloc, reload, nearest)?;
+    }
+    Ok(())
+}
+
+/// Tries the receivers of the configuration that a story or a reload has.
+fn consider_configured<'v>(
+    alloc: Global,
+    story: &'v Value,
+    nearest: &mut Nearest<'v>,
+) -> Result<(), AllocError> {
+    match story.get("alertmanager").or(story.get("config")) {
+        None => Ok(()),
+        Some(config) => consider_receivers(alloc, config, nearest),
+    }
+}
+
+/// Tries the receivers of a configuration.
+fn consider_receivers<'v>(
+    alloc: Global,
+    config: &'v Value,
+    nearest: &mut Nearest<'v>,
+) -> Result<(), AllocError> {
+    let Some(receivers) = config.get("receivers").and_then(Value::as_array) else {
+        return Ok(());
+    };
+    for receiver in receivers {
+        if let Some(name) = receiver.get("name").and_then(Value::as_str) {
+            nearest.consider(alloc, name)?;
+        }
+    }
+    Ok(())
 }
 
 /// Says which limit a list or a number passes, if it can be told.

@@ -1,6 +1,7 @@
 -- Texts that are written, or the front of them.
 use Rattle.std.proofs.Common.{◌≡◌, ◌∙◌, ◌≤◌, ◌++◌, ◌∷◌, [], ℕ, List, true, false, Option, Result, Ok, Err, append_assoc, ap, arith, length, refl, subst, sym}
 use Rattle.std.specs.Result.{OnErr}
+use Rattle.am_cli.specs.Bytes.{Breaks}
 use Rattle.am_cli.specs.declared.transfer.TheConstants.{MAX_INPUT}
 use Rattle.am_lines.specs.declared.fault.LineFault.{LineFault}
 use Rattle.am_lines.specs.declared.fault.LineFault.TheVariants as fault
@@ -8,13 +9,17 @@ use Rattle.am_lines.specs.declared.lines.LineRead.{LineRead}
 use Rattle.am_lines.specs.declared.lines.LineRead.TheVariants.{Whole, TooLong, NoMemory, End}
 use Rattle.am_lines.specs.Fault.{TellsFault}
 use Rattle.am_lines.specs.Lines.{IsRead}
-use Rattle.am_dispatch.specs.Serve.{AnswersLine, Breaks, IsRefused, Sends, is_remark}
+use Rattle.am_dispatch.specs.Serve.{AnswersLine, IsRefused, Sends, is_remark}
 use Rattle.am_dispatch.specs.Serve.AnswersLine.{Faulted}
 use Rattle.am_dispatch.specs.declared.session.Session.{Session}
 
 -- what is written, by another name
 pub sends_as : {P Q : List ℕ → Type 0} (taken to : List ℕ) → ((t : List ℕ) → P t → Q t) → Sends P taken to → Sends Q taken to
 sends_as taken to leads sends = record { text = sends.text; is = leads sends.text sends.is; takes = sends.takes }
+
+-- a text that was written is sent
+pub sends_it : (text taken to : List ℕ) → to ≡ taken ++ text → Sends (λ t. t ≡ text) taken to
+sends_it text taken to takes = record { text = text; is = refl; takes = takes }
 
 pub breaks_as : {P Q : List ℕ → Type 0} (taken to : List ℕ) → ((t : List ℕ) → P t → Q t) → Breaks P taken to → Breaks Q taken to
 breaks_as taken to leads breaks =

@@ -8,7 +8,8 @@ use Rattle.am_lines.specs.declared.lines.LineRead.{LineRead}
 use Rattle.am_lines.specs.declared.lines.LineRead.TheVariants.{Whole, TooLong, NoMemory, End}
 use Rattle.am_lines.specs.Lines.{FailsToRead, IsRead, LinesData, Moves, Reads, ReadsEnd, ReadsLine, lines_of}
 use Rattle.am_lines.proofs.Reading.{later_joins, moves_join, moves_none}
-use Rattle.am_dispatch.specs.Serve.{AnswersLine, Breaks, ReadFails, Sends, Served, Serves, ServesAll, Stops, WriteFails}
+use Rattle.am_cli.specs.Bytes.{Breaks}
+use Rattle.am_dispatch.specs.Serve.{AnswersLine, ReadFails, Sends, Served, Serves, ServesAll, Stops, WriteFails}
 use Rattle.am_dispatch.specs.declared.fault.ServeFault.{ServeFault}
 use Rattle.am_dispatch.specs.declared.fault.ServeFault.TheVariants.{Unreadable, Unwritable}
 use Rattle.am_dispatch.specs.declared.session.Session.{Session}
@@ -311,12 +312,6 @@ pub stops_after : {T : Type 0} (r : Result T ServeFault) (old mid : Option Sessi
 stops_after (Ok x) old mid from at given given_at given_to taken taken_at taken_to unread unread_at unread_to unwritten unwritten_at unwritten_to first same stops = tt
 stops_after (Err f) old mid from at given given_at given_to taken taken_at taken_to unread unread_at unread_to unwritten unwritten_at unwritten_to first same stops =
     stops_join f old mid from at given given_at given_to taken taken_at taken_to unread unread_at unread_to unwritten unwritten_at unwritten_to first same stops
-
--- the front of a text was written, and the rest is left
-pub record Front (text rest taken taken_to : List ℕ) : Type 0 where
-  pub front : List ℕ
-  pub parts : text ≡ front ++ rest
-  pub takes : taken_to ≡ taken ++ front
 
 -- what is so of a fault that is known
 pub known_fault : {T : Type 0} (r : Result T ServeFault) (P : ServeFault → Type 0) (f : ServeFault) → IsErrAnd r (λ g. g ≡ f) → P f → IfErr r P

@@ -2,6 +2,7 @@
 use Rattle.std.specs.Prelude.{◌≡◌, ◌≤◌, ◌+◌, ◌==◌, ◌⊎◌, ℕ, Bool, true, IsTrue, List, [], ◌∷◌, ◌++◌, Option, Some, None, length}
 use Rattle.std.specs.List.{concat}
 use Rattle.json.specs.Print.{print}
+use Rattle.am_cli.specs.Bytes.{Breaks}
 use Rattle.am_cli.specs.declared.transfer.TheConstants.{MAX_INPUT}
 use Rattle.am_board.specs.History.{opening as opening_board}
 use Rattle.am_lines.specs.declared.fault.LineFault.{LineFault}
@@ -98,17 +99,9 @@ pub record Sends (IsText : List ℕ → Type 0) (taken taken_to : List ℕ) : Ty
   pub is : IsText text
   pub takes : taken_to ≡ taken ++ text
 
--- the front of the text is written
-pub record Breaks (IsText : List ℕ → Type 0) (taken taken_to : List ℕ) : Type 0 where
-  pub text : List ℕ
-  pub is : IsText text
-  pub front : List ℕ
-  pub behind : List ℕ
-  pub parts : text ≡ front ++ behind
-  pub takes : taken_to ≡ taken ++ front
-
 -- a read failed: all lines that have their line feed were answered. Else the input is as long as can't be counted
-pub record ReadFails (old : Option Session) (from : LinesData) (given given_to taken taken_to : List ℕ) (failed failed_to : ℕ) : Type 0 where
+pub record ReadFails (old : Option Session) (from : LinesData) (given given_to taken taken_to : List ℕ) (failed failed_to : ℕ)
+    : Type 0 where
   pub new : Option Session
   pub bytes : List ℕ
   pub lines : List (List ℕ)
@@ -122,7 +115,8 @@ pub record ReadFails (old : Option Session) (from : LinesData) (given given_to t
   pub cause : (IsTrue (is_plain begun) × (failed_to ≡ failed + 1)) ⊎ (18446744073709551615 ≤ length (from.unused ++ bytes))
 
 -- a write failed: the lines before were answered, and of the answer to this line the front is written
-pub record WriteFails (old : Option Session) (from : LinesData) (given given_to taken taken_to : List ℕ) (failed failed_to : ℕ) : Type 0 where
+pub record WriteFails (old : Option Session) (from : LinesData) (given given_to taken taken_to : List ℕ) (failed failed_to : ℕ)
+    : Type 0 where
   pub mid : Option Session
   pub new : Option Session
   pub bytes : List ℕ

@@ -34,7 +34,8 @@ pub record IsFirst (number : ℕ) (tickets : List TicketData) (place : ℕ) (tic
 -- how the sending to an integration ended is recorded in the ticket at a place
 abbrev pub IsRecordedAt : List TicketData → ℕ → ℕ → Outcome → List TicketData → Type 0
 IsRecordedAt old place integration outcome new =
-    (ticket : TicketData) × (slice_get old place ≡ Some ticket) × (new ≡ slice_set old place (recorded ticket (report_on ticket integration outcome)))
+    (ticket : TicketData) × (slice_get old place ≡ Some ticket)
+    × (new ≡ slice_set old place (recorded ticket (report_on ticket integration outcome)))
 
 -- the notice of an integration is at this place
 abbrev pub IsNoticeAt : ℕ → List NoticeData → ℕ → Type 0

@@ -5,7 +5,8 @@
 //! thread and no clock: times are in the lines.
 //!
 //! - `serve` reads lines and writes answers. `session` has the board and the tickets of its open flushes, and makes the calls.
-//! - `ticket` records reports and writes what is open, `row` has the rows of the log that are loaded. `fault` has the statuses with which the program ends.
+//! - `ticket` records reports and writes what is open, `row` has the rows of the log that are loaded. `fault` has the statuses
+//!   with which the program ends.
 #![tactic(auto)]
 
 mod fault;

@@ -1,10 +1,13 @@
 //! Reading lines and writing answers, until the input ends. `main` calls it.
 //!
-//! Contracts say of each line how it is answered, as `Serves` of specs/Serve.antt has it, and what is written where a read or a write fails.
-ghost use Rattle.std.specs.Prelude.{◌≡◌, ◌≢◌, ◌+◌, ◌++◌, [], ◌∷◌, List, ℕ, IfErr, IfOk, IsErrAnd, IsFalse, IsTrue, None, OnErr, OnOk, Option, Some, false, if◌then◌else◌, is_ok};
+//! Contracts say of each line how it is answered, as `Serves` of specs/Serve.antt has it, and what is written where a read or
+//! a write fails.
+ghost use Rattle.std.specs.Prelude.{◌≡◌, ◌≢◌, ◌+◌, ◌++◌, [], ◌∷◌, List, ℕ, None, Option, Some, false, if◌then◌else◌, is_ok};
+ghost use Rattle.std.specs.Prelude.{IfErr, IfOk, IsErrAnd, IsFalse, IsTrue, OnErr, OnOk};
+ghost use Rattle.am_cli.specs.Bytes.{Breaks};
 ghost use Rattle.am_lines.specs.Fault.{IsUnmade, TellsFault, fault_line};
 ghost use Rattle.am_lines.specs.Lines.{IsRead, end_count};
-ghost use Rattle.am_dispatch.specs.Serve.{AnswersLine, Breaks, IsOpenedBy, OpensNone, Opened, Sends, Served, ServesAll, Stops, is_remark};
+ghost use Rattle.am_dispatch.specs.Serve.{AnswersLine, IsOpenedBy, OpensNone, Opened, Sends, Served, ServesAll, Stops, is_remark};
 ghost use Rattle.am_dispatch.specs.Session.{IsAnswered, IsAsked, IsTold, IsUnread, Leaves, Refuses};
 ghost use Rattle.am_dispatch.specs.declared.session.Session.{Session};
 
@@ -12,7 +15,7 @@ use crate::fault::ServeFault;
 use crate::session::Session;
 use am_cli::device::{Sink, Source};
 use am_cli::reader::{Reader, parse};
-use am_cli::transfer::Unwritable;
+use am_cli::transfer::{Unwritable, write_all};
 use am_lines::answer::Answer;
 use am_lines::fault::{LineFault, no_memory_line};
 use am_lines::lines::{LineRead, LineReader};
@@ -124,7 +127,7 @@ fn answer_first<K: Sink>(
         return Ok(None);
     }
     match open(alloc, read, line) {
-        Ok((session, answer)) => match write_text(answer.as_slice(), sink) {
+        Ok((session, answer)) => match write_all(sink, answer.as_slice()) {
             Ok(()) => Ok(Some(session)),
             Err(fault) => {
                 session.close();
@@ -156,7 +159,7 @@ fn answer_line<K: Sink>(
         return echo(line, sink);
     }
     match respond(alloc, session, read, line) {
-        Ok(answer) => write_text(answer.as_slice(), sink),
+        Ok(answer) => write_all(sink, answer.as_slice()),
         Err(fault) => write_fault(alloc, &fault, sink),
     }
 }
@@ -187,8 +190,8 @@ fn echo<K: Sink>(line: &[u8], sink: &mut K) -> Result<(), Unwritable>
     ensures part { OnErr result (Breaks (λ text. text ≡ line.now ++ 10 ∷ []) (K.taken sink.old) (K.taken sink.new)) }
     ensures failed { K.failed sink.new ≡ K.failed sink.old + (if is_ok result then 0 else 1) }
 {
-    write_text(line, sink)?;
-    write_text(b"\n", sink)
+    write_all(sink, line)?;
+    write_all(sink, b"\n")
 }
 
 /// Writes the line that tells a fault.
@@ -198,11 +201,11 @@ fn write_fault<K: Sink>(alloc: Global, fault: &LineFault, sink: &mut K) -> Resul
     ensures failed { K.failed sink.new ≡ K.failed sink.old + (if is_ok result then 0 else 1) }
 {
     if let Some(line) = fault.ready_line() {
-        return write_text(line.as_bytes(), sink);
+        return write_all(sink, line.as_bytes());
     }
     match fault_text(alloc, fault) {
-        Ok(line) => write_text(line.as_slice(), sink),
-        Err(_) => write_text(no_memory_line().as_bytes(), sink),
+        Ok(line) => write_all(sink, line.as_slice()),
+        Err(_) => write_all(sink, no_memory_line().as_bytes()),
     }
 }
 
@@ -213,22 +216,6 @@ fn fault_text(alloc: Global, fault: &LineFault) -> Result<Vec<u8>, AllocError>
     let mut answer = Answer::new(alloc);
     fault.write(&mut answer)?;
     answer.into_line()
-}
-
-/// Writes a text. Where a write fails, the front of it may have been written.
-fn write_text<K: Sink>(text: &[u8], sink: &mut K) -> Result<(), Unwritable>
-    ensures whole { OnOk result (Sends (λ all. all ≡ text.now) (K.taken sink.old) (K.taken sink.new)) }
-    ensures part { OnErr result (Breaks (λ all. all ≡ text.now) (K.taken sink.old) (K.taken sink.new)) }
-    ensures failed { K.failed sink.new ≡ K.failed sink.old + (if is_ok result then 0 else 1) }
-{
-    let mut rest = text;
-    while !rest.is_empty() {
-        match sink.write(rest) {
-            Err(_) | Ok(0) => return Err(Unwritable),
-            Ok(taken) => rest = &rest[taken..],
-        }
-    }
-    Ok(())
 }
 
 /// Opens the session that a line asks for, and makes the line that answers it.

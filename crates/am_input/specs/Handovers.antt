@@ -11,11 +11,14 @@ use Rattle.am_model.specs.declared.config.Config.{Config}
 use Rattle.am_plans.specs.Handover.{AreItemsIn, ItemData}
 use Rattle.am_terms.specs.declared.handover.Handover.{Handover}
 
--- the configuration under a reload: the one that it tells, as a story tells its own. Without a reload it is the story's, or that of a file
--- in its place
+-- a reload tells a configuration, as a story tells its own
+abbrev pub TellsReload : Dialect → Data → Config → Type 0
+TellsReload dialect reload config = IsSomeAnd (as_object reload) (λ fields. IsConfigIn dialect fields config)
+
+-- the configuration under a reload: the one that it tells. Without a reload it is the story's, or that of a file in its place
 abbrev pub IsConfigAt : Option Data → Dialect → Members → Option Data → Config → Type 0
 IsConfigAt file dialect ms None config = IsConfigFor file dialect ms config
-IsConfigAt file dialect ms (Some reload) config = IsSomeAnd (as_object reload) (λ fields. IsConfigIn dialect fields config)
+IsConfigAt file dialect ms (Some reload) config = TellsReload dialect reload config
 
 -- the last reload up to an item: the item itself, if it is one, or else the last before it
 abbrev pub last_reload : Option Data → ItemData → Option Data
@@ -32,14 +35,16 @@ AreToldBy IsAt before (item ∷ items) (h ∷ hs) =
 
 -- the reloads and restarts that the members of a story tell, in the order of their times; the story ends at `until`, and `file` is what
 -- stands in place of its own configuration
-pub record AreHandoversIn (dialect : Dialect) (file : Option Data) (until : ℕ) (members : Members) (handovers : List Handover) : Type 0 where
+pub record AreHandoversIn (dialect : Dialect) (file : Option Data) (until : ℕ) (members : Members) (handovers : List Handover)
+    : Type 0 where
   pub items : List ItemData
   pub items_are : AreItemsIn dialect until members items
   pub are : AreToldBy (IsConfigAt file dialect members) None items handovers
 
 -- whether a reload, if there is one, has a configuration of our own
 abbrev pub is_ours : Option Data → Bool
-is_ours reload = option_map_or (λ value. option_map_or (λ fields. is_none (get_member (codes "alertmanager") fields)) (as_object value) true) reload true
+is_ours reload =
+    option_map_or (λ value. option_map_or (λ fields. is_none (get_member (codes "alertmanager") fields)) (as_object value) true) reload true
 
 -- the same, where each reload has a configuration of our own, and no matcher looks for a pattern
 pub record AreHandoversWithoutPatterns (dialect : Dialect) (file : Option Data) (until : ℕ) (members : Members)

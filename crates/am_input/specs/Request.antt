@@ -73,7 +73,7 @@ member_names =
 
 -- these members, each of a known name, with what the command line says in place of some, ask for this output, give this start and have
 -- these expectations, of a rehearsal that has the configuration, the actions and the outages that they tell, and ends and is maintained
--- as they say; and these are the reloads and restarts that they tell
+-- as they say; their zones are the rules of zones; and these are the reloads and restarts that they tell
 pub record Requests (dialect : Dialect) (changes : Changes) (members : Members) (output : Output) (start : Option StartData)
     (expectations : List Expectation) (handovers : List Handover) (rehearsal : Rehearsal) : Type 0 where
   pub known : IsTrue (has_only dialect member_names members)
@@ -96,7 +96,8 @@ IsRequestIn changes value output start expectations handovers rehearsal =
     IsSomeAnd (as_object value) (λ members. Requests Strict changes members output start expectations handovers rehearsal)
 
 -- what is asked for isn't refused: the configuration is the story's own and stands in `config`, as that of each reload does, and no
--- matcher looks for a pattern
+-- matcher looks for a pattern. A story under a given file isn't among these: that a file of our own form isn't refused is said of the
+-- file alone, by `own` of `read_configured`
 pub record IsWithoutPatterns (dialect : Dialect) (changes : Changes) (members : Members) (handovers : List Handover)
     (rehearsal : Rehearsal) : Type 0 where
   pub own : file_in changes ≡ None

@@ -10,7 +10,7 @@ ghost use Rattle.am_cli.specs.Read.{Excludes};
 ghost use Rattle.am_cli.specs.declared.reader.Dialect.TheVariants.{Strict};
 ghost use Rattle.am_input.specs.Configured.{DecodesWithoutPatterns, IsConfigFor, IsConfigIn, IsConfigOf};
 ghost use Rattle.am_input.specs.Configured.{IsReadOfTheirs, TellsWithoutPatterns, form_in};
-ghost use Rattle.am_input.specs.Handovers.{IsConfigAt, TellsAt, is_ours};
+ghost use Rattle.am_input.specs.Handovers.{TellsAt, TellsReload, is_ours};
 ghost use Rattle.am_input.specs.Request.{RefusesAll};
 
 use crate::form::{Form, alertmanager_in, form_of};
@@ -123,7 +123,7 @@ pub(crate) fn read_reload<Z: ZoneFiles>(
     until: Option<u64>,
     files: &mut Z,
 ) -> Result<Configured, Refusal>
-    ensures told { IfOk result (λ read. IsConfigAt None top.now.dialect (members_view top.now.members) (Some (view reload.entry.value.now)) read.config) }
+    ensures told { IfOk result (λ read. TellsReload top.now.dialect (view reload.entry.value.now) read.config) }
     ensures timed { IsTrue (is_ours (Some (view reload.entry.value.now))) → IfOk result (λ read. read.lacks_hours ≡ false) }
     ensures refused { IsTrue (is_ours (Some (view reload.entry.value.now)))
         → IfErr result (RefusesAll (TellsAt top.now.dialect (members_view top.now.members) (Some (view reload.entry.value.now)))) }
@@ -142,7 +142,7 @@ fn read_at<Z: ZoneFiles>(
     until: Option<u64>,
     files: &mut Z,
 ) -> Result<Configured, Refusal>
-    ensures told { IfOk result (λ read. IsSomeAnd (as_object (view reload.now.value)) (λ fields. IsConfigIn reload.now.dialect fields read.config)) }
+    ensures told { IfOk result (λ read. TellsReload reload.now.dialect (view reload.now.value) read.config) }
     ensures timed { IsTrue (is_ours (Some (view reload.now.value))) → IfOk result (λ read. read.lacks_hours ≡ false) }
     ensures refused { IsTrue (is_ours (Some (view reload.now.value))) → IfErr result (RefusesAll (λ config.
         IsSomeAnd (as_object (view reload.now.value)) (λ fields. TellsWithoutPatterns reload.now.dialect fields config))) }

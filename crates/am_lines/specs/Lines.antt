@@ -89,7 +89,8 @@ pub record FailsToRead (old new : LinesData) (given given_to : List ℕ) (failed
   pub cause : (IsTrue (is_plain (old.unused ++ more)) × (failed_to ≡ failed + 1)) ⊎ (18446744073709551615 ≤ length used)
 
 -- a part of a line was used, with the line feed behind it if there is one
-pub record UsesPart (old new : LinesData) (is_fed : Bool) (read : LineRead) (kept : List ℕ) (read_to : LineRead) (kept_to : List ℕ) : Type 0 where
+pub record UsesPart (old new : LinesData) (is_fed : Bool) (read : LineRead) (kept : List ℕ) (read_to : LineRead) (kept_to : List ℕ)
+    : Type 0 where
   pub part : List ℕ
   pub plain : IsTrue (is_plain part)
   pub used : old.unused ≡ part ++ (if is_fed then 10 ∷ new.unused else [])

@@ -15,7 +15,8 @@ use Rattle.am_model.specs.declared.views.RowView.{RowView}
 use Rattle.am_model.specs.declared.views.Summary.{Summary}
 use Rattle.am_model.specs.Configured.{route_of}
 use Rattle.am_model.specs.look_back.Reasons.{asks}
-use Rattle.am_lines.specs.Answer.{text_member, number_member, flag_member, object, array, optional_number, labels_tokens, group_tokens, alert_tokens, integration_members}
+use Rattle.am_lines.specs.Answer.{text_member, number_member, flag_member, object, array, optional_number}
+use Rattle.am_lines.specs.Answer.{labels_tokens, group_tokens, alert_tokens, integration_members}
 use Rattle.am_lines.specs.Reply.{named}
 
 -- an object with one member of this name, which is an array of these values

@@ -1,6 +1,7 @@
 //! `LineFault`: why a line isn't answered by what it asks for, and the text of that.
 ghost use Rattle.std.specs.Prelude.{◌≡◌, ◌++◌, IfSome, IsTrue, None, OnOk, codes};
-ghost use Rattle.am_lines.specs.Fault.{changes_nothing, IsOfBoard, IsOfLoad, IsOfNote, IsOfReport, IsRefusedAs, fault_line, fault_tokens, kind_of, column_member, message_of, place_of};
+ghost use Rattle.am_lines.specs.Fault.{changes_nothing, IsOfBoard, IsOfLoad, IsOfNote, IsOfReport, IsRefusedAs};
+ghost use Rattle.am_lines.specs.Fault.{fault_line, fault_tokens, kind_of, column_member, message_of, place_of};
 ghost use Rattle.am_lines.specs.Fault.{refusal_kind, refusal_message};
 
 use crate::answer::Answer;

@@ -1,7 +1,8 @@
 //! The answers that tell a board's replies to its calls. `am_dispatch` calls it.
 ghost use Rattle.std.specs.Prelude.{◌≡◌, ◌++◌, ◌∷◌, [], OnOk};
 ghost use Rattle.json.specs.Token.{begin_object, end_object, key};
-ghost use Rattle.am_lines.specs.Reply.{counts_tokens, flush_members, flush_tokens, ignored_tokens, inserted_tokens, loaded_tokens, loaded_word};
+ghost use Rattle.am_lines.specs.Reply.{counts_tokens, flush_members, flush_tokens, ignored_tokens, inserted_tokens};
+ghost use Rattle.am_lines.specs.Reply.{loaded_tokens, loaded_word};
 ghost use Rattle.am_lines.specs.Reply.{name_if, named, opened_tokens, quiet_tokens, reply_tokens, silenced_tokens};
 
 use crate::answer::Answer;

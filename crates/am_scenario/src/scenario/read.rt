@@ -1,9 +1,9 @@
 //! How a scenario is read. `am_play` calls `read_scenario`.
 //!
-//! The length of a pair, a matcher or a script item is looked at before its items. Exception: the
-//! items of an array that is too long come before its length. A call with two kinds is rejected
-//! after both were read. Any value of `maintain` is a maintenance. Other fields of a call are
-//! ignored.
+//! The length of a pair, a matcher, a script item or the list of lanes is looked at before its
+//! items. Exception: the matchers of a silence are read before they are counted. A call with two
+//! kinds is rejected after both were read. Any value of `maintain` is a maintenance. Other fields
+//! of a call are ignored.
 ghost use Rattle.std.specs.Prelude.{◌≤◌, ℕ, IfErr, IfOk, IsTrue, codes};
 ghost use Rattle.am_cli.specs.Decoding.{IsNumber, HasOr};
 ghost use Rattle.am_cli.specs.Read.{Excludes};

@@ -1,16 +1,17 @@
 use Rattle.std.proofs.Common.{◌∙◌, List, ℕ, Option, None, Some, subst, sym}
 use Rattle.am_lines.specs.Lines.{IsRead}
-use Rattle.am_dispatch.specs.Serve.{AnswersLine, Breaks, Opened}
+use Rattle.am_cli.specs.Bytes.{Breaks}
+use Rattle.am_dispatch.specs.Serve.{AnswersLine, Opened}
 use Rattle.am_dispatch.specs.declared.session.Session.{Session}
 use Rattle.am_dispatch.specs.Serve.AnswersLine.{Done}
-use Rattle.am_dispatch.proofs.Sending.{breaks_as, faulted, on_err_any, sends_as}
+use Rattle.am_dispatch.proofs.Sending.{breaks_as, faulted, on_err_any, sends_as, sends_it}
 use Rattle.am_dispatch.proofs.serve.answer_first.Goals as goal
 
 pub returns-in-Ok-clause-broken : goal.returns-in-Ok-clause-broken
 returns-in-Ok-clause-broken g c = λ text is. (
   Some c.in-Ok.session,
   breaks_as _ _ (λ t same. Done (subst (λ (u : List ℕ). Opened text u c.in-Ok.session) (sym (same ∙ c.as_slice.ensures.value)) (c.in-Ok.ensures.told text is)))
-      c.in-Err-write_text.ensures.part,
+      c.in-Err-write_all.ensures.part,
 )
 
 pub returns-in_err-write_fault-in-Err-clause-broken : goal.returns-in_err-write_fault-in-Err-clause-broken
@@ -32,7 +33,7 @@ returns-clause-answered g c = λ text is.
     sends_as _ _ (faulted None None c.args.read text c.args.line.now c.in-Err.fault is (c.is_echoed.ensures.other c.if-is_echoed.false) c.in-Err.ensures.unread (c.in-Err.ensures.refused text is))
     c.in_ok-write_fault-in-Err.ensures.whole
 
-pub returns-in-Ok-write_text-clause-answered : goal.returns-in-Ok-write_text-clause-answered
-returns-in-Ok-write_text-clause-answered g c = λ text is.
+pub returns-in-Ok-write_all-clause-answered : goal.returns-in-Ok-write_all-clause-answered
+returns-in-Ok-write_all-clause-answered g c = λ text is.
     sends_as _ _ (λ t same. Done (subst (λ (u : List ℕ). Opened text u c.in-Ok.session) (sym (same ∙ c.as_slice.ensures.value)) (c.in-Ok.ensures.told text is)))
-    c.in-Ok-write_text.ensures.whole
+    (sends_it _ _ _ c.in-Ok-write_all.ensures.whole)

@@ -2,7 +2,8 @@ use Rattle.std.proofs.Common.{Some}
 use Rattle.std.proofs.lemmas.Result.{on_ok_weaker}
 use Rattle.am_lines.specs.Fault.{TellsFault}
 use Rattle.am_dispatch.proofs.Sending.{breaks_as, faulted, on_err_weaker, sends_as}
-use Rattle.am_dispatch.specs.Serve.{Breaks, Sends}
+use Rattle.am_cli.specs.Bytes.{Breaks}
+use Rattle.am_dispatch.specs.Serve.{Sends}
 use Rattle.am_dispatch.proofs.serve.answer_line.Goals as goal
 
 pub returns-in-Err-clause-answered : goal.returns-in-Err-clause-answered

@@ -1,10 +1,13 @@
-use Rattle.std.proofs.Common.{◌≡◌, [], None, Some, codes, subst, sym}
+use Rattle.std.proofs.Common.{◌≡◌, ◌≤◌, ◌||◌, [], Bool, true, false, None, Some, arith, codes, if◌then◌else◌, length, nat_lt, refl, subst, sym}
+use Rattle.std.proofs.lemmas.Bool.{ltb-false}
 use Rattle.std.specs.Prelude.{IsTrue}
 use Rattle.serde_json.specs.Data.{Data}
 use Rattle.serde_json.specs.Find.{as_object, get_member}
 use Rattle.serde_json.specs.View.{members_view, view}
 use Rattle.am_alerts.specs.Matcher.{compare_texts}
+use Rattle.am_alerts.specs.declared.limits.TheConstants.{MAX_MATCHERS, MAX_NAMES}
 use Rattle.am_mute.specs.Inhibit.{RuleData, rule_of, rule_fault}
+use Rattle.am_mute.specs.declared.inhibit.RuleFault.TheVariants.{TooManyMatchers, TooManyNames}
 use Rattle.am_cli.specs.Configured.{DecodesToRule, HasRule, rule_compares_texts}
 use Rattle.am_cli.specs.Decoding.{IsList, IsText}
 use Rattle.am_cli.specs.Read.{ObjectData}
@@ -22,6 +25,20 @@ Tells dialect value rule = DecodesToRule dialect value rule × IsTrue (rule_comp
 inside : (dialect : Dialect) (value : Data) (o : ObjectData) (rule : RuleData) → Some (members_view o.members) ≡ as_object value → o.dialect ≡ dialect
     → Tells dialect value rule → HasRule o.dialect (members_view o.members) rule
 inside dialect value o rule is same told = in_object HasRule dialect o.dialect (members_view o.members) value rule is same told.0
+
+-- a rule without a fault has few matchers on each side
+few_sides : (r : RuleData) → rule_fault r ≡ None → (length r.source ≤ MAX_MATCHERS) × (length r.target ≤ MAX_MATCHERS)
+few_sides r sound = by (nat_lt MAX_MATCHERS (length r.source)) (nat_lt MAX_MATCHERS (length r.target)) refl refl sound
+  where
+    by : (a b : Bool) → nat_lt MAX_MATCHERS (length r.source) ≡ a → nat_lt MAX_MATCHERS (length r.target) ≡ b
+        → (if a || b then Some TooManyMatchers else (if nat_lt MAX_NAMES (length r.equal) then Some TooManyNames else None)) ≡ None
+        → (length r.source ≤ MAX_MATCHERS) × (length r.target ≤ MAX_MATCHERS)
+    by true b a_is b_is none = absurd (cc)
+    by false true a_is b_is none = absurd (cc)
+    by false false a_is b_is none = (
+      omega (arith, ltb-false MAX_MATCHERS (length r.source) a_is),
+      omega (arith, ltb-false MAX_MATCHERS (length r.target) b_is),
+    )
 
 pub returns-in-Ok-clause-told : goal.returns-in-Ok-clause-told
 returns-in-Ok-clause-told c =
@@ -52,12 +69,20 @@ returns-in_err-only-clause-refused c =
 pub returns-in_err-source-clause-refused : goal.returns-in_err-source-clause-refused
 returns-in_err-source-clause-refused c =
     handed_on (Tells c.args.reader.now.dialect (view c.args.reader.now.value)) c.from_residual-in_err-source.result c.in_err-source.field-0.0 c.from_residual-in_err-source.ensures.1
-    (λ refusal x told. c.in_err-source.ensures.refused refusal x.source ((inside c.args.reader.now.dialect (view c.args.reader.now.value) c.in_ok-rule.rule x c.in_ok-rule.ensures.members c.in_ok-rule.ensures.dialect told).source, first (compare_texts x.source) (compare_texts x.target) told.1))
+    (λ refusal x told. c.in_err-source.ensures.refused refusal x.source (
+      (inside c.args.reader.now.dialect (view c.args.reader.now.value) c.in_ok-rule.rule x c.in_ok-rule.ensures.members c.in_ok-rule.ensures.dialect told).source,
+      first (compare_texts x.source) (compare_texts x.target) told.1,
+      (few_sides x (inside c.args.reader.now.dialect (view c.args.reader.now.value) c.in_ok-rule.rule x c.in_ok-rule.ensures.members c.in_ok-rule.ensures.dialect told).sound).0,
+    ))
 
 pub returns-in_err-target-clause-refused : goal.returns-in_err-target-clause-refused
 returns-in_err-target-clause-refused c =
     handed_on (Tells c.args.reader.now.dialect (view c.args.reader.now.value)) c.from_residual-in_err-target.result c.in_err-target.field-0.0 c.from_residual-in_err-target.ensures.1
-    (λ refusal x told. c.in_err-target.ensures.refused refusal x.target ((inside c.args.reader.now.dialect (view c.args.reader.now.value) c.in_ok-rule.rule x c.in_ok-rule.ensures.members c.in_ok-rule.ensures.dialect told).target, second (compare_texts x.source) (compare_texts x.target) told.1))
+    (λ refusal x told. c.in_err-target.ensures.refused refusal x.target (
+      (inside c.args.reader.now.dialect (view c.args.reader.now.value) c.in_ok-rule.rule x c.in_ok-rule.ensures.members c.in_ok-rule.ensures.dialect told).target,
+      second (compare_texts x.source) (compare_texts x.target) told.1,
+      (few_sides x (inside c.args.reader.now.dialect (view c.args.reader.now.value) c.in_ok-rule.rule x c.in_ok-rule.ensures.members c.in_ok-rule.ensures.dialect told).sound).1,
+    ))
 
 pub returns-in_err-equal-clause-refused : goal.returns-in_err-equal-clause-refused
 returns-in_err-equal-clause-refused c =

@@ -7,6 +7,7 @@ The board decides who is notified, and when. This program has what the board lea
 annotations, the merging of alerts that overlap, attempts and their waits. docs/live.md has its limits.
 """
 import argparse
+import contextlib
 import heapq
 import http.client
 import http.server
@@ -14,7 +15,7 @@ import itertools
 import json
 import os
 import signal
-import subprocess
+import socket
 import sys
 import threading
 import time
@@ -24,12 +25,14 @@ import urllib.request
 import uuid
 from pathlib import Path
 
+from live_board import BOARD, Board, BoardError
+from live_carry import groups_of, kept, taken_over
 from live_format import (Config, Refused, can_update, fingerprint, label_key, matcher_lists, merged, message, read_alert, read_config,
                          read_silence, time_text)
 
-BOARD = Path(__file__).resolve().parent.parent / "crates/am_dispatch/out/am_dispatch"
-# In milliseconds: between two maintenances; how long a silence is shown after its end; the first wait after an attempt; the longest.
-MAINTAIN, SHOWN, FIRST_WAIT, LONGEST_WAIT = 900_000, 120 * 3_600_000, 500, 60_000
+# In milliseconds: between two maintenances; between two cleanings of alerts; how long a silence is shown after its end; the first wait
+# after an attempt; the longest.
+MAINTAIN, CLEAN, SHOWN, FIRST_WAIT, LONGEST_WAIT = 900_000, 1_800_000, 120 * 3_600_000, 500, 60_000
 # How many calls the board keeps before its history is taken.
 KEPT = 10_000
 # The kinds of errors that say what is wrong with a request, and those that say that a limit is reached.
@@ -37,55 +40,20 @@ WRONG = {"length", "missing", "kind", "value", "unknown", "unsupported"}
 LIMITS = {"TooManyNames", "TooManyGroups", "TooManySilences", "TooManyOpen"}
 
 
-class BoardError(Exception):
-    """A line that the board rejected, or a board that has ended."""
-
-    def __init__(self, call, kind, message):
-        super().__init__(f"the board rejected {call}: {kind}: {message}")
-        self.kind = kind
-
-
-class Board:
-    """The child process: one line for each call, and one for its answer."""
-
-    def __init__(self, program, opening):
-        self.kept = 0
-        # (it ends when its input ends, not by the signal that a terminal sends to both)
-        self.child = subprocess.Popen([program], stdin=subprocess.PIPE, stdout=subprocess.PIPE, start_new_session=True)
-        self.call("alertmanager", opening)
-
-    def ask(self, name, arguments):
-        """The line that answers a call, as it came."""
-        try:
-            self.child.stdin.write(json.dumps({name: arguments}).encode() + b"\n")
-            self.child.stdin.flush()
-            line = self.child.stdout.readline()
-        except OSError as error:
-            raise BoardError(name, "ended", f"{error}; status {self.child.poll()}") from error
-        if not line:
-            raise BoardError(name, "ended", f"it ended with status {self.child.wait()}")
-        return line
-
-    def call(self, name, arguments):
-        """What a call answers: its name, such as `inserted`, and its value."""
-        (answer, value), = json.loads(self.ask(name, arguments)).items()
-        if answer == "error":
-            raise BoardError(name, value["kind"], f"{value['message']} (at {value['pointer'] or '/'})")
-        self.kept += 1
-        return answer, value
-
-    def close(self):
-        self.child.stdin.close()
-        self.child.wait()
-        self.child.stdout.close()
-
-
 class Sending:
     """A notification of an open flush to one webhook, until it has an outcome."""
 
     def __init__(self, flush, notice, hook, body):
         self.flush, self.notice, self.hook, self.body = flush, notice, hook, body
-        self.wait, self.begun, self.ended = FIRST_WAIT, 0, False
+        self.wait, self.begun, self.ended, self.cut = FIRST_WAIT, 0, False, None
+
+
+def insert_line(alert, now):
+    return {"now": now, "labels": alert["labels"], "starts": alert["starts"], "ends": alert["ends"]}
+
+
+def silence_line(silence, now):
+    return {"now": now, "id": silence["number"], "starts": silence["starts"], "ends": silence["ends"], "matchers": matcher_lists(silence)}
 
 
 class Live:
@@ -94,11 +62,12 @@ class Live:
     `folder` has the log and the silences of the last run, and the history."""
 
     def __init__(self, config, program, clock, folder=None, external="http://localhost:9093", say=print):
-        self.config, self.clock, self.folder, self.external, self.say = config, clock, folder, external, say
-        self.alerts, self.silences, self.silence_number, self.wakes_at = {}, {}, 0, None
-        self.board = Board(program, config.data)
-        self.keep(json.dumps({"alertmanager": config.data}).encode() + b"\n")
-        self.load()
+        self.program, self.clock, self.folder, self.external, self.say = program, clock, folder, external, say
+        self.alerts, self.silences, self.silence_number, self.sendings, self.lost = {}, {}, 0, set(), []
+        rows = self.load()
+        board = Board(program, config.data)
+        self.put(board, config, self.hand_over(board, config, rows))
+        self.cleans_at = self.clock.now() + CLEAN
         self.clock.at(self.clock.now() + MAINTAIN, self.maintain)
 
     def answer(self, name, **arguments):
@@ -137,8 +106,8 @@ class Live:
 
     def insert(self, alert):
         old = self.alerts.get(label_key(alert["labels"]))
-        alert = merged(old, alert, self.clock.now()) if old else alert
-        self.accept("insert", now=self.clock.now(), labels=alert["labels"], starts=alert["starts"], ends=alert["ends"])
+        alert = merged(old, alert, self.clock.now()) if old and not old.get("cleaned") else alert
+        self.accept("insert", **insert_line(alert, self.clock.now()))
         self.alerts[label_key(alert["labels"])] = alert
 
     def shown_alerts(self):
@@ -175,8 +144,7 @@ class Live:
 
     def put_silence(self, silence):
         now = self.clock.now()
-        self.accept("silence", now=now, id=silence["number"], starts=silence["starts"], ends=silence["ends"],
-                    matchers=matcher_lists(silence))
+        self.accept("silence", **silence_line(silence, now))
         self.silences[silence["id"]] = silence | {"updated": now}
 
     def expire(self, name):
@@ -221,6 +189,7 @@ class Live:
                 hook = hooks[notice["integration"]]
                 body = message(flush, notice, hook, self.config.routes[flush["group"]["route"]][0], self.alerts, self.external)
                 sending = Sending(flush, notice, hook, json.dumps(body).encode())
+                self.sendings.add(sending)
                 self.clock.at(flush["deadline"], lambda it=sending: self.settle(it, "expired"))
                 self.attempt(sending)
             else:
@@ -232,10 +201,12 @@ class Live:
         if not sending.ended:
             sending.begun = self.clock.now()
             left = max(1, sending.flush["deadline"] - sending.begun)
-            self.clock.post(sending.hook.url, sending.body, left / 1000, lambda status: self.answered(sending, status))
+            sending.cut = self.clock.post(sending.hook.url, sending.body, left / 1000, lambda status: self.answered(sending, status))
 
     def answered(self, sending, status):
         """What a webhook answered, or none if it didn't: done, or refused for good, or to be tried again at its time."""
+        if sending.ended:
+            return
         if status is None or status // 100 == 5:
             at = max(self.clock.now(), sending.begun + sending.wait)
             sending.wait = min(LONGEST_WAIT, sending.wait * 3 // 2)
@@ -244,13 +215,14 @@ class Live:
         else:
             self.settle(sending, "delivered" if status // 100 == 2 else "refused")
 
-    def settle(self, sending, outcome):
+    def settle(self, sending, outcome, why=""):
         """Reports the outcome of a notification, the first that it has."""
         if not sending.ended:
             sending.ended = True
+            self.sendings.remove(sending)
             flush, notice = sending.flush, sending.notice
             if outcome != "delivered":
-                self.say(f"live: {outcome}: {flush['receiver']}/{notice['integration']} for {flush['group']['labels']}, {sending.hook.url}")
+                self.say(f"live: {why or outcome}: {flush['receiver']}/{notice['integration']} for {flush['group']['labels']}, {sending.hook.url}")
             self.call("report", ticket=flush["ticket"], integration=notice["integration"], outcome=outcome)
             self.log(flush, notice, outcome == "delivered")
 
@@ -268,13 +240,65 @@ class Live:
 
     # What lasts.
 
+    def reload(self, read):
+        """Has the configuration that `read` returns from now on, on a new board. If that can't be followed, nothing has changed."""
+        rows = self.rows()
+        try:
+            config = read()
+            board = Board(self.program, config.data)
+            try:
+                lost = self.hand_over(board, config, rows)
+            except BoardError:
+                board.close()
+                raise
+        except (OSError, ValueError, BoardError) as error:
+            raise Refused(f"failed to reload config: {error}", 500) from None
+        for sending in [*self.sendings]:
+            sending.cut()
+            self.settle(sending, "expired", "cut off by a reload")
+        self.take_history()
+        self.board.close()
+        self.put(board, config, lost)
+        self.wake()
+
+    def hand_over(self, board, config, rows):
+        """Hands a new board the rows of the log that it finds again, the silences and the alerts. Returns the rows that it doesn't find."""
+        now, lost = self.clock.now(), []
+        groups = groups_of(board, config.data, rows, now)
+        for row in rows:
+            taken = taken_over(row, config, groups)
+            lost += [] if taken else [row]
+            for it in taken:
+                if board.fails("load", {"now": now, "row": it}, ["Ahead"]):
+                    self.say(f"live: a row of the log is of a later time, and left out: {json.dumps(it)}")
+        for silence in self.silences.values():
+            if silence["ends"] > now:
+                board.call("silence", silence_line(silence, now))
+        for alert in self.alerts.values():
+            if not alert.get("cleaned"):
+                board.call("insert", insert_line(alert, now))
+        if rows:
+            self.say(f"live: {len(rows) - len(lost)} of {len(rows)} rows of the log taken over")
+        return lost
+
+    def put(self, board, config, lost):
+        """Puts a board in its place. Its history is a run of its own."""
+        self.board, self.config, self.lost, self.wakes_at = board, config, lost, None
+        self.keep(json.dumps({"alertmanager": config.data}).encode() + b"\n")
+
+    def rows(self):
+        """The rows of the log, and those that no board since found again: a later configuration may."""
+        return kept(self.call("rows"), self.config) + [it for it in self.lost if it["expiry"] > self.clock.now()]
+
     def maintain(self):
-        """Lets go what is over, and saves the rest."""
+        """Lets go what is over, and saves the rest. Alertmanager cleans its alerts in every second maintenance: a group keeps its copies."""
         now = self.clock.now()
         self.call("maintain", now=now)
         self.call("forget", now=now)
-        grouped = {label_key(alert["labels"]) for group in self.call("groups") for alert in group["alerts"]}
-        self.alerts = {key: it for key, it in self.alerts.items() if it["ends"] > now or key in grouped}
+        if now >= self.cleans_at:
+            self.cleans_at = now + CLEAN
+            grouped = {label_key(alert["labels"]) for group in self.call("groups") for alert in group["alerts"]}
+            self.alerts = {key: it if it["ends"] > now else it | {"cleaned": True} for key, it in self.alerts.items() if it["ends"] > now or key in grouped}
         self.silences = {name: it for name, it in self.silences.items() if it["ends"] + SHOWN > now}
         self.save()
         self.clock.at(now + MAINTAIN, self.maintain)
@@ -298,31 +322,17 @@ class Live:
     def save(self):
         """Writes the log and the silences. The file is whole at any time."""
         if self.folder:
-            saved = {"rows": self.call("rows"), "silences": [*self.silences.values()], "silence_number": self.silence_number}
+            saved = {"rows": self.rows(), "silences": [*self.silences.values()], "silence_number": self.silence_number}
             (self.folder / "saved.new").write_text(json.dumps(saved), encoding="utf-8")
             os.replace(self.folder / "saved.new", self.folder / "saved.json")
 
     def load(self):
-        """Takes over the log and the silences of the last run."""
+        """Reads the silences of the last run, and returns the rows of its log."""
         if not self.folder or not (self.folder / "saved.json").exists():
-            return
+            return []
         saved = json.loads((self.folder / "saved.json").read_text(encoding="utf-8"))
-        for row in saved["rows"]:
-            self.load_row(row)
-        self.silence_number = saved["silence_number"]
-        for silence in saved["silences"]:
-            if silence["ends"] > self.clock.now():
-                self.put_silence(silence)
-            self.silences[silence["id"]] = silence
-
-    def load_row(self, row):
-        """Loads a row, unless the configuration or the clock was changed meanwhile."""
-        try:
-            self.call("load", now=self.clock.now(), row=row)
-        except BoardError as error:
-            if error.kind not in ("NoIntegration", "Ahead"):
-                raise
-            self.say(f"live: a row of the log is left out: {error}: {json.dumps(row)}")
+        self.silence_number, self.silences = saved["silence_number"], {it["id"]: it for it in saved["silences"]}
+        return saved["rows"]
 
     def close(self):
         """Saves all, and ends the board, whose open flushes stay without a further entry in the log."""
@@ -331,13 +341,51 @@ class Live:
         self.board.close()
 
 
+class Post(urllib.request.HTTPHandler, urllib.request.HTTPSHandler):
+    """Posts once, and can be cut off."""
+
+    def __init__(self):
+        super().__init__()
+        self.connection, self.is_cut = None, False
+
+    def http_open(self, request):
+        return self.do_open(lambda host, **more: self.begin(http.client.HTTPConnection(host, **more)), request)
+
+    def https_open(self, request):
+        return self.do_open(lambda host, **more: self.begin(http.client.HTTPSConnection(host, **more)), request)
+
+    def begin(self, connection):
+        self.connection = connection
+        if self.is_cut:
+            raise OSError("cut off")
+        return connection
+
+    def status(self, url, body, seconds):
+        """Posts, and returns the status of the answer, or none where there was none in time."""
+        try:
+            request = urllib.request.Request(url, body, {"Content-Type": "application/json", "User-Agent": "fentdolmen-live"})
+            with urllib.request.build_opener(urllib.request.ProxyHandler({}), self).open(request, timeout=seconds) as answer:
+                return answer.status
+        except urllib.error.HTTPError as error:
+            error.close()
+            return error.code
+        except (OSError, http.client.HTTPException):
+            return None
+
+    def cut(self):
+        """Closes the connection. (One that is still being made ends at its timeout.)"""
+        self.is_cut, made = True, self.connection and self.connection.sock
+        if made:
+            with contextlib.suppress(OSError):
+                made.shutdown(socket.SHUT_RDWR)
+
+
 class RealClock:
     """The real time in milliseconds since 1970, which never goes back. Whoever uses what it calls has the lock."""
 
     def __init__(self):
         self.changed, self.timers, self.order, self.failure, self.ended = threading.Condition(threading.RLock()), [], itertools.count(), None, False
         self.origin = time.time_ns() // 1_000_000 - time.monotonic_ns() // 1_000_000
-        self.opener = urllib.request.build_opener(urllib.request.ProxyHandler({}))
 
     def now(self):
         return self.origin + time.monotonic_ns() // 1_000_000
@@ -349,21 +397,16 @@ class RealClock:
             self.changed.notify_all()
 
     def post(self, url, body, seconds, done):
-        """Posts, and hands the status to `done`, or none where there was no answer in time."""
+        """Posts in a thread, and hands the status to `done`, or none where there was no answer in time. Returns what cuts it off."""
+        post = Post()
+
         def run():
-            try:
-                request = urllib.request.Request(url, body, {"Content-Type": "application/json", "User-Agent": "fentdolmen-live"})
-                with self.opener.open(request, timeout=seconds) as answer:
-                    status = answer.status
-            except urllib.error.HTTPError as error:
-                status = error.code
-                error.close()
-            except (OSError, http.client.HTTPException):
-                status = None
+            status = post.status(url, body, seconds)
             with self.changed:
                 if not self.ended:
                     self.guard(lambda: done(status))
         threading.Thread(target=run, daemon=True).start()
+        return post.cut
 
     def guard(self, action):
         """Calls it. If the board or a file fails, the program ends: what is known here would no longer be true of the board."""
@@ -392,7 +435,7 @@ class RealClock:
 class Handler(http.server.BaseHTTPRequestHandler):
     """The API, for one request."""
 
-    live = clock = None
+    live = clock = read = None
     protocol_version = "HTTP/1.1"
 
     def log_message(self, *_):
@@ -432,6 +475,8 @@ class Handler(http.server.BaseHTTPRequestHandler):
             raise Refused(f"{asked.query}: filters aren't supported")
         if method == "GET" and path in ("/-/ready", "/-/healthy"):
             return "OK"
+        if (method, path) == ("POST", "/-/reload"):
+            return live.reload(self.read)
         if (method, path) == ("POST", "/api/v2/alerts"):
             return live.post_alerts(body if isinstance(body, list) else [body])
         if (method, path) == ("GET", "/api/v2/alerts"):
@@ -457,24 +502,38 @@ def options():
     return parser.parse_args()
 
 
+def reload(live, clock, read):
+    """Reloads by a signal."""
+    with clock.changed:
+        try:
+            clock.guard(lambda: live.reload(read))
+        except Refused as error:
+            live.say(f"live: {error}")
+
+
+def on_signal(number, action, *arguments):
+    """Has an action done at a signal: in a thread, since the signal may come while this one changes what the lock guards."""
+    signal.signal(number, lambda *_: threading.Thread(target=action, args=arguments).start())
+
+
 def main():
     asked, clock = options(), RealClock()
+    read = lambda: Config(read_config(asked.config))
     host, _, port = asked.address.rpartition(":")
     try:
         server = http.server.ThreadingHTTPServer((host, int(port)), Handler)
     except (OSError, ValueError) as error:
         sys.exit(f"live: {asked.address}: {error}")
     try:
-        config = Config(read_config(asked.config))
         external = asked.external or f"http://{host or 'localhost'}:{port}"
-        live = Live(config, asked.board, clock, Path(asked.storage), external, lambda text: print(text, file=sys.stderr, flush=True))
+        live = Live(read(), asked.board, clock, Path(asked.storage), external, lambda text: print(text, file=sys.stderr, flush=True))
     except (OSError, ValueError, BoardError, Refused) as error:
         sys.exit(f"live: {asked.config}: {error}")
-    Handler.live, Handler.clock = live, clock
+    Handler.live, Handler.clock, Handler.read = live, clock, staticmethod(read)
     server.daemon_threads = True
     for it in (signal.SIGTERM, signal.SIGINT):
-        # (in a thread, since the signal may come while this one changes what the lock guards)
-        signal.signal(it, lambda *_: threading.Thread(target=clock.end).start())
+        on_signal(it, clock.end)
+    on_signal(signal.SIGHUP, reload, live, clock, read)
     threading.Thread(target=server.serve_forever, daemon=True).start()
     try:
         clock.run()

@@ -22,29 +22,46 @@ class Story:
     """A story: its configuration, how its receivers answer, and its steps, each at its second."""
 
     def __init__(self, name):
-        self.name, self.route, self.receivers, self.inhibit, self.timeout, self.differs, self.steps = name, {}, {"team": [{}]}, [], "5m", "", []
+        self.name, self.differs, self.sometimes, self.steps = name, "", "", []
+        self.settings = {"route": {}, "receivers": {"team": [{}]}, "inhibit": [], "timeout": "5m"}
 
     def read(self, line):
         word, _, rest = line.partition(" ")
         if word in ("route", "receivers", "inhibit"):
-            setattr(self, word, json.loads(rest))
-        elif word in ("timeout", "differs"):
+            self.settings[word] = json.loads(rest)
+        elif word == "timeout":
+            self.settings[word] = rest
+        elif word in ("differs", "sometimes"):
             setattr(self, word, rest)
         else:
             verb, _, asked = rest.strip().partition(" ")
             self.steps.append((float(word), verb, asked))
+            self.changes_of(self.steps[-1])
 
-    def config(self, url):
-        """The configuration, whose webhooks are below this URL."""
+    @staticmethod
+    def changes_of(step):
+        """What a reload or a restart changes of the configuration."""
+        _, verb, asked = step
+        changes = json.loads(asked.removeprefix("nothing") or "{}") if verb in ("reload", "hangup", "restart", "start") else {}
+        if unknown := {*changes} - {"route", "receivers", "inhibit", "timeout"}:
+            raise ValueError(f"a configuration has no {min(unknown)}")
+        return changes
+
+    def config(self, url, step=None):
+        """The configuration after this step, at first that of the story. Its webhooks are below this URL."""
+        settings = dict(self.settings)
+        for it in self.steps[:self.steps.index(step) + 1] if step else []:
+            settings |= self.changes_of(it)
         hooks = lambda name, all: [{"url": f"{url}/{name}/{i}"} | {k: it[k] for k in ("send_resolved", "max_alerts") if k in it}
                                    for i, it in enumerate(all)]
-        return {"global": {"resolve_timeout": self.timeout}, "route": ROUTE | self.route, "inhibit_rules": self.inhibit,
-                "receivers": [{"name": name, "webhook_configs": hooks(name, all)} for name, all in self.receivers.items()]}
+        return {"global": {"resolve_timeout": settings["timeout"]}, "route": ROUTE | settings["route"], "inhibit_rules": settings["inhibit"],
+                "receivers": [{"name": name, "webhook_configs": hooks(name, all)} for name, all in settings["receivers"].items()]}
 
     def answer(self, hook, attempt):
         """The status of the answer to an attempt (from 0) at a webhook, and the seconds that it takes."""
         name, _, place = hook.rpartition("/")
-        how = self.receivers[name][int(place)]
+        known = [self.settings, *map(self.changes_of, self.steps)]
+        how = next(it["receivers"][name][int(place)] for it in known if len(it.get("receivers", {}).get(name, [])) > int(place))
         answers, takes = how.get("answers", [200]), how.get("takes", [0])
         return answers[min(attempt, len(answers) - 1)], takes[min(attempt, len(takes) - 1)]
 
@@ -151,6 +168,8 @@ class PlayedClock:
             self.at(self.time + LATENCY + int(1000 * takes), lambda: done(status))
         else:
             self.at(self.time + int(1000 * seconds), lambda: done(None))
+        # (an answer to what was cut off is of no use to anybody)
+        return lambda: None
 
     def go(self, moment):
         """Calls what is due until then."""
@@ -162,26 +181,36 @@ class PlayedClock:
 
 def play(story, program, folder=None):
     """Plays a story, and returns its lines and the answers to its requests. A folder keeps the history."""
-    clock, names, statuses, config = PlayedClock(story), {}, [], Config(story.config("http://receivers"))
+    clock, names, statuses = PlayedClock(story), {}, []
+    config = lambda step=None: Config(story.config("http://receivers", step))
     with tempfile.TemporaryDirectory(prefix="live-") as temporary:
-        begin = lambda: live.Live(config, program, clock, Path(folder or temporary), say=lambda _: None)
+        data = Path(folder or temporary)
+        begin = lambda step=None: live.Live(config(step), program, clock, data, say=lambda _: None)
         core = begin()
         for step in story.steps:
             clock.go(START + int(1000 * step[0]))
-            if step[1] == "restart":
+            if step[1] in ("restart", "stop"):
                 core.close()
                 clock.events.clear()
-                core = begin()
-            elif step[1] != "end":
-                statuses.append(ask(core, request_of(step, START, names), names, step))
+            if step[1] in ("restart", "start"):
+                if step[2].startswith("nothing"):
+                    (data / "saved.json").unlink()
+                core = begin(step)
+            elif step[1] not in ("end", "stop"):
+                answer = ask(core, step, names, lambda: config(step))
+                # (nothing answers a signal)
+                statuses += [answer] if step[1] != "hangup" else []
         core.close()
     return clock.lines, statuses
 
 
-def ask(core, request, names, step):
-    """Makes a request of the core without HTTP, and returns its answer: the status, and whether a changed silence kept its id."""
-    method, path, body = request
+def ask(core, step, names, config):
+    """Makes the request of a step without HTTP, and returns its answer: the status, and whether a changed silence kept its id."""
     try:
+        if step[1] in ("reload", "hangup"):
+            core.reload(config)
+            return "200"
+        method, path, body = request_of(step, START, names)
         if path == "/api/v2/alerts":
             core.post_alerts(body)
         elif method == "POST":

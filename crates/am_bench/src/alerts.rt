@@ -3,16 +3,63 @@ use crate::requests::values;
 use crate::words::{Trouble, both};
 use am_alerts::alert::Alert;
 use am_alerts::labels::{LabelFault, Labels};
-use am_alerts::matcher::Matcher;
+use am_alerts::matcher::{Matcher, Operator};
 use am_alerts::text::Text;
 use am_mute::silence::Silence;
 use std::alloc::{AllocError, Global};
+use std::ops::Range;
 
 /// The severity of an alert that inhibits.
 pub const CRITICAL: &str = "critical";
 
 /// The severity of any other alert.
 pub const WARNING: &str = "warning";
+
+/// What long values begin with: 88 bytes.
+pub const WIDE: &str =
+    "/var/lib/containers/eu-west-1/production/platform-monitoring/prometheus-operator-agents/";
+
+/// From each alert to the next in another order: a prime above all numbers of alerts, so that each
+/// alert comes once.
+pub const STRIDE: usize = 104_729;
+
+/// The alerts of a piece.
+#[derive(Clone, Copy)]
+pub struct Load {
+    pub alerts: usize,
+    pub groups: usize,
+    /// What values begin with. Where it is empty, a label set has six labels, and else eight.
+    pub begin: &'static str,
+}
+
+impl Load {
+    /// The alerts at these places of an order, in which one comes so far behind another. Each is in
+    /// the group of its number modulo the number of groups.
+    pub fn build(
+        &self,
+        alloc: Global,
+        places: Range<usize>,
+        stride: usize,
+        ends: Option<u64>,
+    ) -> Result<Vec<Alert>, Trouble> {
+        let mut alerts = Vec::new(alloc);
+        for place in places {
+            let number = place
+                .saturating_mul(stride)
+                .checked_rem(self.alerts)
+                .unwrap_or(0);
+            let sample = Sample {
+                group: number.checked_rem(self.groups).unwrap_or(0),
+                number,
+                instance: number,
+                severity: WARNING,
+                begin: self.begin,
+            };
+            alerts.push(sample.build(alloc, ends)?)?;
+        }
+        Ok(alerts)
+    }
+}
 
 /// What tells one alert from another.
 #[derive(Drop)]
@@ -23,24 +70,31 @@ pub struct Sample {
     pub number: usize,
     pub instance: usize,
     pub severity: &'static str,
+    /// What the values of an instance and a job begin with, and of two more labels, if it isn't empty.
+    pub begin: &'static str,
 }
 
 impl Sample {
-    /// The alert of these numbers, which starts at 0.
+    /// The alert of these numbers, which starts so many milliseconds after 0.
     pub fn build(&self, alloc: Global, ends: Option<u64>) -> Result<Alert, Trouble> {
         let labels = self.labels(alloc)?;
-        Alert::new(labels, 0, ends).map_err(|_| Trouble::BadLine)
+        Alert::new(labels, self.number as u64, ends).map_err(|_| Trouble::BadLine)
     }
 
     fn labels(&self, alloc: Global) -> Result<Labels, Trouble> {
-        let names = both(alertname(alloc, self.group), instance(alloc, self.instance));
-        let ((alertname, instance), job) = both(names, job(alloc, self.number))?;
+        let begin = self.begin;
+        let names = both(
+            alertname(alloc, self.group),
+            instance(alloc, begin, self.instance),
+        );
+        let ((alertname, instance), job) = both(names, job(alloc, begin, self.number))?;
         let labels = labels(
             alloc,
             alertname.as_str(),
             instance.as_str(),
             job.as_str(),
             self.severity,
+            begin,
         );
         drop(job);
         drop(instance);
@@ -49,19 +103,22 @@ impl Sample {
     }
 }
 
-/// Six labels, four of which are given.
+/// Six labels, four of which are given, and two more of a value that isn't empty.
 fn labels<'a>(
     alloc: Global,
     alertname: &'a str,
     instance: &'a str,
     job: &'a str,
     severity: &'a str,
+    more: &'a str,
 ) -> Result<Labels, Trouble> {
     let pairs = [
         ("alertname", alertname),
         ("cluster", "eu-west-1"),
         ("instance", instance),
         ("job", job),
+        ("path", more),
+        ("pod", more),
         ("severity", severity),
         ("team", "platform"),
     ];
@@ -78,38 +135,23 @@ fn alertname(alloc: Global, number: usize) -> Result<String, Trouble> {
 }
 
 /// The label value of an instance.
-fn instance(alloc: Global, number: usize) -> Result<String, Trouble> {
-    Ok(format!(in alloc; "host-{number:05}:9100")?)
+fn instance(alloc: Global, begin: &str, number: usize) -> Result<String, Trouble> {
+    Ok(format!(in alloc; "{begin}host-{number:05}:9100")?)
 }
 
 /// The label value of a job.
-fn job(alloc: Global, number: usize) -> Result<String, Trouble> {
-    Ok(format!(in alloc; "exporter-{number:05}")?)
-}
-
-/// So many alerts, each of which is in the group of its number modulo the number of groups.
-pub fn spread(
-    alloc: Global,
-    count: usize,
-    groups: usize,
-    ends: Option<u64>,
-) -> Result<Vec<Alert>, Trouble> {
-    let mut alerts = Vec::new(alloc);
-    for number in 0..count {
-        let sample = Sample {
-            group: number.checked_rem(groups).unwrap_or(0),
-            number,
-            instance: number,
-            severity: WARNING,
-        };
-        alerts.push(sample.build(alloc, ends)?)?;
-    }
-    Ok(alerts)
+fn job(alloc: Global, begin: &str, number: usize) -> Result<String, Trouble> {
+    Ok(format!(in alloc; "{begin}exporter-{number:05}")?)
 }
 
 /// Matches the label sets in which this label has this value, in a list.
 pub fn matchers(alloc: Global, name: &str, value: &str) -> Result<Vec<Matcher>, Trouble> {
     Ok(values::matchers(alloc, name, value)?)
+}
+
+/// Matches the label sets in which a pattern matches this label, in a list.
+pub fn patterns(alloc: Global, name: &str, pattern: &str) -> Result<Vec<Matcher>, Trouble> {
+    Ok(values::matchers_by(alloc, name, Operator::Like, pattern)?)
 }
 
 /// The text of a name or a value.
@@ -126,7 +168,7 @@ pub fn listed<T: Drop>(alloc: Global, value: T) -> Result<Vec<T>, AllocError> {
 
 /// The silence of this id, which mutes an instance up to a moment.
 pub fn silence(alloc: Global, id: u64, number: usize, end: u64) -> Result<Silence, Trouble> {
-    let value = instance(alloc, number)?;
+    let value = instance(alloc, "", number)?;
     let matchers = matchers(alloc, "instance", value.as_str());
     drop(value);
     Silence::new(id, matchers?, 0, end).map_err(|_| Trouble::BadLine)

@@ -1,6 +1,7 @@
 //! The configuration of a board.
-use crate::alerts::{CRITICAL, WARNING, listed, matchers, text};
+use crate::alerts::{CRITICAL, WARNING, listed, matchers, patterns, text};
 use crate::words::{Trouble, both};
+use am_alerts::matcher::Matcher;
 use am_alerts::route::{Child, GroupBy, Route, Routes};
 use am_alerts::sequence::Sequence;
 use am_alerts::text::Text;
@@ -17,6 +18,9 @@ pub const INTERVAL: u64 = 300_000;
 /// When a notice is repeated, in milliseconds.
 pub const REPEAT: u64 = 14_400_000;
 
+/// How many routes an alert goes to at most.
+const FAN: usize = 16;
+
 /// Longer than any piece takes, in milliseconds.
 const LONG: u64 = 1_000_000_000;
 
@@ -32,6 +36,20 @@ pub fn inhibiting(alloc: Global) -> Result<Config, Trouble> {
     let critical = critical(alloc)?;
     let routes = routes(alloc, critical);
     let ((routes, receivers), rules) = both(both(routes, receivers(alloc)), rules(alloc))?;
+    Ok(config(routes, receivers, rules))
+}
+
+/// The same as `plain`, with 16 routes that each alert goes to, one after the other.
+pub fn fanned(alloc: Global) -> Result<Config, Trouble> {
+    let children = fan(alloc)?;
+    let (routes, receivers) = both(routes(alloc, children), receivers(alloc))?;
+    Ok(config(routes, receivers, Vec::new(alloc)))
+}
+
+/// The same as `plain`, with so many rules of which both sides have a pattern.
+pub fn patterned(alloc: Global, rules: usize) -> Result<Config, Trouble> {
+    let rules = pattern_rules(alloc, rules)?;
+    let (routes, receivers) = both(routes(alloc, Vec::new(alloc)), receivers(alloc))?;
     Ok(config(routes, receivers, rules))
 }
 
@@ -86,14 +104,41 @@ fn route(alloc: Global, name: &str, group_wait: u64) -> Result<Route, Trouble> {
 
 /// The route of critical alerts, in a list.
 fn critical(alloc: Global) -> Result<Vec<Child>, Trouble> {
-    let matchers = matchers(alloc, "severity", CRITICAL);
-    let (route, matchers) = both(route(alloc, "critical", LONG), matchers)?;
-    let child = Child {
+    let child = child(alloc, "critical", LONG, CRITICAL, false)?;
+    Ok(listed(alloc, child)?)
+}
+
+/// Routes of warnings, after each of which the next one is tried.
+fn fan(alloc: Global) -> Result<Vec<Child>, Trouble> {
+    let mut children = Vec::new(alloc);
+    for number in 0..FAN {
+        children.push(numbered(alloc, number)?)?;
+    }
+    Ok(children)
+}
+
+fn numbered(alloc: Global, number: usize) -> Result<Child, Trouble> {
+    let name = format!(in alloc; "r{number}")?;
+    let child = child(alloc, name.as_str(), WAIT, WARNING, true);
+    drop(name);
+    child
+}
+
+/// The route of a severity.
+fn child(
+    alloc: Global,
+    name: &str,
+    group_wait: u64,
+    severity: &str,
+    goes_on: bool,
+) -> Result<Child, Trouble> {
+    let matchers = matchers(alloc, "severity", severity);
+    let (route, matchers) = both(route(alloc, name, group_wait), matchers)?;
+    Ok(Child {
         route,
         matchers: Sequence::from(matchers),
-        goes_on: false,
-    };
-    Ok(listed(alloc, child)?)
+        goes_on,
+    })
 }
 
 /// The rule, in a list.
@@ -105,6 +150,26 @@ fn rules(alloc: Global) -> Result<Vec<InhibitRule>, Trouble> {
 fn rule(alloc: Global) -> Result<InhibitRule, Trouble> {
     let source = matchers(alloc, "severity", CRITICAL);
     let matchers = both(source, matchers(alloc, "severity", WARNING));
+    rule_of(alloc, matchers)
+}
+
+/// Rules of which both sides have a pattern.
+fn pattern_rules(alloc: Global, count: usize) -> Result<Vec<InhibitRule>, Trouble> {
+    let mut rules = Vec::new(alloc);
+    for _ in 0..count {
+        let source = patterns(alloc, "severity", "critical|page");
+        let matchers = both(source, patterns(alloc, "severity", "warning|info"));
+        rules.push(rule_of(alloc, matchers)?)?;
+    }
+    Ok(rules)
+}
+
+/// The rule by which alerts that match one list inhibit those of their cluster and instance that match
+/// the other.
+fn rule_of(
+    alloc: Global,
+    matchers: Result<(Vec<Matcher>, Vec<Matcher>), Trouble>,
+) -> Result<InhibitRule, Trouble> {
     let ((source, target), equal) = both(matchers, names(alloc, &["cluster", "instance"]))?;
     InhibitRule::new(source, target, equal).map_err(|_| Trouble::BadLine)
 }

@@ -3,17 +3,19 @@ ghost use Rattle.std.specs.Prelude.{◌≡◌};
 ghost use Rattle.am_bench.specs.declared.desk.TheConstants.{HOME};
 
 use crate::tally::Tally;
+use crate::watch::Longest;
 use am_alerts::alert::Alert;
 use am_board::begin::Begun;
 use am_board::board::Board;
 use am_board::config::{Config, MAX_GROUPS};
-use am_board::fault::{BoardFault, Fault};
+use am_board::fault::{BoardFault, Fault, TakeFault};
 use am_board::notice::Report;
 use am_board::own_ticket::OwnTicket;
-use am_board::record::{Forgotten, Maintained};
+use am_board::record::{Forgotten, Maintained, Record};
 use am_mute::silence::Silence;
 use am_retry::Outcome;
 use std::alloc::Global;
+use std::time::CpuClock;
 
 /// The id of the board, which its tickets name.
 const HOME: u64 = 1;
@@ -25,29 +27,51 @@ const PASS: u32 = 0;
 #[derive(Drop)]
 pub struct Desk {
     board: Board,
+    /// Of the inserts, or of the begins.
+    pub calls: Longest,
+    pub finishes: Longest,
     ghost ours: { board.id ≡ HOME },
 }
 
 impl Desk {
-    /// A board of this configuration, with nothing in it.
-    pub fn open(alloc: Global, config: Config) -> Result<Desk, BoardFault> {
+    /// A board of this configuration, with nothing in it, of which each call is timed or none.
+    pub fn open(alloc: Global, config: Config, is_timed: bool) -> Result<Desk, BoardFault> {
         let board = Board::new(alloc, config, HOME)?;
-        Ok(Desk { board })
+        let (calls, finishes) = (Longest::new(is_timed), Longest::new(is_timed));
+        Ok(Desk {
+            board,
+            calls,
+            finishes,
+        })
     }
 
-    /// Inserts alerts, in their order. Answers how many groups were made for them.
+    /// Inserts alerts, in their order, a millisecond apart. Answers how many groups were made for them.
     pub fn insert_all(
         &mut self,
+        clock: &impl CpuClock,
         alloc: Global,
         now: u64,
         alerts: Vec<Alert>,
     ) -> Result<usize, Fault> {
         let mut made: usize = 0;
-        for alert in alerts {
-            let inserted = self.board.insert(alloc, PASS, now, alert)?;
-            made = made.saturating_add(inserted.made);
+        for (number, alert) in alerts.into_iter().enumerate() {
+            let now = now.saturating_add(number as u64);
+            made = made.saturating_add(self.insert(clock, alloc, now, alert)?);
         }
         Ok(made)
+    }
+
+    fn insert(
+        &mut self,
+        clock: &impl CpuClock,
+        alloc: Global,
+        now: u64,
+        alert: Alert,
+    ) -> Result<usize, Fault> {
+        let started = self.calls.start(clock);
+        let inserted = self.board.insert(alloc, PASS, now, alert);
+        self.calls.stop(clock, started);
+        Ok(inserted?.made)
     }
 
     /// Sets silences, in their order. Answers how many replaced one.
@@ -66,12 +90,19 @@ impl Desk {
         Ok(replaced)
     }
 
-    /// Flushes each group that is due; each notice is delivered. A group that was flushed isn't due
-    /// at the same moment again, so that there are no more begins than groups, and one that finds none.
-    pub fn flush_all(&mut self, alloc: Global, now: u64) -> Result<Tally, Fault> {
+    /// Flushes each group that is due, a millisecond apart; each notice is delivered. A group that was
+    /// flushed isn't due again before all are, so that there are no more begins than groups, and one that
+    /// finds none.
+    pub fn flush_all(
+        &mut self,
+        clock: &impl CpuClock,
+        alloc: Global,
+        now: u64,
+    ) -> Result<Tally, Fault> {
         let mut tally = Tally::new();
-        for _ in 0..=MAX_GROUPS {
-            if !self.flush_next(alloc, now, &mut tally)? {
+        for number in 0..=MAX_GROUPS {
+            let now = now.saturating_add(number as u64);
+            if !self.flush_next(clock, alloc, now, &mut tally)? {
                 break;
             }
         }
@@ -79,15 +110,24 @@ impl Desk {
     }
 
     /// Flushes the group that is due first. Answers whether there was one.
-    fn flush_next(&mut self, alloc: Global, now: u64, tally: &mut Tally) -> Result<bool, Fault> {
-        match self.board.begin(alloc, PASS, now) {
+    fn flush_next(
+        &mut self,
+        clock: &impl CpuClock,
+        alloc: Global,
+        now: u64,
+        tally: &mut Tally,
+    ) -> Result<bool, Fault> {
+        let started = self.calls.start(clock);
+        let begun = self.board.begin(alloc, PASS, now);
+        self.calls.stop(clock, started);
+        match begun {
             Ok(Begun::NothingDue) => Ok(false),
             Ok(Begun::Quiet { group: _, removed }) => {
                 tally.add_quiet(removed);
                 Ok(true)
             }
             Ok(Begun::Flush(ticket)) => {
-                self.send(OwnTicket::new(ticket), now, tally);
+                self.send(clock, OwnTicket::new(ticket), now, tally);
                 Ok(true)
             }
             Err(fault) => Err(fault),
@@ -95,10 +135,13 @@ impl Desk {
     }
 
     /// Records each notice as delivered, and finishes the flush.
-    fn send(&mut self, own: OwnTicket<HOME>, now: u64, tally: &mut Tally) {
+    fn send(&mut self, clock: &impl CpuClock, own: OwnTicket<HOME>, now: u64, tally: &mut Tally) {
         let mut own = own;
         deliver_all(&mut own, now, tally);
-        match self.board.finish_own(PASS, own, now) {
+        let started = self.finishes.start(clock);
+        let finished = self.board.finish_own(PASS, own, now);
+        self.finishes.stop(clock, started);
+        match finished {
             Ok(finished) => tally.add_flush(finished.removed),
             Err(_not_open) => tally.add_flush(0),
         }
@@ -112,6 +155,11 @@ impl Desk {
     /// Forgets alerts that are resolved and in no group, and silences that are over.
     pub fn forget(&mut self, alloc: Global, now: u64) -> Result<Forgotten, Fault> {
         self.board.forget(alloc, PASS, now)
+    }
+
+    /// Hands the records out.
+    pub fn take_history(&mut self, alloc: Global) -> Result<Vec<Record>, TakeFault> {
+        self.board.take_history(alloc)
     }
 }
 

@@ -1,27 +1,45 @@
-//! Inserts, flushes and a maintenance, without silences and rules.
-use crate::alerts::spread;
-use crate::config::{REPEAT, plain};
+//! Inserts, flushes and a maintenance, without silences.
+use crate::alerts::{Load, STRIDE};
+use crate::config::{INTERVAL, REPEAT};
 use crate::desk::Desk;
 use crate::piece::{FIRST, SECOND, THIRD, flush, insert};
+use crate::storm::take_history;
 use crate::watch::Watch;
 use crate::words::Trouble;
+use am_board::config::Config;
 use am_board::record::{Forgotten, Maintained};
 use std::alloc::Global;
 use std::rt::Clock;
 use std::time::CpuClock;
 
-/// When the rows of the last flush have expired, in milliseconds.
-const EXPIRED: u64 = THIRD + 2 * REPEAT;
+/// When the same alerts come again, in milliseconds.
+const AGAIN: u64 = 100_000;
 
-/// Runs the piece on so many alerts in so many groups.
+/// When they come in another order.
+const ANOTHER: u64 = 200_000;
+
+/// When one alert has an end.
+const ONE: u64 = SECOND + 100_000;
+
+/// When all have one.
+const ALL: u64 = THIRD + 100_000;
+
+/// When they are due for the fourth time.
+const FOURTH: u64 = THIRD + INTERVAL;
+
+/// When the rows of the last flush have expired.
+const EXPIRED: u64 = FOURTH + 2 * REPEAT + 100_000;
+
+/// Runs the piece on a board of this configuration, of which each call is timed or none.
 pub fn run_flushes(
     rt: &(impl Print + Eprint + Clock + CpuClock),
     alloc: Global,
-    alerts: usize,
-    groups: usize,
+    config: Config,
+    is_timed: bool,
+    load: Load,
 ) -> Result<(), Trouble> {
-    let mut desk = Desk::open(alloc, plain(alloc)?)?;
-    let ran = run_steps(rt, alloc, &mut desk, alerts, groups);
+    let mut desk = Desk::open(alloc, config, is_timed)?;
+    let ran = run_steps(rt, alloc, &mut desk, &load);
     drop(desk);
     ran
 }
@@ -30,27 +48,42 @@ fn run_steps(
     rt: &(impl Print + Eprint + Clock + CpuClock),
     alloc: Global,
     desk: &mut Desk,
-    alerts: usize,
-    groups: usize,
+    load: &Load,
 ) -> Result<(), Trouble> {
-    insert_twice(rt, alloc, desk, alerts, groups)?;
-    flush(rt, alloc, desk, "first flush", FIRST, alerts)?;
-    flush(rt, alloc, desk, "quiet flush", SECOND, alerts)?;
-    end_all(rt, alloc, desk, alerts, groups)
+    insert_thrice(rt, alloc, desk, load)?;
+    take_history(rt, alloc, desk)?;
+    flush(rt, alloc, desk, "first flush", FIRST, load.alerts)?;
+    flush(rt, alloc, desk, "quiet flush", SECOND, load.alerts)?;
+    end_one(rt, alloc, desk, load)?;
+    end_all(rt, alloc, desk, load)
 }
 
-/// Inserts alerts that are new, and the same again.
-fn insert_twice(
+/// Inserts alerts that are new, and the same again, in their order and in another.
+fn insert_thrice(
     rt: &(impl Print + Eprint + Clock + CpuClock),
     alloc: Global,
     desk: &mut Desk,
-    alerts: usize,
-    groups: usize,
+    load: &Load,
 ) -> Result<(), Trouble> {
-    let new = spread(alloc, alerts, groups, None)?;
+    let new = load.build(alloc, 0..load.alerts, 1, None)?;
     insert(rt, alloc, desk, "new inserts", 0, new)?;
-    let same = spread(alloc, alerts, groups, None)?;
-    insert(rt, alloc, desk, "the same again", 0, same)
+    let same = load.build(alloc, 0..load.alerts, 1, None)?;
+    insert(rt, alloc, desk, "the same again", AGAIN, same)?;
+    let other = load.build(alloc, 0..load.alerts, STRIDE, None)?;
+    insert(rt, alloc, desk, "in another order", ANOTHER, other)
+}
+
+/// Inserts the first alert with an end, flushes it, and forgets it.
+fn end_one(
+    rt: &(impl Print + Eprint + Clock + CpuClock),
+    alloc: Global,
+    desk: &mut Desk,
+    load: &Load,
+) -> Result<(), Trouble> {
+    let ended = load.build(alloc, 0..1, 1, Some(ONE))?;
+    insert(rt, alloc, desk, "one end", ONE, ended)?;
+    flush(rt, alloc, desk, "its flush", THIRD, load.alerts)?;
+    forget(rt, alloc, desk, "forgetting one", THIRD)
 }
 
 /// Inserts the same alerts with an end, flushes them, collects what is left of them, and forgets them.
@@ -58,14 +91,13 @@ fn end_all(
     rt: &(impl Print + Eprint + Clock + CpuClock),
     alloc: Global,
     desk: &mut Desk,
-    alerts: usize,
-    groups: usize,
+    load: &Load,
 ) -> Result<(), Trouble> {
-    let ended = spread(alloc, alerts, groups, Some(SECOND))?;
-    insert(rt, alloc, desk, "ends", SECOND, ended)?;
-    let tally = flush(rt, alloc, desk, "resolved flush", THIRD, alerts)?;
+    let ended = load.build(alloc, 0..load.alerts, STRIDE, Some(ALL))?;
+    insert(rt, alloc, desk, "ends", ALL, ended)?;
+    let tally = flush(rt, alloc, desk, "resolved flush", FOURTH, load.alerts)?;
     collect(rt, alloc, desk, tally.flushed)?;
-    forget(rt, alloc, desk, alerts)
+    forget(rt, alloc, desk, "forgetting", EXPIRED)
 }
 
 /// Has the board drop so many empty groups and the rows of their flushes.
@@ -87,21 +119,22 @@ fn tell_maintained(rt: &impl Print, maintained: Maintained) -> Result<(), Troubl
     Ok(())
 }
 
-/// Has the board forget so many alerts.
+/// Has the board forget alerts.
 fn forget(
     rt: &(impl Print + Eprint + Clock + CpuClock),
     alloc: Global,
     desk: &mut Desk,
-    alerts: usize,
+    step: &str,
+    now: u64,
 ) -> Result<(), Trouble> {
     let watch = Watch::start(rt);
-    let forgotten = desk.forget(alloc, EXPIRED)?;
-    watch.stop(rt, "forgetting", alerts);
-    tell_forgotten(rt, forgotten)
+    let forgotten = desk.forget(alloc, now)?;
+    watch.stop(rt, step, forgotten.alerts);
+    tell_forgotten(rt, step, forgotten)
 }
 
-fn tell_forgotten(rt: &impl Print, forgotten: Forgotten) -> Result<(), Trouble> {
+fn tell_forgotten(rt: &impl Print, step: &str, forgotten: Forgotten) -> Result<(), Trouble> {
     let (alerts, silences) = (forgotten.alerts, forgotten.silences);
-    println!(rt; "forgetting: alerts {alerts}, silences {silences}")?;
+    println!(rt; "{step}: alerts {alerts}, silences {silences}")?;
     Ok(())
 }

@@ -19,7 +19,7 @@ pub fn run_inhibition(
     sources: usize,
     targets: usize,
 ) -> Result<(), Trouble> {
-    let mut desk = Desk::open(alloc, inhibiting(alloc)?)?;
+    let mut desk = Desk::open(alloc, inhibiting(alloc)?, false)?;
     let ran = run_steps(rt, alloc, &mut desk, sources, targets);
     drop(desk);
     ran
@@ -49,6 +49,7 @@ fn build_sources(alloc: Global, count: usize) -> Result<Vec<Alert>, Trouble> {
             number,
             instance: number,
             severity: CRITICAL,
+            begin: "",
         };
         alerts.push(sample.build(alloc, None)?)?;
     }
@@ -65,6 +66,7 @@ fn build_targets(alloc: Global, count: usize, sources: usize) -> Result<Vec<Aler
             number,
             instance: sources.saturating_sub(back),
             severity: WARNING,
+            begin: "",
         };
         alerts.push(sample.build(alloc, None)?)?;
     }

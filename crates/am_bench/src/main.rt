@@ -3,22 +3,33 @@
 //!
 //! Each line of the standard input names a piece and its sizes, one space apart:
 //!
-//! - `flushes ALERTS GROUPS`: new inserts, the same again, a first flush of all groups, a quiet one,
-//!   inserts of the same alerts with an end, a flush by which all of them leave, a maintenance that
-//!   drops all groups and rows, and a forgetting of all alerts.
+//! - `flushes ALERTS GROUPS`: new inserts, the same again, in their order and in another; a
+//!   `take_history`; a first flush of all groups, and a quiet one; one alert gets an end, is flushed and
+//!   forgotten, while all others stay; inserts of the same alerts with an end, in that other order; a
+//!   flush by which all of them leave; a maintenance that drops all groups and rows, and a forgetting of
+//!   all alerts.
+//! - `longest ALERTS GROUPS`: the same, with each insert, begin and finish timed, and the longest told.
+//! - `wide ALERTS GROUPS`: the same with eight labels, of which four have values of some 100 bytes.
+//! - `routes ALERTS GROUPS`: the same where each alert goes to 16 routes, so many groups of each.
+//! - `patterns ALERTS GROUPS RULES`: the same with so many inhibition rules. Both sides of each have a
+//!   pattern, and there is no source.
+//! - `storm ALERTS GROUPS ROUNDS`: new inserts; the same alerts again in so many rounds; a
+//!   `take_history`; as many rounds, and a `take_history`.
+//! - `desk ALERTS GROUPS THREADS`: new inserts, the same in another order, a first flush and a quiet one,
+//!   through a desk (`lanes`) by so many threads at once, 16 at most. Here the wall's clock counts.
 //! - `inhibition SOURCES TARGETS`: a flush of groups of 16 targets; for each target there is one
 //!   source that inhibits it, for the first one the last source that came, for the next one the source
 //!   before that, and so on.
-//! - `silences SILENCES ALERTS GROUPS`: a first flush of all groups after the silences were set, a
+//! - `silences ALERTS GROUPS SILENCES`: a first flush of all groups after the silences were set, a
 //!   quiet one, and one after one of the silences was changed. Every eleventh alert has a silence
 //!   that mutes it, as long as there are silences.
 //! - `requests`: calls that promise to take no memory, and some that take it (`requests`). Nothing is
 //!   timed.
 //!
 //! Alerts are built before the calls that are timed. Each piece has a board of its own. A label set
-//! has six labels, and a group is of one alertname and cluster. What the calls came to is written to
-//! the standard output, the same at each run. Times go to the standard error, and those of flushes
-//! are for each alert of the groups.
+//! has six labels, and a group is of one alertname and cluster. Inserts and begins are a millisecond
+//! apart. What the calls came to is written to the standard output, the same at each run. Times go to the
+//! standard error: for each insert, for each alert of the flushed groups, and for all.
 #![tactic(auto)]
 
 mod alerts;
@@ -26,9 +37,11 @@ mod config;
 mod desk;
 mod flushes;
 mod inhibition;
+mod lanes;
 mod piece;
 mod requests;
 mod silences;
+mod storm;
 mod tally;
 mod watch;
 mod words;
@@ -38,6 +51,7 @@ use requests::probe::Probe;
 use std::alloc::Global;
 use std::rt::Clock;
 use std::sync::Wait;
+use std::thread::Threads;
 use std::time::CpuClock;
 use words::Trouble;
 
@@ -50,7 +64,7 @@ fn main(rt: HostRuntime) -> Result<(), Trouble> {
 }
 
 /// Runs the pieces that the lines of the input name, one after the other.
-fn run_all<R: Input + Print + Eprint + Clock + CpuClock + Wait>(
+fn run_all<R: Input + Print + Eprint + Clock + CpuClock + Threads + Wait + Sync>(
     rt: &R,
     probe: &Probe,
     alloc: Global,

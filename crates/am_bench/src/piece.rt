@@ -1,29 +1,35 @@
 //! Pieces: which one a line asks for, and the steps that they have in common.
-use crate::config::{INTERVAL, WAIT};
+use crate::alerts::{Load, WIDE};
+use crate::config::{INTERVAL, fanned, patterned, plain};
 use crate::desk::Desk;
 use crate::flushes::run_flushes;
 use crate::inhibition::run_inhibition;
+use crate::lanes::run_lanes;
 use crate::silences::run_silences;
+use crate::storm::run_storm;
 use crate::tally::Tally;
 use crate::watch::Watch;
 use crate::words::{Trouble, Words};
 use am_alerts::alert::Alert;
 use std::alloc::Global;
 use std::rt::Clock;
+use std::sync::Wait;
+use std::thread::Threads;
 use std::time::CpuClock;
 
-/// When a group of which alerts came at 0 is due for the first time, in milliseconds.
-pub const FIRST: u64 = WAIT;
+/// When all alerts that came from 0 on are due for the first time, in milliseconds. A step takes a
+/// millisecond for each alert or group, and there are 65,536 alerts at most.
+pub const FIRST: u64 = 300_000;
 
-/// When it is due for the second time.
+/// When they are due for the second time.
 pub const SECOND: u64 = FIRST + INTERVAL;
 
-/// When it is due for the third time.
+/// When they are due for the third time.
 pub const THIRD: u64 = SECOND + INTERVAL;
 
 /// Runs the piece that a line names.
-pub fn run_line(
-    rt: &(impl Print + Eprint + Clock + CpuClock),
+pub fn run_line<R: Print + Eprint + Clock + CpuClock + Threads + Wait + Sync>(
+    rt: &R,
     alloc: Global,
     line: &str,
 ) -> Result<(), Trouble> {
@@ -31,11 +37,44 @@ pub fn run_line(
     let name = words.word();
     let first = words.size()?;
     let second = words.size()?;
+    let load = Load {
+        alerts: first,
+        groups: second,
+        begin: "",
+    };
     tell_line(rt, line)?;
     match name {
-        "flushes" => run_flushes(rt, alloc, first, second),
+        "storm" => run_storm(rt, alloc, load, words.size()?),
+        "desk" => run_lanes(rt, alloc, load, words.size()?),
         "inhibition" => run_inhibition(rt, alloc, first, second),
-        "silences" => run_silences(rt, alloc, first, second, words.size()?),
+        "silences" => run_silences(rt, alloc, load, words.size()?),
+        _ => run_kind(rt, alloc, name, load, &mut words),
+    }
+}
+
+/// Runs the steps of `flushes` on a board and alerts of some kind.
+fn run_kind(
+    rt: &(impl Print + Eprint + Clock + CpuClock),
+    alloc: Global,
+    name: &str,
+    load: Load,
+    words: &mut Words<'_>,
+) -> Result<(), Trouble> {
+    match name {
+        "flushes" => run_flushes(rt, alloc, plain(alloc)?, false, load),
+        "longest" => run_flushes(rt, alloc, plain(alloc)?, true, load),
+        "wide" => run_flushes(
+            rt,
+            alloc,
+            plain(alloc)?,
+            false,
+            Load {
+                begin: WIDE,
+                ..load
+            },
+        ),
+        "routes" => run_flushes(rt, alloc, fanned(alloc)?, false, load),
+        "patterns" => run_flushes(rt, alloc, patterned(alloc, words.size()?)?, false, load),
         _ => Err(Trouble::BadLine),
     }
 }
@@ -47,7 +86,7 @@ fn tell_line(rt: &(impl Print + Eprint), line: &str) -> Result<(), Trouble> {
     Ok(())
 }
 
-/// Inserts alerts at a moment.
+/// Inserts alerts from a moment on.
 pub fn insert(
     rt: &(impl Print + Eprint + Clock + CpuClock),
     alloc: Global,
@@ -58,8 +97,9 @@ pub fn insert(
 ) -> Result<(), Trouble> {
     let count = alerts.len();
     let watch = Watch::start(rt);
-    let made = desk.insert_all(alloc, now, alerts)?;
+    let made = desk.insert_all(rt, alloc, now, alerts)?;
     watch.stop(rt, step, count);
+    desk.calls.tell(rt, "insert");
     tell_made(rt, step, count, made)
 }
 
@@ -68,7 +108,7 @@ fn tell_made(rt: &impl Print, step: &str, count: usize, made: usize) -> Result<(
     Ok(())
 }
 
-/// Flushes all groups that are due at a moment, which have so many alerts.
+/// Flushes all groups that are due from a moment on, which have so many alerts.
 pub fn flush(
     rt: &(impl Print + Eprint + Clock + CpuClock),
     alloc: Global,
@@ -78,8 +118,10 @@ pub fn flush(
     alerts: usize,
 ) -> Result<Tally, Trouble> {
     let watch = Watch::start(rt);
-    let tally = desk.flush_all(alloc, now)?;
+    let tally = desk.flush_all(rt, alloc, now)?;
     watch.stop(rt, step, alerts);
+    desk.calls.tell(rt, "begin");
+    desk.finishes.tell(rt, "finish");
     tell_tally(rt, step, &tally)?;
     Ok(tally)
 }

@@ -7,7 +7,7 @@
 
 mod alerts;
 mod board;
-mod delivery;
+pub mod delivery;
 mod desk;
 mod labels;
 mod log;

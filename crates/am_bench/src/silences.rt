@@ -1,5 +1,5 @@
 //! Alerts beside silences.
-use crate::alerts::{listed, silence, spread};
+use crate::alerts::{Load, STRIDE, listed, silence};
 use crate::config::plain;
 use crate::desk::Desk;
 use crate::piece::{FIRST, SECOND, THIRD, flush, insert, tell_muted};
@@ -13,16 +13,15 @@ use std::time::CpuClock;
 /// One alert of so many has a silence.
 const STEP: usize = 11;
 
-/// Runs the piece on so many silences, and so many alerts in so many groups.
+/// Runs the piece on so many silences.
 pub fn run_silences(
     rt: &(impl Print + Eprint + Clock + CpuClock),
     alloc: Global,
+    load: Load,
     silences: usize,
-    alerts: usize,
-    groups: usize,
 ) -> Result<(), Trouble> {
-    let mut desk = Desk::open(alloc, plain(alloc)?)?;
-    let ran = run_steps(rt, alloc, &mut desk, silences, alerts, groups);
+    let mut desk = Desk::open(alloc, plain(alloc)?, false)?;
+    let ran = run_steps(rt, alloc, &mut desk, &load, silences);
     drop(desk);
     ran
 }
@@ -31,15 +30,14 @@ fn run_steps(
     rt: &(impl Print + Eprint + Clock + CpuClock),
     alloc: Global,
     desk: &mut Desk,
+    load: &Load,
     silences: usize,
-    alerts: usize,
-    groups: usize,
 ) -> Result<(), Trouble> {
     let set = build_silences(alloc, silences)?;
     mute(rt, alloc, desk, "new silences", set)?;
-    let new = spread(alloc, alerts, groups, None)?;
+    let new = load.build(alloc, 0..load.alerts, STRIDE, None)?;
     insert(rt, alloc, desk, "new inserts", 0, new)?;
-    flush_thrice(rt, alloc, desk, alerts)
+    flush_thrice(rt, alloc, desk, load.alerts)
 }
 
 /// Flushes all groups under the new silences, under the same, and under one that was changed.

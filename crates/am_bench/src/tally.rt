@@ -40,6 +40,15 @@ impl Tally {
         self.flushed = self.flushed.saturating_add(1);
         self.left = self.left.saturating_add(removed);
     }
+
+    /// Adds what another thread's calls came to.
+    pub fn add(&mut self, other: &Tally) {
+        self.flushed = self.flushed.saturating_add(other.flushed);
+        self.quiet = self.quiet.saturating_add(other.quiet);
+        self.notices = self.notices.saturating_add(other.notices);
+        self.told = self.told.saturating_add(other.told);
+        self.left = self.left.saturating_add(other.left);
+    }
 }
 
 impl Display for Tally {

@@ -26,19 +26,23 @@ impl Watch {
     }
 
     /// Ends the step, and tells how long it took for each of so many: by the wall's clock, and of a
-    /// processor. Where a clock or the standard error fails nothing is told.
+    /// processor; and the processor's time of all. Where a clock or the standard error fails nothing is
+    /// told.
     pub fn stop(&self, rt: &(impl Eprint + Clock + CpuClock), step: &str, count: usize) {
         let ended = look(rt);
         if let (Some(started), Some(ended)) = (self.started, ended) {
             let wall = each(ended.wall.duration_since(started.wall), count);
-            let processor = each(ended.processor.saturating_sub(started.processor), count);
+            let processor = ended.processor.saturating_sub(started.processor);
             tell(rt, step, count, wall, processor);
         }
     }
 }
 
-fn tell(rt: &impl Eprint, step: &str, count: usize, wall: u128, processor: u128) {
-    let _ = eprintln!(rt; "{step}: {count}, each {wall} ns, of a processor {processor} ns");
+fn tell(rt: &impl Eprint, step: &str, count: usize, wall: u128, processor: Duration) {
+    let (each, all) = (each(processor, count), processor.as_micros());
+    let _ = eprintln!(rt;
+        "{step}: {count}, each {wall} ns, of a processor {each} ns, all {all} us"
+    );
 }
 
 fn look(clock: &(impl Clock + CpuClock)) -> Option<Moment> {
@@ -51,4 +55,47 @@ fn look(clock: &(impl Clock + CpuClock)) -> Option<Moment> {
 /// How many nanoseconds that is for each of so many.
 fn each(duration: Duration, count: usize) -> u128 {
     duration.as_nanos().checked_div(count as u128).unwrap_or(0)
+}
+
+/// The longest that one call took.
+#[derive(Clone, Copy)]
+pub struct Longest {
+    /// Whether calls are timed one by one. That costs some 500 ns a call.
+    is_on: bool,
+    /// Of a processor.
+    time: Duration,
+}
+
+impl Longest {
+    pub fn new(is_on: bool) -> Longest {
+        Longest {
+            is_on,
+            time: Duration::ZERO,
+        }
+    }
+
+    /// The processor's time before a call. Nothing where calls aren't timed.
+    pub fn start(&self, clock: &impl CpuClock) -> Option<Duration> {
+        if self.is_on {
+            clock.thread_cpu_time().ok()
+        } else {
+            None
+        }
+    }
+
+    /// Notes how long a call took that began at this time.
+    pub fn stop(&mut self, clock: &impl CpuClock, started: Option<Duration>) {
+        if let (Some(started), Ok(ended)) = (started, clock.thread_cpu_time()) {
+            self.time = self.time.max(ended.saturating_sub(started));
+        }
+    }
+
+    /// Tells the longest call, if calls are timed, and begins anew.
+    pub fn tell(&mut self, rt: &impl Eprint, call: &str) {
+        if self.is_on {
+            let longest = self.time.as_nanos();
+            let _ = eprintln!(rt; "longest {call}: {longest} ns");
+            self.time = Duration::ZERO;
+        }
+    }
 }

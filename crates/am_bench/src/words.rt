@@ -1,5 +1,5 @@
 //! The words of a line, and what goes wrong.
-use am_board::fault::{BoardFault, Fault};
+use am_board::fault::{BoardFault, Fault, TakeFault};
 use std::alloc::{AllocError, AllocFailed};
 use std::io;
 
@@ -42,6 +42,12 @@ impl From<BoardFault> for Trouble {
             BoardFault::NoMemory => Trouble::NoMemory,
             BoardFault::BadConfig(_) => Trouble::BadLine,
         }
+    }
+}
+
+impl From<TakeFault> for Trouble {
+    fn from(_fault: TakeFault) -> Trouble {
+        Trouble::NoMemory
     }
 }
 

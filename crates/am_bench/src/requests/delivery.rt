@@ -4,16 +4,18 @@ use am_pool::{AttemptTrace, Courier, Sent, Tried};
 use am_retry::Answer;
 use std::alloc::AllocError;
 
-/// A courier whose first attempt fails. It takes no memory.
+/// A courier whose first attempts fail, so many. It sends nothing and takes no memory.
 #[derive(Drop)]
 pub struct Pager {
     trace: AttemptTrace,
+    failures: u64,
 }
 
 impl Pager {
-    pub fn new() -> Pager {
+    pub fn new(failures: u64) -> Pager {
         Pager {
             trace: AttemptTrace::new(),
+            failures,
         }
     }
 }
@@ -24,7 +26,7 @@ impl Courier for Pager {
     ghost refusals = { λ p. p.trace.refusals };
 
     fn send(&mut self, notice: &Notice, attempt: u64, at: u64) -> Result<Sent, AllocError> {
-        let answer = if attempt == 1 {
+        let answer = if attempt <= self.failures {
             Answer::Again
         } else {
             Answer::Done

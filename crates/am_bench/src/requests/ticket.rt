@@ -49,7 +49,7 @@ fn send_notice(probe: &Probe, notice: &Notice) -> Option<Report> {
         return None;
     }
     probe.ask("deliver");
-    let report = deliver(&mut Pager::new(), notice, 30_000);
+    let report = deliver(&mut Pager::new(1), notice, 30_000);
     probe.tell(&report);
     Some(report)
 }

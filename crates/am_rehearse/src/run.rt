@@ -81,9 +81,9 @@ impl Judgement {
 /// Alertmanager it isn't said that it is the one that its file tells.
 ///
 /// An input is refused as `NotRead` only where it is no JSON text. It is refused at a place, or as `AllRefused`, only
-/// where it asks, as a JSON text, for nothing that can be played, or for more than a limit lets be played, which is
-/// refused as `Full` (`Refuses`). Nothing is said of YAML, of a given file, of a configuration of Alertmanager, and of
-/// patterns. The input was read whole before.
+/// where it asks, as a JSON text, for nothing that can be played, or as `Full` (`Refuses`). It is `Full` only where it
+/// asks for more than a limit lets be played, or where a log row that a new dispatcher takes over doesn't fit. Nothing is
+/// said of YAML, of a given file, of a configuration of Alertmanager, and of patterns. The input was read whole before.
 ///
 /// `report` has what was read, once all of it was, what of Alertmanager's configuration is ignored, and, once a rehearsal
 /// was played, which expectations aren't met, and the report on them that is `wanted`.

@@ -69,9 +69,9 @@ label_set_cmp-prefix (m ∷ a) l rest =
 abbrev pub label_set_hash : List Label → ℕ
 label_set_hash labels = run_hash (packed labels)
 
--- what a label set feeds a hasher: its own hash
+-- what a label set feeds a hasher: its packed form, in one write
 abbrev pub label_set_writes : List Label → fed.HashWrites
-label_set_writes labels = fed.u64 (label_set_hash labels)
+label_set_writes labels = packed labels ∷ []
 
 pub label_set_writes-alike : (a b : List Label) → same_label_set a b ≡ true → label_set_writes a ≡ label_set_writes b
 label_set_writes-alike a b same = ap label_set_writes ((same_label_set-decides a b).0 same)

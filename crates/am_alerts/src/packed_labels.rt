@@ -5,10 +5,10 @@
 //! are. Exception: where a text has a 0 byte itself, the labels are compared one by one.
 //!
 //! A set of up to 8 labels takes two blocks of memory, the shared one and the run.
-ghost use Rattle.std.specs.Prelude.{◌≡◌, ◌<◌, ◌≤◌, [], length, ◌↔◌, IfOk, IsTrue, slice_index_or, string_bytes};
+ghost use Rattle.std.specs.Prelude.{◌≡◌, ◌<◌, ◌≤◌, [], fold, length, ◌↔◌, IfOk, IsTrue, slice_index_or, string_bytes};
 ghost use Rattle.std.specs.Iterator.{item_count, YieldsFirstBy};
 ghost use Rattle.am_alerts.specs.declared.labels.Label.{Label};
-ghost use Rattle.am_alerts.specs.LabelOrder.{label_set_hash};
+ghost use Rattle.am_alerts.specs.LabelOrder.{label_set_writes};
 ghost use Rattle.am_alerts.specs.Labels.{IsLabelSet, label_cmp, label_in, label_set_cmp, labels_in, same_label_set};
 ghost use Rattle.am_alerts.specs.PackedLabels.{IsPushed};
 ghost use Rattle.am_alerts.specs.Packing.{has_zero, run_hash};
@@ -102,11 +102,11 @@ impl PackedLabels {
         (&run[start..name_end], &run[name_end + 1..value_end])
     }
 
-    /// The hash of the run.
-    pub(crate) fn hash(&self) -> u64
-        ensures { result ≡ label_set_hash self.now }
+    /// Feeds the run to a hasher, in one write.
+    pub(crate) fn feed<H: Hasher>(&self, state: &mut H)
+        ensures { state.new ≡ fold H.write state.old (label_set_writes self.now) }
     {
-        self.hash
+        state.write(self.run.as_str().as_bytes());
     }
 
     /// Whether the two have the same labels.

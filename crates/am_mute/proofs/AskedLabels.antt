@@ -131,7 +131,7 @@ pub record IsUnder (index : SilenceIndex) (labels : List Label) (n place : ℕ) 
   pub label : Label
   pub at : IsAt labels label_place label
   pub less : label_place < n
-  pub has : HasPlace index (label_hash label.name label.value) place
+  pub has : HasPlace index (label_hash index.seed label.name label.value) place
 
 -- a silence that was indexed is under one of the labels that it matches, or asks for none
 pub its_place : (silences : List SilenceData) (index : SilenceIndex) → IsIndexed silences index → (labels : List Label)
@@ -140,12 +140,12 @@ pub its_place : (silences : List SilenceData) (index : SilenceIndex) → IsIndex
 its_place silences index indexed labels i s at less matched =
     elim (find asks_label s.matchers) as (λ o. find asks_label s.matchers ≡ o
     → IsUnder index labels (length labels) i ⊎ HasPlace index NO_LABEL i) [
-      | None ↦ λ e. inr (subst (λ k. HasPlace index k i) (ap key_by e) (indexed.found i s at less))
+      | None ↦ λ e. inr (subst (λ k. HasPlace index k i) (ap (key_by index.seed) e) (indexed.found i s at less))
       | Some m ↦ λ e.
           let both = found_both asks_label (λ (x : MatcherParts). matches_parts x labels) s.matchers m matched e in
           let has = asked m labels both.0 both.1 in
-          let key : key_of s.matchers ≡ label_hash has.label.name has.label.value =
-          ap key_by e ∙ (λ j. label_hash (sym has.name_is j) (sym has.value_is j)) in
+          let key : key_of index.seed s.matchers ≡ label_hash index.seed has.label.name has.label.value =
+          ap (key_by index.seed) e ∙ (λ j. label_hash index.seed (sym has.name_is j) (sym has.value_is j)) in
           inl (record {
             label_place = has.place;
             label = has.label;
@@ -158,7 +158,7 @@ its_place silences index indexed labels i s at less matched =
 -- ---- what the look-ups tell of all silences
 
 module _ (silences : List SilenceData) (index : SilenceIndex) (indexed : IsIndexed silences index) (labels : List Label) (t : ℕ)
-    (by_label : (j : ℕ) (l : Label) → IsAt labels j l → AreUnmuted (HasPlace index (label_hash l.name l.value)) labels t silences)
+    (by_label : (j : ℕ) (l : Label) → IsAt labels j l → AreUnmuted (HasPlace index (label_hash index.seed l.name l.value)) labels t silences)
     (others : AreUnmuted (HasPlace index NO_LABEL) labels t silences) where
   -- a silence that is found by something isn't muting, if it matches
   found_by : (i : ℕ) (s : SilenceData) → IsAt silences i s → i < index.indexed → match_all s.matchers labels ≡ true

@@ -6,11 +6,9 @@ use Rattle.std.specs.List.Sorted.{IsStrictlySortedBy}
 use Rattle.std.specs.BTreeMap.Range.{range_contains, IsInRange}
 use Rattle.std.specs.Cmp.Lexicographic.{bytes_decides}
 use Rattle.std.specs.Hash.{str}
-use Rattle.std.specs.Hash.FoldHasher.{initial, write, finish}
 use Rattle.std.specs.Option.{option_eq}
 use Rattle.std.specs.Ordering.{is_gt}
 use Rattle.std.specs.Str.{bytes_eq}
-use Rattle.std.specs.declared.hash.FoldHasher.{FoldHasher}
 use Rattle.std.specs.declared.ops.Bound.{Bound}
 use Rattle.std.specs.declared.ops.Bound.TheVariants.{Included, Excluded}
 use Rattle.std.proofs.lemmas.Bool.{and_parts}
@@ -25,6 +23,9 @@ use Rattle.am_mute.specs.SourceIndex.{SourceIndex}
 use Rattle.am_mute.specs.Sources.{HasKey, HasKeys, HaveSources, IsAt, IsLearnt, has_key, is_one_sided, key_cmp, key_of}
 use Rattle.am_mute.specs.Target.{TargetData, values_hash}
 use Rattle.am_mute.specs.declared.sources.SourceKey.{SourceKey}
+use Rattle.am_seed.specs.Hashing.{opening, write, finish}
+use Rattle.am_seed.specs.declared.hasher.SeededHasher.{SeededHasher}
+use Rattle.am_seed.specs.declared.seed.Seed.{Seed}
 use Rattle.am_mute.proofs.BucketWalk.{AreLeft, at_place, in_bucket, kept_key, of_bucket, place_below}
 
 -- ---- label sets that agree have one hash
@@ -35,10 +36,10 @@ same_value None (Some y) e = absurd (true≢false (sym e))
 same_value (Some x) None e = absurd (true≢false (sym e))
 same_value (Some x) (Some y) e = ap Some ((bytes_decides x y).0 e)
 
-abbrev writing : List Label → FoldHasher → List ℕ → FoldHasher
+abbrev writing : List Label → SeededHasher → List ℕ → SeededHasher
 writing labels hasher name = fold write hasher (str (value_of name labels))
 
-same_writes : (names : List (List ℕ)) (a b : List Label) (hasher : FoldHasher) → agrees_on names a b ≡ true
+same_writes : (names : List (List ℕ)) (a b : List Label) (hasher : SeededHasher) → agrees_on names a b ≡ true
     → fold (writing a) hasher names ≡ fold (writing b) hasher names
 same_writes [] a b hasher e = refl
 same_writes (name ∷ names) a b hasher e =
@@ -47,8 +48,8 @@ same_writes (name ∷ names) a b hasher e =
     ap (λ (v : Option (List ℕ)). unwrap_or v []) (same_value (value_in name a) (value_in name b) parts.0) in
     ap (λ v. fold (writing a) (fold write hasher (str v)) names) value ∙ same_writes names a b (writing b hasher name) parts.1
 
-same_hash : (names : List (List ℕ)) (a b : List Label) → agrees_on names a b ≡ true → values_hash names a ≡ values_hash names b
-same_hash names a b e = ap finish (same_writes names a b initial e)
+same_hash : (seed : Seed) (names : List (List ℕ)) (a b : List Label) → agrees_on names a b ≡ true → values_hash seed names a ≡ values_hash seed names b
+same_hash seed names a b e = ap finish (same_writes names a b (opening seed) e)
 
 -- ---- the bucket of a target
 
@@ -68,8 +69,8 @@ module _ (rule : RuleData) (t : ℕ) (labels : List Label) (a : AlertData) (pass
   source_matches = (and_parts (not (is_resolved a t)) (match_all rule.source a.labels) agreed.0).1
 
   -- it has the hash of the target
-  pub source_hash : values_hash rule.equal a.labels ≡ values_hash rule.equal labels
-  source_hash = sym (same_hash rule.equal labels a.labels agreed.1)
+  pub source_hash : (seed : Seed) → values_hash seed rule.equal a.labels ≡ values_hash seed rule.equal labels
+  source_hash seed = sym (same_hash seed rule.equal labels a.labels agreed.1)
 
   -- it isn't matched by the target matchers, if the target is matched by both
   pub source_alone : matches_both rule labels ≡ true → is_one_sided rule a.labels ≡ true
@@ -84,7 +85,7 @@ module _ (rule : RuleData) (t : ℕ) (labels : List Label) (a : AlertData) (pass
 -- what was learnt of known alerts has the keys of each source for a target
 pub have_sources : (number : ℕ) (rule : RuleData) (known : List AlertData) (index : SourceIndex) → IsLearnt number rule known index
     → (x : TargetData) → x.rule ≡ rule → match_all rule.target x.labels ≡ true
-    → HaveSources number x (take index.learnt known) (cond (match_all x.rule.source x.labels) index.one_sided index.all)
+    → HaveSources index.seed number x (take index.learnt known) (cond (match_all x.rule.source x.labels) index.one_sided index.all)
 have_sources number rule known index learnt x ruled targeted i a at passes =
     let n : length (take index.learnt known) ≡ index.learnt = length-take-le index.learnt known learnt.learnt in
     let less : i < index.learnt = omega (arith, at.0, n) in
@@ -94,15 +95,15 @@ have_sources number rule known index learnt x ruled targeted i a at passes =
     subst (λ (r : RuleData). HasKeys number r i a.labels index) (sym ruled) (learnt.sources i a here less) in
     let target : match_all x.rule.target x.labels ≡ true = ap (λ (r : RuleData). match_all r.target x.labels) ruled ∙ targeted in
     elim (match_all x.rule.source x.labels) as (λ b. match_all x.rule.source x.labels ≡ b
-    → HasKey (cond b index.one_sided index.all) (key_of number x.rule.equal i a.labels)) [
+    → HasKey (cond b index.one_sided index.all) (key_of index.seed number x.rule.equal i a.labels)) [
       | true ↦ λ both.
           has.one_sided (source_alone x.rule x.t x.labels a passes
           (ap (λ b. b && match_all x.rule.target x.labels) both ∙ target))
       | false ↦ λ e. has.all (source_matches x.rule x.t x.labels a passes)
     ] refl
 
-module _ (number : ℕ) (x : TargetData) (alerts : List AlertData) (all : List SourceKey) (have : HaveSources number x alerts all)
-    (hash : ℕ) (hashed : hash ≡ values_hash x.rule.equal x.labels) where
+module _ (seed : Seed) (number : ℕ) (x : TargetData) (alerts : List AlertData) (all : List SourceKey)
+    (have : HaveSources seed number x alerts all) (hash : ℕ) (hashed : hash ≡ values_hash seed x.rule.equal x.labels) where
   abbrev first : Bound SourceKey
   first = Included (at_place number hash 0)
 
@@ -113,7 +114,7 @@ module _ (number : ℕ) (x : TargetData) (alerts : List AlertData) (all : List S
   had : (i : ℕ) (a : AlertData) → IsAt alerts i a → is_inhibited_by x.rule x.t x.labels a ≡ true
       → has_key all (at_place number hash i) ≡ true
   had i a at passes =
-      let same : values_hash x.rule.equal a.labels ≡ hash = source_hash x.rule x.t x.labels a passes ∙ sym hashed in
+      let same : values_hash seed x.rule.equal a.labels ≡ hash = source_hash x.rule x.t x.labels a passes seed ∙ sym hashed in
       subst (HasKey all) (λ j. record { rule = number; hash = same j; place = i }) (have i a at passes)
 
   pub left_first : (keys : List SourceKey) → keys ≡ filter (range_contains key_cmp first last) all

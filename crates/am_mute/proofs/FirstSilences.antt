@@ -106,15 +106,15 @@ one_more places n place within here i among =
 
 -- under the first n and one more label it is under the first n, or under that one
 pub under_more : (index : SilenceIndex) (labels : List Label) (n : ℕ) (x : Label) → n < length labels → x ≡ get_or labels n x → (place : ℕ)
-    → IsUnder index labels (n + 1) place → IsUnder index labels n place ⊎ HasPlace index (label_hash x.name x.value) place
+    → IsUnder index labels (n + 1) place → IsUnder index labels n place ⊎ HasPlace index (label_hash index.seed x.name x.value) place
 under_more index labels n x within here place under =
     elim (eqb under.label_place n) as (λ b. eqb under.label_place n ≡ b
-    → IsUnder index labels n place ⊎ HasPlace index (label_hash x.name x.value) place) [
+    → IsUnder index labels n place ⊎ HasPlace index (label_hash index.seed x.name x.value) place) [
       | true ↦ λ e.
           let same : under.label ≡ x =
           under.at.1 ∙ (ap (λ j. get_or labels j under.label) (eqb-true under.label_place n e)
           ∙ (get_or_default labels n under.label x within ∙ sym here)) in
-          inr (subst (λ (l : Label). HasPlace index (label_hash l.name l.value) place) same under.has)
+          inr (subst (λ (l : Label). HasPlace index (label_hash index.seed l.name l.value) place) same under.has)
       | false ↦ λ e.
           let apart : under.label_place ≢ n = eqb-false under.label_place n e in
           inl (record {

@@ -10,7 +10,7 @@ mod FirstSilences
 pub mod Firsts
 -- what was found for a target is what the rule finds
 mod FoundSources
--- an index that learns one alert more
+-- an index that learns of alerts, by one rule after the other
 mod Learning
 -- the places of silences
 mod PlacedSilences

@@ -3,7 +3,6 @@ use Rattle.std.specs.Prelude.{◌≡◌, ◌<◌, ◌≤◌, ℕ, Bool, true, fa
 use Rattle.std.specs.Prelude.{[], length, find, Option, Some, None, IsTrue, fold, nat_eq, nat_lt}
 use Rattle.std.specs.Global.{Global}
 use Rattle.std.specs.Hash.{str}
-use Rattle.std.specs.Hash.FoldHasher.{initial, write, finish}
 use Rattle.std.specs.HashMap.{get}
 use Rattle.std.specs.List.{list_any}
 use Rattle.am_alerts.specs.declared.labels.Label.{Label}
@@ -14,10 +13,12 @@ use Rattle.am_mute.specs.Silence.{SilenceData, silence_mutes}
 use Rattle.am_mute.specs.Sources.{IsAt}
 use Rattle.am_mute.specs.declared.silence_index.SilenceIndex.{SilenceIndex}
 use Rattle.am_mute.specs.declared.silence_index.TheConstants.{NO_LABEL}
+use Rattle.am_seed.specs.Hashing.{opening, write, finish}
+use Rattle.am_seed.specs.declared.seed.Seed.{Seed}
 
--- the hash of a name and a value
-abbrev pub label_hash : List ℕ → List ℕ → ℕ
-label_hash name value = finish (fold write (fold write initial (str name)) (str value))
+-- the hash of a name and a value, from a seed
+abbrev pub label_hash : Seed → List ℕ → List ℕ → ℕ
+label_hash seed name value = finish (fold write (fold write (opening seed) (str name)) (str value))
 
 -- whether an operator is `=`
 abbrev pub is_equal : Operator → Bool
@@ -31,13 +32,13 @@ abbrev pub asks_label : MatcherParts → Bool
 asks_label m = is_equal m.op && nat_lt 0 (length m.value)
 
 -- what a silence is found by, where this is the first of its matchers that asks for a label
-abbrev pub key_by : Option MatcherParts → ℕ
-key_by None = NO_LABEL
-key_by (Some m) = label_hash m.name m.value
+abbrev pub key_by : Seed → Option MatcherParts → ℕ
+key_by seed None = NO_LABEL
+key_by seed (Some m) = label_hash seed m.name m.value
 
 -- what a silence of these matchers is found by
-abbrev pub key_of : List MatcherParts → ℕ
-key_of matchers = key_by (find asks_label matchers)
+abbrev pub key_of : Seed → List MatcherParts → ℕ
+key_of seed matchers = key_by seed (find asks_label matchers)
 
 -- the places among these, if there are any
 abbrev pub places_in : Option (Vec ℕ Global) → List ℕ
@@ -64,7 +65,7 @@ ArePlaced silences index = (key place : ℕ) → HasPlace index key place → pl
 pub record IsIndexed (silences : List SilenceData) (index : SilenceIndex) : Type 0 where
   pub indexed : index.indexed ≤ length silences
   pub placed : ArePlaced silences index
-  pub found : (i : ℕ) (s : SilenceData) → IsAt silences i s → i < index.indexed → HasPlace index (key_of s.matchers) i
+  pub found : (i : ℕ) (s : SilenceData) → IsAt silences i s → i < index.indexed → HasPlace index (key_of index.seed s.matchers) i
 
 -- none of the silences at these places mutes a label set at t
 abbrev pub AreUnmuted : (ℕ → Type 0) → List Label → ℕ → List SilenceData → Type 0

@@ -10,6 +10,7 @@ use Rattle.am_mute.specs.Inhibit.{RuleData, is_inhibited_by}
 use Rattle.am_mute.specs.SourceIndex.{SourceIndex}
 use Rattle.am_mute.specs.Target.{TargetData, values_hash}
 use Rattle.am_mute.specs.declared.sources.SourceKey.{SourceKey}
+use Rattle.am_seed.specs.declared.seed.Seed.{Seed}
 
 -- the order of keys: by rule, then by hash, then by place
 abbrev pub key_cmp : SourceKey → SourceKey → Ordering
@@ -24,8 +25,8 @@ abbrev pub HasKey : List SourceKey → SourceKey → Type 0
 HasKey keys key = IsTrue (has_key keys key)
 
 -- the key of the alert of these labels at a place, by the rule at a place, where these are the names of `equal`
-abbrev pub key_of : ℕ → List (List ℕ) → ℕ → List Label → SourceKey
-key_of number equal place labels = record { rule = number; hash = values_hash equal labels; place = place }
+abbrev pub key_of : Seed → ℕ → List (List ℕ) → ℕ → List Label → SourceKey
+key_of seed number equal place labels = record { rule = number; hash = values_hash seed equal labels; place = place }
 
 -- an element stands at a place of a list
 abbrev pub IsAt : {X : Type 0} → List X → ℕ → X → Type 0
@@ -37,8 +38,13 @@ is_one_sided r labels = match_all r.source labels && not (match_all r.target lab
 
 -- an index has the keys of the alert of these labels at a place, by the rule at a place
 pub record HasKeys (number : ℕ) (rule : RuleData) (place : ℕ) (labels : List Label) (index : SourceIndex) : Type 0 where
-  pub all : match_all rule.source labels ≡ true → HasKey index.all (key_of number rule.equal place labels)
-  pub one_sided : is_one_sided rule labels ≡ true → HasKey index.one_sided (key_of number rule.equal place labels)
+  pub all : match_all rule.source labels ≡ true → HasKey index.all (key_of index.seed number rule.equal place labels)
+  pub one_sided : is_one_sided rule labels ≡ true → HasKey index.one_sided (key_of index.seed number rule.equal place labels)
+
+-- an index has the keys of the known alerts from one place up to another, by the rule at a place
+abbrev pub HasKeysFrom : ℕ → RuleData → List AlertData → ℕ → ℕ → SourceIndex → Type 0
+HasKeysFrom number rule known from to index =
+    (i : ℕ) (a : AlertData) → IsAt known i a → from ≤ i → i < to → HasKeys number rule i a.labels index
 
 -- of those alerts that were learnt the index has the keys, by the rule at a place
 abbrev pub HasSources : ℕ → RuleData → List AlertData → SourceIndex → Type 0
@@ -55,14 +61,15 @@ pub record AreLearnt (rules : List RuleData) (known : List AlertData) (index : S
   pub learnt : index.learnt ≤ length known
   pub sources : (number : ℕ) (rule : RuleData) → IsAt rules number rule → HasSources number rule known index
 
--- an index has kept its keys, and has learnt no more alerts
+-- an index has kept its keys and its seed, and has learnt no more alerts
 pub record Grows (old new : SourceIndex) : Type 0 where
   pub learnt : new.learnt ≡ old.learnt
+  pub seed : new.seed ≡ old.seed
   pub all : (k : SourceKey) → HasKey old.all k → HasKey new.all k
   pub one_sided : (k : SourceKey) → HasKey old.one_sided k → HasKey new.one_sided k
 
 -- these keys have one of each of these alerts that is a source for a target of the rule at a place
-abbrev pub HaveSources : ℕ → TargetData → List AlertData → List SourceKey → Type 0
-HaveSources number x alerts keys =
+abbrev pub HaveSources : Seed → ℕ → TargetData → List AlertData → List SourceKey → Type 0
+HaveSources seed number x alerts keys =
     (i : ℕ) (a : AlertData) → IsAt alerts i a → is_inhibited_by x.rule x.t x.labels a ≡ true
-    → HasKey keys (key_of number x.rule.equal i a.labels)
+    → HasKey keys (key_of seed number x.rule.equal i a.labels)

@@ -1,11 +1,12 @@
 -- Label sets that a rule may mute.
 use Rattle.std.specs.Prelude.{◌≡◌, ℕ, true, false, List, Option, Some, None, fold}
 use Rattle.std.specs.Hash.{str}
-use Rattle.std.specs.Hash.FoldHasher.{initial, write, finish}
 use Rattle.am_alerts.specs.Labels.{value_of}
 use Rattle.am_alerts.specs.Matcher.{match_all}
 use Rattle.am_alerts.specs.declared.labels.Label.{Label}
 use Rattle.am_mute.specs.Inhibit.{RuleData}
+use Rattle.am_seed.specs.Hashing.{opening, write, finish}
+use Rattle.am_seed.specs.declared.seed.Seed.{Seed}
 
 -- a label set, a rule whose target matchers match it, and a moment
 pub record TargetData : Type 0 where
@@ -18,6 +19,6 @@ abbrev pub IsTargetOf : RuleData → List Label → ℕ → Option TargetData �
 IsTargetOf rule labels t None = match_all rule.target labels ≡ false
 IsTargetOf rule labels t (Some x) = (match_all rule.target labels ≡ true) × (x ≡ record { rule = rule; labels = labels; t = t })
 
--- the hash of the values that a label set has under these names
-abbrev pub values_hash : List (List ℕ) → List Label → ℕ
-values_hash names labels = finish (fold (λ hasher name. fold write hasher (str (value_of name labels))) initial names)
+-- the hash, from a seed, of the values that a label set has under these names
+abbrev pub values_hash : Seed → List (List ℕ) → List Label → ℕ
+values_hash seed names labels = finish (fold (λ hasher name. fold write hasher (str (value_of name labels))) (opening seed) names)

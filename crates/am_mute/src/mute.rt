@@ -19,6 +19,7 @@ use crate::silences::Silences;
 use crate::sources::Sources;
 use am_alerts::alert::Alert;
 use am_alerts::labels::Labels;
+use am_seed::Seed;
 use std::alloc::{AllocError, Global};
 
 /// Why a label set is muted.
@@ -52,7 +53,7 @@ pub fn muted(
     ensures answers { IsTrue (silences_compare_texts silences.now) →
         IsTrue (rules_compare_texts rules.now) → IsOk result }
 {
-    let sources = Sources::new(alloc);
+    let sources = Sources::new(alloc, Seed::fixed());
     muted_with(alloc, labels, t, silences, rules, known, &sources)
 }
 
@@ -117,7 +118,7 @@ pub fn mute_cause(
     ensures muted { IfOk result (λ cause.
         is_some cause ≡ is_muted labels.now t silences.now rules.now known.now) }
 {
-    let sources = Sources::new(alloc);
+    let sources = Sources::new(alloc, Seed::fixed());
     mute_cause_with(alloc, labels, t, silences, rules, known, &sources)
 }
 

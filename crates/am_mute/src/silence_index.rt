@@ -20,9 +20,10 @@ ghost use Rattle.am_mute.specs.Matching.{silences_compare_texts};
 use crate::silence::Silence;
 use am_alerts::labels::Labels;
 use am_alerts::matcher::{Matcher, Operator};
+use am_seed::Seed;
 use std::alloc::{AllocError, Global};
 use std::collections::HashMap;
-use std::hash::{FoldHasher, Hash, Hasher};
+use std::hash::{BuildHasher, Hash, Hasher};
 
 /// What silences are found by that ask for no label.
 const NO_LABEL: u64 = 0;
@@ -34,19 +35,29 @@ const NO_LABEL: u64 = 0;
 #[derive(Debug, Drop)]
 pub(crate) struct SilenceIndex {
     places: HashMap<u64, Vec<usize>>,
+    /// What the hashes of labels start from.
+    seed: Seed,
     /// How many silences, from the first on, have their places here.
     indexed: usize,
 }
 
 impl SilenceIndex {
     /// Nothing indexed yet, of whatever silences.
-    pub(crate) fn new(alloc: Global) -> SilenceIndex
+    pub(crate) fn new(alloc: Global, seed: Seed) -> SilenceIndex
         ensures { (silences : List SilenceData) → IsIndexed silences result }
     {
         SilenceIndex {
             places: HashMap::new(alloc),
+            seed,
             indexed: 0,
         }
+    }
+
+    /// What the hashes of labels start from.
+    pub(crate) fn seed(&self) -> Seed
+        ensures { result ≡ self.now.seed }
+    {
+        self.seed
     }
 
     /// Takes the places of these silences in, as far as there is memory for it.
@@ -55,7 +66,7 @@ impl SilenceIndex {
         ensures { IsIndexed silences.now self.new }
     {
         while self.indexed < silences.len() {
-            let key = key_of(silences[self.indexed].matchers());
+            let key = key_of(self.seed, silences[self.indexed].matchers());
             if self.put(alloc, key, self.indexed).is_err() {
                 return;
             }
@@ -68,7 +79,7 @@ impl SilenceIndex {
         ensures { (silences : List SilenceData) → place < length silences → IsIndexed silences self.old
             → IsIndexed (set silences place silence.now) self.new }
     {
-        let key = key_of(silence.matchers());
+        let key = key_of(self.seed, silence.matchers());
         if self.put(alloc, key, place).is_err() {
             self.indexed = self.indexed.min(place);
         }
@@ -77,6 +88,7 @@ impl SilenceIndex {
     /// Puts a place under what its silence is found by.
     fn put(&mut self, alloc: Global, key: u64, place: usize) -> Result<(), AllocError>
         ensures indexed { self.new.indexed ≡ self.old.indexed }
+        ensures seed { self.new.seed ≡ self.old.seed }
         ensures has { OnOk result (HasPlace self.new key place) }
         ensures keeps { (k p : ℕ) → HasPlace self.old k p → HasPlace self.new k p }
         ensures only { (k p : ℕ) → HasPlace self.new k p → (p ≡ place) ⊎ HasPlace self.old k p }
@@ -121,7 +133,7 @@ impl SilenceIndex {
         }
         for i in 0..labels.len() {
             let pair = labels.pair(i);
-            let key = label_hash(pair.0, pair.1);
+            let key = label_hash(self.seed, pair.0, pair.1);
             if self.is_silenced_by(alloc, key, silences, labels, t)? {
                 return Ok(true);
             }
@@ -147,7 +159,7 @@ impl SilenceIndex {
         let mut first = silences.len();
         for i in 0..labels.len() {
             let pair = labels.pair(i);
-            let key = label_hash(pair.0, pair.1);
+            let key = label_hash(self.seed, pair.0, pair.1);
             first = self.first_by(alloc, key, silences, labels, t, first)?;
         }
         let first = self.first_by(alloc, NO_LABEL, silences, labels, t, first)?;
@@ -291,14 +303,14 @@ fn first_from(
 }
 
 /// What a silence of these matchers is found by: the hash of the first label that they ask for.
-fn key_of(matchers: &[Matcher]) -> u64
-    ensures { result ≡ key_of matchers.now }
+fn key_of(seed: Seed, matchers: &[Matcher]) -> u64
+    ensures { result ≡ key_of seed matchers.now }
 {
     match first_asking(matchers) {
         None => NO_LABEL,
         Some(matcher) => {
             let parts = matcher.parts();
-            label_hash(parts.name.as_str(), parts.value.as_str())
+            label_hash(seed, parts.name.as_str(), parts.value.as_str())
         }
     }
 }
@@ -318,11 +330,11 @@ fn asks_label(matcher: &Matcher) -> bool
     parts.op == Operator::Equal && !parts.value.as_str().is_empty()
 }
 
-/// The hash of a name and a value.
-fn label_hash(name: &str, value: &str) -> u64
-    ensures { result ≡ label_hash name.now value.now }
+/// The hash of a name and a value, from a seed.
+fn label_hash(seed: Seed, name: &str, value: &str) -> u64
+    ensures { result ≡ label_hash seed name.now value.now }
 {
-    let mut hasher = FoldHasher::default();
+    let mut hasher = seed.build_hasher();
     name.hash(&mut hasher);
     value.hash(&mut hasher);
     hasher.finish()

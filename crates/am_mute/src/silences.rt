@@ -14,6 +14,7 @@ ghost use Rattle.am_mute.specs.Matching.{silences_compare_texts};
 use crate::silence::Silence;
 use crate::silence_index::SilenceIndex;
 use am_alerts::labels::Labels;
+use am_seed::Seed;
 use std::alloc::{AllocError, Global};
 use std::marker::Model;
 
@@ -38,13 +39,13 @@ impl Model for Silences {
 }
 
 impl Silences {
-    /// No silences. Takes no memory.
-    pub fn new(alloc: Global) -> Silences
+    /// No silences. Takes no memory. The hashes by which they are found start from this seed.
+    pub fn new(alloc: Global, seed: Seed) -> Silences
         ensures { result.items ≡ [] }
     {
         Silences {
             silences: Vec::new(alloc),
-            index: SilenceIndex::new(alloc),
+            index: SilenceIndex::new(alloc, seed),
         }
     }
 
@@ -110,7 +111,7 @@ impl Silences {
                 ensures { result ≡ not (is_over t silence.now) }
             { !silence.is_over(t) },
         );
-        self.index = SilenceIndex::new(alloc);
+        self.index = SilenceIndex::new(alloc, self.index.seed());
         self.index.extend(alloc, self.silences.as_slice());
         before - self.silences.len()
     }

@@ -4,29 +4,32 @@
 //! A key has a rule, a hash of the alert's values under the rule's names of `equal`, and the
 //! alert's place. A target looks up the keys of its own hash and tests each alert of these as a
 //! walk over all would. Label sets that agree in `equal` have one hash, which is all that is needed
-//! of it. Whoever writes the labels can make them collide: then a look-up walks those that collide,
-//! and no more than all.
+//! of it. Whoever writes the labels and knows the seed can make them collide: then a look-up walks
+//! those that collide, and no more than all.
 //!
 //! A source that the target matchers match too mutes no target that both sides match. The others
 //! have keys of their own: such a target looks up only these, and doesn't pass over its like one by
 //! one.
 //!
 //! Matchers and labels don't change with time, so an alert is learned once: u matches for u rules,
-//! and a second match and at most two insertions for each rule whose source matches. What searches
-//! for a pattern is made for each new label set, as for a route's. Where memory for a key is
-//! refused, this alert and those after it are left to a later call, and each target walks them.
+//! and a second match and at most two insertions for each rule whose source matches. A call learns
+//! by one rule after the other, of all alerts that are new to it: so what searches for a rule's
+//! pattern is made once a call, however many these are. Where memory is refused, all of them are
+//! left to a later call, and each target walks them. Keys that were put in before do no harm: a
+//! look-up ends before the places that weren't learnt, and the later call puts them in again.
 //! Invariant: each of the first alerts that a rule's source matches has its keys.
-ghost use Rattle.std.specs.Prelude.{◌≡◌, ◌+◌, ◌<◌, List, cond, length, find, is_some, option_copied, IfOk, IsOk, IsTrue, OnOk};
+ghost use Rattle.std.specs.Prelude.{◌≡◌, ◌≤◌, true, List, cond, length, find, is_some, option_copied, IfOk, IsOk, IsTrue, OnOk};
 ghost use Rattle.am_alerts.specs.AlertData.{AlertData};
 ghost use Rattle.am_alerts.specs.Matcher.{compare_texts, match_all};
 ghost use Rattle.am_mute.specs.Inhibit.{RuleData, inhibits, is_inhibited_by, source_for};
-ghost use Rattle.am_mute.specs.Sources.{AreLearnt, Grows, HasKeys, HaveSources, IsLearnt};
+ghost use Rattle.am_mute.specs.Sources.{AreLearnt, Grows, HasKey, HasKeysFrom, HaveSources, IsLearnt};
 
 use crate::inhibit::InhibitRule;
 use crate::target::{Target, values_hash};
 use am_alerts::alert::Alert;
 use am_alerts::labels::Labels;
-use am_alerts::matcher::all_match;
+use am_alerts::searchers::Searchers;
+use am_seed::Seed;
 use std::alloc::{AllocError, Global};
 use std::collections::BTreeSet;
 use std::marker::Model;
@@ -55,6 +58,8 @@ pub struct Sources {
     one_sided: BTreeSet<SourceKey>,
     /// How many alerts were learnt.
     learnt: usize,
+    /// What the hashes of values start from.
+    seed: Seed,
 }
 
 impl Model for Sources {
@@ -62,33 +67,47 @@ impl Model for Sources {
 
     ghost Value = { SourceIndex };
 
-    ghost view = { λ s. record { all = s.all.keys; one_sided = s.one_sided.keys; learnt = s.learnt } };
+    ghost view = { λ s. record { all = s.all.keys; one_sided = s.one_sided.keys; learnt = s.learnt; seed = s.seed } };
 }
 
 impl Sources {
-    /// Nothing learnt yet, of whatever rules and alerts. Takes no memory.
-    pub fn new(alloc: Global) -> Sources
+    /// Nothing learnt yet, of whatever rules and alerts. Takes no memory. The hashes of values start
+    /// from this seed.
+    pub fn new(alloc: Global, seed: Seed) -> Sources
         ensures { (rules : List RuleData) (known : List AlertData) → AreLearnt rules known result }
     {
         Sources {
             all: BTreeSet::new(alloc),
             one_sided: BTreeSet::new(alloc),
             learnt: 0,
+            seed,
         }
     }
 
+    /// What the hashes of values start from.
+    pub fn seed(&self) -> Seed
+        ensures { result ≡ self.now.seed }
+    {
+        self.seed
+    }
+
     /// What is to be learnt of these rules and of all of these known alerts.
-    pub fn of(alloc: Global, rules: &[InhibitRule], known: &[Alert]) -> Result<Sources, AllocError>
+    pub fn of(
+        alloc: Global,
+        seed: Seed,
+        rules: &[InhibitRule],
+        known: &[Alert],
+    ) -> Result<Sources, AllocError>
         ensures learnt { IfOk result (AreLearnt rules.now known.now) }
         ensures all { IfOk result (λ sources. sources.learnt ≡ length known.now) }
     {
-        let mut sources = Sources::new(alloc);
+        let mut sources = Sources::new(alloc, seed);
         sources.learn(alloc, rules, known)?;
         Ok(sources)
     }
 
     /// Learns of these rules and of those known alerts that weren't learnt yet. Where memory is
-    /// refused some of them are left to a later call.
+    /// refused all of these are left to a later call.
     pub fn learn(
         &mut self,
         alloc: Global,
@@ -99,56 +118,55 @@ impl Sources {
         ensures learnt { AreLearnt rules.now known.now self.new }
         ensures all { OnOk result (self.new.learnt ≡ length known.now) }
     {
-        while self.learnt < known.len() {
-            self.learn_next(alloc, rules, known)?;
+        if self.learnt == known.len() {
+            return Ok(());
         }
-        Ok(())
-    }
-
-    /// Learns of these rules and of the next known alert.
-    fn learn_next(
-        &mut self,
-        alloc: Global,
-        rules: &[InhibitRule],
-        known: &[Alert],
-    ) -> Result<(), AllocError>
-        requires learnt { AreLearnt rules.now known.now self.old }
-        requires more { self.old.learnt < length known.now }
-        ensures learnt { AreLearnt rules.now known.now self.new }
-        ensures next { OnOk result (self.new.learnt ≡ self.old.learnt + 1) }
-    {
-        let labels = known[self.learnt].labels();
         for number in 0..rules.len() {
-            self.learn_by(alloc, number, &rules[number], labels)?;
+            self.learn_by(alloc, number, &rules[number], known)?;
         }
-        self.learnt += 1;
+        self.learnt = known.len();
         Ok(())
     }
 
-    /// Learns of the rule at a place and of the labels of the next known alert.
+    /// Puts in the keys, by the rule at a place, of those known alerts that weren't learnt yet.
     fn learn_by(
         &mut self,
         alloc: Global,
         number: usize,
         rule: &InhibitRule,
-        labels: &Labels,
+        known: &[Alert],
     ) -> Result<(), AllocError>
+        requires { self.old.learnt ≤ length known.now }
         ensures grows { Grows self.old self.new }
-        ensures has { OnOk result (HasKeys number rule.now self.old.learnt labels.now self.new) }
+        ensures has { OnOk result (HasKeysFrom number rule.now known.now self.old.learnt (length known.now) self.new) }
     {
-        if !all_match(alloc, rule.source(), labels)? {
-            return Ok(());
+        let mut source = Searchers::new(alloc, rule.source());
+        let mut target = Searchers::new(alloc, rule.target());
+        for place in self.learnt..known.len() {
+            let labels = known[place].labels();
+            if source.all_match(alloc, labels)? {
+                let is_one_sided = !target.all_match(alloc, labels)?;
+                let key = SourceKey {
+                    rule: number,
+                    hash: values_hash(self.seed, rule.equal(), labels),
+                    place,
+                };
+                self.put(key, is_one_sided)?;
+            }
         }
-        let key = SourceKey {
-            rule: number,
-            hash: values_hash(rule.equal(), labels),
-            place: self.learnt,
-        };
+        Ok(())
+    }
+
+    /// Puts in the key of a source, and tells whether the target matchers don't match it.
+    fn put(&mut self, key: SourceKey, is_one_sided: bool) -> Result<(), AllocError>
+        ensures grows { Grows self.old self.new }
+        ensures all { OnOk result (HasKey self.new.all key) }
+        ensures one_sided { OnOk result (is_one_sided ≡ true → HasKey self.new.one_sided key) }
+    {
         self.all.insert(key)?;
-        if all_match(alloc, rule.target(), labels)? {
-            return Ok(());
+        if is_one_sided {
+            self.one_sided.insert(key)?;
         }
-        self.one_sided.insert(key)?;
         Ok(())
     }
 
@@ -173,7 +191,14 @@ impl Sources {
             return Ok(None);
         };
         let keys = self.keys_for(&target);
-        let found = first_among(alloc, keys, number, &mut target, &known[..self.learnt])?;
+        let found = first_among(
+            alloc,
+            keys,
+            self.seed,
+            number,
+            &mut target,
+            &known[..self.learnt],
+        )?;
         if found.is_some() {
             return Ok(found);
         }
@@ -193,22 +218,23 @@ impl Sources {
 }
 
 /// The first of these alerts that is a source for a target of the rule at a place, by keys that each
-/// such source has.
+/// such source has, with hashes from a seed.
 fn first_among<'k>(
     alloc: Global,
     keys: &BTreeSet<SourceKey>,
+    seed: Seed,
     number: usize,
     target: &mut Target<'_>,
     alerts: &'k [Alert],
 ) -> Result<Option<&'k Alert>, AllocError>
-    requires { HaveSources number target.old alerts.now keys.now.keys }
+    requires { HaveSources seed number target.old alerts.now keys.now.keys }
     ensures value { IfOk result (λ found. option_copied found
         ≡ find (is_inhibited_by target.old.rule target.old.t target.old.labels) alerts.now) }
     ensures answers { IsTrue (compare_texts target.old.rule.source) →
         IsTrue (compare_texts target.old.rule.target) → IsOk result }
     ensures kept { target.new ≡ target.old }
 {
-    let hash = target.hash();
+    let hash = target.hash(seed);
     let first = SourceKey {
         rule: number,
         hash,

@@ -9,8 +9,9 @@ use am_alerts::alert::Alert;
 use am_alerts::labels::Labels;
 use am_alerts::searchers::Searchers;
 use am_alerts::text::Text;
+use am_seed::Seed;
 use std::alloc::{AllocError, Global};
-use std::hash::{FoldHasher, Hash, Hasher};
+use std::hash::{BuildHasher, Hash, Hasher};
 use std::marker::Model;
 
 /// A label set that the target matchers of a rule match, at a moment.
@@ -76,10 +77,10 @@ impl<'r> Target<'r> {
     }
 
     /// The hash of the target's values under the names of `equal`, which each of its sources has too.
-    pub(crate) fn hash(&self) -> u64
-        ensures { result ≡ values_hash self.now.rule.equal self.now.labels }
+    pub(crate) fn hash(&self, seed: Seed) -> u64
+        ensures { result ≡ values_hash seed self.now.rule.equal self.now.labels }
     {
-        values_hash(self.rule.equal(), self.labels)
+        values_hash(seed, self.rule.equal(), self.labels)
     }
 
     /// The first of these alerts that is a source for the target.
@@ -122,12 +123,12 @@ impl<'r> Target<'r> {
     }
 }
 
-/// The hash of the values that a label set has under these names; a label that isn't there counts as
-/// the empty value.
-pub(crate) fn values_hash(names: &[Text], labels: &Labels) -> u64
-    ensures { result ≡ values_hash names.now labels.now }
+/// The hash, from a seed, of the values that a label set has under these names; a label that isn't
+/// there counts as the empty value.
+pub(crate) fn values_hash(seed: Seed, names: &[Text], labels: &Labels) -> u64
+    ensures { result ≡ values_hash seed names.now labels.now }
 {
-    let mut hasher = FoldHasher::default();
+    let mut hasher = seed.build_hasher();
     for name in names {
         labels.get(name.as_str()).unwrap_or("").hash(&mut hasher);
     }

@@ -4,6 +4,7 @@
 //! place. `forget` alone drops keys. Invariant: the keys differ. `get`, `put` and `reserve` cost one
 //! look-up by hash, and `merge` two.
 //! `NfLog::new` can't fail today; it returns a `Result` as all that is made on an allocator does.
+//! Hashes start from a seed (`am_seed`), on which no row depends.
 ghost use Rattle.std.specs.Prelude.{◌≡◌, ◌<◌, ◌↔◌, ◌||◌, [], length, filter, is_some, nat_lt, IsTrue, IfOk, OnOk, OnErr, IsOk, IsOkAnd, slice_get, Some};
 ghost use Rattle.std.specs.List.{list_any};
 ghost use Rattle.std.specs.Option.{option_copied};
@@ -12,6 +13,7 @@ ghost use Rattle.am_nflog.specs.Log.{collected, expired_count, is_expired, HasDi
 
 use crate::key::LogKey;
 use crate::row::LogRow;
+use am_seed::Seed;
 use indexmap::IndexMap;
 use std::alloc::{AllocError, Global};
 use std::hash::Hash;
@@ -22,7 +24,7 @@ use std::marker::Model;
 /// Contracts see it as the list of its known keys in the order in which they came, each with its row.
 #[derive(Debug, Drop)]
 pub struct NfLog<G: Eq + Hash, N: Ord> {
-    slots: IndexMap<LogKey<G>, Option<LogRow<N>>>,
+    slots: IndexMap<LogKey<G>, Option<LogRow<N>>, Seed>,
 }
 
 impl<G: Eq + Hash, N: Ord> Model for NfLog<G, N> {
@@ -41,10 +43,12 @@ impl<G: Eq + Hash, N: Ord> Model for NfLog<G, N> {
 
 impl<G: Eq + Hash, N: Ord> NfLog<G, N> {
     /// An empty log, in which no key is known. It takes no memory: the first key does.
-    pub fn new(alloc: Global) -> Result<Self, AllocError>
+    ///
+    /// The hashes of its keys start from this seed. Whoever writes keys and knows it can make them collide.
+    pub fn new(alloc: Global, seed: Seed) -> Result<Self, AllocError>
         ensures { IsOkAnd result (λ log. log ≡ []) }
     {
-        let slots = IndexMap::new(alloc);
+        let slots = IndexMap::with_hasher(alloc, seed);
         Ok(NfLog { slots })
     }
 

@@ -29,7 +29,7 @@ loop-key-init c =
     let target = c.args.target.now in
     let range = c.range-key-items.ensures in
     let keys = c.range-key-items.result in
-    let left = left_first c.args.number target c.args.alerts.now c.args.keys.now.keys c.requires c.hash-hash.result
+    let left = left_first c.args.seed c.args.number target c.args.alerts.now c.args.keys.now.keys c.requires c.hash-hash.result
     c.hash-hash.ensures keys (range.between tt) (range.in_range tt).0 range.ordered in (
       tt,
       tt,

@@ -7,4 +7,4 @@ use Rattle.am_mute.proofs.silence_index.SilenceIndex.is_silenced.Given as goal
 -- no silence that is found by one of the labels so far mutes the label set
 abbrev pub invariant-loop-i : goal.invariant-loop-i
 invariant-loop-i l =
-    (j : ℕ) (x : Label) → IsAt l.labels j x → j < l.i → AreUnmuted (HasPlace l.self (label_hash x.name x.value)) l.labels l.t l.silences
+    (j : ℕ) (x : Label) → IsAt l.labels j x → j < l.i → AreUnmuted (HasPlace l.self (label_hash l.self.seed x.name x.value)) l.labels l.t l.silences

@@ -1,11 +1,11 @@
-use Rattle.std.proofs.Common.{◌-◌, length}
-use Rattle.am_mute.specs.Sources.{AreLearnt}
+use Rattle.std.proofs.Common.{◌<◌, ℕ, length}
+use Rattle.am_mute.specs.Inhibit.{RuleData}
+use Rattle.am_mute.specs.Sources.{Grows, HasKeysFrom, IsAt}
 use Rattle.am_mute.proofs.sources.Sources.learn.Given as goal
 
--- what was learnt so far is of these rules and known alerts
-abbrev pub invariant-loop-self : goal.invariant-loop-self
-invariant-loop-self l = AreLearnt l.rules l.known l.self
-
--- the alerts that are left
-abbrev pub decreases-loop-self : goal.decreases-loop-self
-decreases-loop-self l = length l.known - l.self.learnt
+-- the index has kept its keys, and has those of the alerts that are new to it by each rule so far
+abbrev pub invariant-loop-number : goal.invariant-loop-number
+invariant-loop-number l =
+    Grows l.initial.self l.self
+    × ((number : ℕ) (rule : RuleData) → IsAt l.rules number rule → number < l.number
+    → HasKeysFrom number rule l.known l.initial.self.learnt (length l.known) l.self)

@@ -1,45 +1,54 @@
-use Rattle.std.proofs.Common.{subst, sym}
+use Rattle.std.proofs.Common.{◌≡◌, ℕ, ◌+◌, List, sym, ap, ◌∙◌, subst}
+use Rattle.am_alerts.specs.Matcher.{match_all}
+use Rattle.am_alerts.specs.declared.matcher.MatcherParts.{MatcherParts}
 use Rattle.am_mute.specs.SourceIndex.{SourceIndex}
-use Rattle.am_mute.specs.Sources.{Grows}
-use Rattle.am_mute.specs.declared.sources.SourceKey.{SourceKey}
-use Rattle.am_mute.proofs.Learning.{grows_all, grows_both}
+use Rattle.am_mute.specs.Sources.{Grows, HasKeys, HasKeysFrom}
+use Rattle.am_mute.specs.Target.{values_hash}
+use Rattle.am_mute.proofs.Learning.{grows_none, grows_twice, has_next, has_none, has_source}
 use Rattle.am_mute.proofs.sources.Sources.learn_by.Goals as goal
-use Rattle.am_mute.proofs.sources.Sources.learn_by.Goals.{In_ok-insert}
+use Rattle.am_mute.proofs.sources.Sources.learn_by.Goals.{then-branch+in_ok-is_one_sided+in_ok-put, else-branch}
 
--- the key that was put in
-abbrev key : (c : In_ok-insert) → SourceKey
-key c = record { rule = c.args.number; hash = c.values_hash.result; place = c.self.inside.learnt }
-
--- the index before
-abbrev before : (c : In_ok-insert) → SourceIndex
-before c = record { all = c.self.inside.all.keys; one_sided = c.self.inside.one_sided.keys; learnt = c.self.inside.learnt }
-
--- the index with the key of a source
-abbrev new : (c : In_ok-insert) → SourceIndex
-new c = record { all = c.insert.new.self.keys; one_sided = c.self.inside.one_sided.keys; learnt = c.self.inside.learnt }
-
-grows : (c : In_ok-insert) → Grows c.args.self.now (new c)
-grows c =
-    subst (λ (s : SourceIndex). Grows s (new c)) c.self.view_is
-    (grows_all (key c) (before c) c.insert.new.self.keys c.in_ok-insert.ensures.updates.0)
-
-pub returns-in_err-all_match-2-clause-grows : goal.returns-in_err-all_match-2-clause-grows
-returns-in_err-all_match-2-clause-grows c = grows (goal.at.returns-in_err-all_match-2-clause-grows c).In_ok-insert
-
-pub returns-then-branch-clause-grows : goal.returns-then-branch-clause-grows
-returns-then-branch-clause-grows c = grows (goal.at.returns-then-branch-clause-grows c).In_ok-insert
-
-pub returns-in_err-insert-2-clause-grows : goal.returns-in_err-insert-2-clause-grows
-returns-in_err-insert-2-clause-grows c =
-    let all = c.insert.new.self.keys in
-    subst (λ ks. Grows c.args.self.now (record { all = all; one_sided = ks; learnt = c.self.inside.learnt }))
-    (sym c.in_err-insert-2.ensures.err) (grows (goal.at.returns-in_err-insert-2-clause-grows c).In_ok-insert)
-
-pub returns-clause-grows : goal.returns-clause-grows
-returns-clause-grows c =
-    let at = (goal.at.returns-clause-grows c).In_ok-insert in
-    let both : SourceIndex =
-    record { all = c.insert.new.self.keys; one_sided = c.insert-2.new.self.keys; learnt = c.self.inside.learnt } in
-    subst (λ (s : SourceIndex). Grows s both) c.self.view_is
-    (grows_both (key at) (before at) c.insert.new.self.keys c.in_ok-insert.ensures.updates.0 c.insert-2.new.self.keys
-    c.in_ok-insert-2.ensures.updates.0)
+pub loop-place-preserved : goal.loop-place-preserved
+loop-place-preserved c =
+    let number = c.args.number in
+    let rule = c.args.rule.now in
+    let known = c.args.known.now in
+    let place = c.loop-place.place in
+    let first = c.args.self.now in
+    let old = c.loop-place.self in
+    let alert = c.index-known-place.result in
+    let labels = c.labels-labels.result.now in
+    let labelled : labels ≡ alert.labels = c.labels-labels.ensures.labels in
+    let source = c.all_match.ensures.kept ∙ c.loop-place.invariant.0 in
+    let told = c.in_ok-all_match.ensures.value ∙ ap (λ (ms : List MatcherParts). match_all ms labels) c.loop-place.invariant.0 in
+    elim c.if-branch.branch [
+      | then-branch+in_ok-is_one_sided+in_ok-put w ↦
+          let new = w.put.new.self in
+          let grows = w.put.ensures.grows in
+          let hashed =
+          w.values_hash.ensures
+          ∙ (ap (λ (es : List (List ℕ)). values_hash w.self-then-branch.inside.seed es labels) w.equal.ensures.equal
+          ∙ (ap (λ (s : SourceIndex). values_hash s.seed rule.equal labels) w.self-then-branch.view_is
+          ∙ ap (λ seed. values_hash seed rule.equal labels) (sym grows.seed))) in
+          let two = w.in_ok-is_one_sided.ensures.value
+          ∙ ap (λ (ms : List MatcherParts). match_all ms labels) c.loop-place.invariant.1 in
+          let next = has_source number rule place labels new w.values_hash.result hashed w.in_ok-put.ensures.all
+          w.in_ok-is_one_sided.field-0 two w.in_ok-put.ensures.one_sided in (
+            source,
+            w.target-is ∙ (w.all_match-then-branch.ensures.kept ∙ c.loop-place.invariant.1),
+            subst (Grows first) (sym w.self-is) (grows_twice first old new c.loop-place.invariant.2 grows),
+            subst (HasKeysFrom number rule known first.learnt (place + 1)) (sym w.self-is)
+                (has_next number rule known first.learnt place old new grows c.loop-place.invariant.3 c.loop-place-test.true alert
+                c.index-known-place.is (subst (λ ls. HasKeys number rule place ls new) labelled next)),
+          )
+      | else-branch w ↦
+          let next = has_none number rule place labels old (sym told ∙ w.if-branch.false) in (
+            source,
+            w.target-is ∙ c.loop-place.invariant.1,
+            subst (Grows first) (sym w.self-is) c.loop-place.invariant.2,
+            subst (HasKeysFrom number rule known first.learnt (place + 1)) (sym w.self-is)
+                (has_next number rule known first.learnt place old old (grows_none old) c.loop-place.invariant.3
+                c.loop-place-test.true alert c.index-known-place.is
+                (subst (λ ls. HasKeys number rule place ls old) labelled next)),
+          )
+    ]

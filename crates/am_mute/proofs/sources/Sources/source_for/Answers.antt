@@ -21,8 +21,8 @@ first_among-requires c =
     let x = c.in-Some.target in
     let ruled = ap (λ (y : TargetData). y.rule) (its at).1 in
     let targeted = ap (λ (y : TargetData). match_all c.args.rule.now.target y.labels) (its at).1 ∙ (its at).0 in
-    subst (HaveSources c.args.number x (take c.self.inside.learnt c.args.known.now)) (sym c.keys_for-keys.ensures)
-    (subst (λ (s : SourceIndex). HaveSources c.args.number x (take s.learnt c.args.known.now)
+    subst (HaveSources c.self.inside.seed c.args.number x (take c.self.inside.learnt c.args.known.now)) (sym c.keys_for-keys.ensures)
+    (subst (λ (s : SourceIndex). HaveSources s.seed c.args.number x (take s.learnt c.args.known.now)
     (cond (match_all x.rule.source x.labels) c.args.self.now.one_sided c.args.self.now.all)) (sym c.self.view_is)
     (have_sources c.args.number c.args.rule.now c.args.known.now c.args.self.now c.requires x ruled targeted))
 

@@ -1,0 +1,2 @@
+-- what a hasher of a seed computes
+pub mod Hashing

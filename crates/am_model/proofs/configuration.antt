@@ -2,4 +2,7 @@ pub mod Carried
 pub mod Faultless
 pub mod FewAsked
 pub mod GroupReceiver
+pub mod Led
 pub mod Receivers
+pub mod Rekeyed
+pub mod RouteKeys

@@ -13,5 +13,6 @@ pub mod Notes
 pub mod Order
 pub mod Reasons
 pub mod Refused
+pub mod Rekeyed
 pub mod Resolved
 pub mod Routed

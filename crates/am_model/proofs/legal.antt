@@ -10,6 +10,7 @@ pub mod ConsistentState
 pub mod EachCall
 pub mod FewGroups
 pub mod FewKnown
+pub mod FoundRows
 pub mod Histories
 pub mod KnownMembers
 pub mod LedRows

@@ -18,6 +18,8 @@ pub mod Forget
 pub mod Insert
 -- what is true after every history, and how a history's state goes record by record
 pub mod Laws
+-- where the keys of routes stand
+pub mod KeyIndex
 -- operations on the lists of a state, which put, remove, change and order elements
 pub mod Lists
 -- a load: a row that another board's log had is put into the log
@@ -30,8 +32,12 @@ pub mod Notice
 pub mod Outcomes
 -- the call and the reply that each record keeps
 pub mod Records
+-- which rows a log under a new configuration has for those of one under an old one, as in Alertmanager
+pub mod Rekey
 -- the reply that is due to a call, the state after each record, and which histories are legal
 pub mod Replay
+-- the key of each route, by which Alertmanager's log knows it again
+pub mod RouteKeys
 -- what a dispatcher of one thread has, as plain lists in the order of arrival
 pub mod State
 -- a ticket as contracts see it, and the outcomes that it records

@@ -2,12 +2,12 @@
 //! of one under an old configuration. After a restart `Board::load` takes each of them.
 ghost use Rattle.std.specs.Prelude.{◌≡◌, ◌≤◌, fold, length, map, None, IfOk, OnOk};
 ghost use Rattle.am_alerts.specs.RoutingTree.{last_of};
-ghost use Rattle.am_model.specs.Carry.{place_at, position_of, moved_to, inherits, with_position, with_heir, with_heirs, heirs, own_or_all, moved, carried};
+ghost use Rattle.am_model.specs.Carry.{place_at, position_of, moved_to, inherits, with_position, with_heir};
+ghost use Rattle.am_model.specs.Carry.{with_heirs, heirs, own_or_all, moved, carried};
 ghost use Rattle.am_model.specs.Config.{config_fault};
 ghost use Rattle.am_model.specs.declared.config.TheConstants.{MAX_INTEGRATIONS};
 
 use crate::config::{Config, Integration, kind_at};
-use crate::group::GroupName;
 use crate::views::RowView;
 use am_alerts::labels::Labels;
 use std::alloc::{AllocError, Global};
@@ -52,7 +52,7 @@ pub fn carried(
 }
 
 /// Returns the position among new integrations of the one that is at a position among old ones.
-fn moved_to(olds: &[Integration], position: u32, news: &[Integration]) -> Option<u32>
+pub(crate) fn moved_to(olds: &[Integration], position: u32, news: &[Integration]) -> Option<u32>
     requires { length news.now ≤ MAX_INTEGRATIONS }
     ensures { result ≡ moved_to olds.now position news.now }
 {
@@ -235,7 +235,7 @@ fn add_route(routes: &mut Vec<u32>, route: u32) -> Result<(), AllocError>
 }
 
 /// Returns a row for each of these routes.
-fn rows_at(
+pub(crate) fn rows_at(
     alloc: Global,
     row: &RowView,
     integration: u32,
@@ -254,15 +254,8 @@ fn rows_at(
 fn moved(alloc: Global, row: &RowView, integration: u32, route: u32) -> Result<RowView, AllocError>
     ensures { IfOk result (λ copy. copy ≡ moved row.now integration route) }
 {
-    Ok(RowView {
-        group: GroupName {
-            route,
-            labels: row.group.labels.copy(alloc)?,
-        },
-        integration,
-        moment: row.moment,
-        expiry: row.expiry,
-        firing: row.firing.copy(alloc)?,
-        resolved: row.resolved.copy(alloc)?,
-    })
+    let mut copy = row.copy(alloc)?;
+    copy.group.route = route;
+    copy.integration = integration;
+    Ok(copy)
 }

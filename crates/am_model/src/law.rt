@@ -1,19 +1,21 @@
 //! The laws of histories, the limits and the faults' numbers, as calls that verifiers read. Each
 //! has an empty body: its `ensures` is the statement.
 ghost use Rattle.am_model.specs.Carry.{CarriedRowsFit, CarriedRowsMayBeLoaded, RestartsCarryRows};
+ghost use Rattle.am_model.specs.Rekey.{RekeyedRowsFit, RekeyedRowsMayBeLoaded, RekeyedHandoversMayBeLoaded, RestartsFindRows, RestartsFindShownRows};
 ghost use Rattle.am_model.specs.Laws.{ReplayAppends, LegalAppends, ClockIsMoment, BeginningsAreLegal};
 ghost use Rattle.am_model.specs.Laws.{ReplaysAreConsistent, ReplaysKnowMembers, LegalKeepsBegins};
 ghost use Rattle.am_model.specs.Laws.{RowsMayBeLoaded, HandoversMayBeLoaded, RowsAreLed, RestartsKeepRows};
 ghost use Rattle.am_model.specs.Laws.{ForgettingChangesNoReply, ForgettingChangesNoState};
 ghost use Rattle.am_model.specs.look_back.Interval.{BeginsKeepTheInterval};
 ghost use Rattle.am_model.specs.look_back.Laws.{EveryLegalHistory, AlertsAreFound, ShownAlertsAreFound, RowsAreFound, ShownRowsAreFound};
-ghost use Rattle.am_model.specs.look_back.Laws.{OnlyDeliveredIsLogged, RowsComeByDelivery, RowsWereDelivered, LoadsPutLaterRows, RefiringAlertsStay};
-ghost use Rattle.am_model.specs.look_back.Laws.{FlushesEndOnce};
+ghost use Rattle.am_model.specs.look_back.Laws.{OnlyDeliveredIsLogged, RowsComeByDelivery, RowsWereDelivered};
+ghost use Rattle.am_model.specs.look_back.Laws.{LoadsPutLaterRows, RefiringAlertsStay, FlushesEndOnce};
 ghost use Rattle.am_model.specs.look_back.Laws.{BeginsNotifyExactlyWhomNeeded, NoticesListPresentAlerts, LooksBack};
 ghost use Rattle.am_model.specs.look_back.Preview.{PreviewsAreFound};
 ghost use Rattle.am_model.specs.look_back.Reasons.{BeginsHaveReasons, ReasonsAreSo, NotYetEnds};
 ghost use Rattle.am_model.specs.Values.{LimitsAre, DefaultIs, TimesAre};
-ghost use Rattle.am_model.specs.Values.{CallFaultsAre, NoteFaultsAre, LoadFaultsAre, ConfigFaultsAre, BoardFaultsAre, TakeFaultsAre, ReportFaultsAre};
+ghost use Rattle.am_model.specs.Values.{CallFaultsAre, NoteFaultsAre, LoadFaultsAre, ConfigFaultsAre};
+ghost use Rattle.am_model.specs.Values.{BoardFaultsAre, TakeFaultsAre, ReportFaultsAre};
 
 use crate::config::ConfigFault;
 use crate::fault::{Fault, LoadFault, NoteFault, ReportFault, TakeFault};
@@ -130,6 +132,23 @@ pub fn rows_are_carried()
     ensures restart { RestartsCarryRows }
     ensures led { RowsAreLed }
     ensures kept { RestartsKeepRows }
+{}
+
+/// States what `Rekeying::rows` returns.
+///
+/// Clause `fit`: each row that it returns has an integration of the new configuration, under a route
+/// that has the receiver and the key of the old row's route, and is else as that row. Clause `load`:
+/// where a row may be loaded under the old configuration, each that it returns for it may be loaded
+/// under the new one. Clause `handover`: that is true of each row that a board returns, at any state
+/// of a board of the new configuration, if the load hands in the old board's clock or a later time.
+/// Clause `restart`: under the same configuration it returns the row itself, at least, if the row has
+/// an integration there. Clause `kept`: so it returns each row that a board returns.
+pub fn rows_are_found_again()
+    ensures fit { RekeyedRowsFit }
+    ensures load { RekeyedRowsMayBeLoaded }
+    ensures handover { RekeyedHandoversMayBeLoaded }
+    ensures restart { RestartsFindRows }
+    ensures kept { RestartsFindShownRows }
 {}
 
 /// States that the rows of a log may be loaded, and so may those that `carried` returns for them.

@@ -2,6 +2,9 @@
 //! histories. `am_board` keeps to them, and contracts above cite them. It stores nothing.
 //!
 //! - `carry`: which rows a log under another configuration takes over, with specs `Carry`.
+//! - `boxed`: a value behind a pointer, for the large parts of a record.
+//! - `rekey`: which rows it has as Alertmanager's log finds them again, with specs `Rekey`;
+//!   `route_keys`: the keys of routes, by which it does, with specs `RouteKeys`.
 //! - `config`, `fault`, `group`, `notice`, `outcome`, `preview`, `reason`, `record`, `views`: the
 //!   data, each type with its own calls.
 //! - `law`: the laws, as public calls without a body.
@@ -26,6 +29,7 @@
 //! that is put again after a collection comes last.
 #![tactic(auto)]
 
+pub mod boxed;
 pub mod carry;
 pub mod config;
 pub mod fault;
@@ -36,4 +40,6 @@ pub mod outcome;
 pub mod preview;
 pub mod reason;
 pub mod record;
+pub mod rekey;
+pub mod route_keys;
 pub mod views;

@@ -1,6 +1,5 @@
 //! `Record`: an accepted call with its pass and its reply. Histories are lists of records.
-ghost use Rattle.std.specs.Prelude.{◌≡◌, IfOk};
-
+use crate::boxed::Boxed;
 use crate::group::GroupName;
 use crate::notice::Notice;
 use crate::views::RowView;
@@ -8,8 +7,7 @@ use am_alerts::alert::Alert;
 use am_alerts::matcher::MatcherParts;
 use am_alerts::sequence::Sequence;
 use am_retry::Outcome;
-use std::alloc::{AllocError, Global};
-use std::marker::Model;
+use std::mem::size_of;
 
 /// The reply to an insert.
 #[derive(Clone, Copy, Debug, PartialEq, Eq)]
@@ -67,40 +65,6 @@ pub enum Loaded {
     Expired,
 }
 
-/// A log row as the record of a load keeps it: boxed, so that other records stay small.
-///
-/// Contracts see it as the row.
-#[derive(Debug, Drop)]
-pub struct RowBox {
-    row: Box<RowView>,
-}
-
-impl Model for RowBox {
-    ghost use Rattle.am_model.specs.declared.views.RowView.{RowView};
-
-    ghost Value = { RowView };
-
-    ghost view = { λ b. b.row.value };
-}
-
-impl RowBox {
-    /// Boxes a row.
-    pub fn new(alloc: Global, row: RowView) -> Result<RowBox, AllocError>
-        ensures { IfOk result (λ boxed. boxed ≡ row) }
-    {
-        Ok(RowBox {
-            row: Box::new(alloc, row)?,
-        })
-    }
-
-    /// Returns the row.
-    pub fn row(&self) -> &RowView
-        ensures { result.now ≡ self.now }
-    {
-        &self.row
-    }
-}
-
 /// The reply to a note.
 #[derive(Clone, Copy, Debug, PartialEq, Eq)]
 pub struct Noted;
@@ -115,7 +79,7 @@ pub enum Call {
     Silence {
         now: u64,
         id: u64,
-        matchers: Sequence<MatcherParts>,
+        matchers: Boxed<Sequence<MatcherParts>>,
         start: u64,
         end: u64,
     },
@@ -137,7 +101,7 @@ pub enum Call {
     /// The row is the one that was handed in, whatever became of it.
     Load {
         now: u64,
-        row: RowBox,
+        row: Boxed<RowView>,
     },
     /// The outcome is the one of the ticket for the integration.
     Note {
@@ -162,7 +126,7 @@ pub enum Reply {
         number: u64,
         group: GroupName,
         deadline: u64,
-        notices: Sequence<Notice>,
+        notices: Boxed<Sequence<Notice>>,
     },
     Finished(Finished),
     Maintained(Maintained),
@@ -179,3 +143,6 @@ pub struct Record {
     pub call: Call,
     pub reply: Reply,
 }
+
+// A history has a record for each call, so what is large in few of them is boxed.
+const _: () = prove!(size_of::<Record>() == 104);

@@ -1,8 +1,11 @@
 //! What a board returns of its state: log rows, groups and counts.
+ghost use Rattle.std.specs.Prelude.{◌≡◌, IfOk};
+
 use crate::group::GroupName;
 use am_alerts::alert::Alert;
 use am_alerts::labels::Labels;
 use am_alerts::sequence::Sequence;
+use std::alloc::{AllocError, Global};
 
 /// A log row. Times are in milliseconds, and label sets are in their order.
 #[derive(Debug, Drop)]
@@ -13,6 +16,22 @@ pub struct RowView {
     pub expiry: u64,
     pub firing: Sequence<Labels>,
     pub resolved: Sequence<Labels>,
+}
+
+impl RowView {
+    /// Returns a copy of this row.
+    pub fn copy(&self, alloc: Global) -> Result<RowView, AllocError>
+        ensures { IfOk result (λ row. row ≡ self.now) }
+    {
+        Ok(RowView {
+            group: self.group.copy(alloc)?,
+            integration: self.integration,
+            moment: self.moment,
+            expiry: self.expiry,
+            firing: self.firing.copy(alloc)?,
+            resolved: self.resolved.copy(alloc)?,
+        })
+    }
 }
 
 /// A group. Its alerts are in the order of their labels.

@@ -71,13 +71,13 @@ own-found kind (x ∷ xs) (suc p) n l e =
 none-more : (p : ℕ) → 0 + p ≡ p
 none-more p = omega arith
 
-own-place : (xs : List Integration) (p : ℕ) → p < length xs → moved_to xs p xs ≡ Some p
+pub own-place : (xs : List Integration) (p : ℕ) → p < length xs → moved_to xs p xs ≡ Some p
 own-place xs p l =
     ap (λ b. if b then position_of (kind_at xs p) (place_at xs p) 0 xs else None) (lt-ltb p (length xs) l)
     ∙ own-found (kind_at xs p) xs p 0 l ((bytes_eq-Decides (kind_at xs p) (kind_at xs p)).1 refl)
     ∙ ap Some (none-more p)
 
-moved-within : (olds news : List Integration) (p q : ℕ) → moved_to olds p news ≡ Some q → q < length news
+pub moved-within : (olds news : List Integration) (p q : ℕ) → moved_to olds p news ≡ Some q → q < length news
 moved-within olds news p q e =
     elim (nat_lt p (length olds)) as (λ b. (if b then position_of (kind_at olds p) (place_at olds p) 0 news else None) ≡ Some q → q < length news) [
       | true ↦ λ e. omega (arith, found-within (kind_at olds p) (place_at olds p) 0 news q e)

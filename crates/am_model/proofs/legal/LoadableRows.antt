@@ -284,7 +284,7 @@ pub rows_may_be_loaded : RowsMayBeLoaded
 rows_may_be_loaded config history t later = all_from (λ row. may_load config t row ≡ true) (replay config history).rows (rows-load config history t later)
 
 -- a call that hands in the clock's moment or a later one isn't before it
-moment-from : (s : State) (now clock : ℕ) → clock ≤ MAX_MOMENT → clock ≤ now → clock ≤ moment s now
+pub moment-from : (s : State) (now clock : ℕ) → clock ≤ MAX_MOMENT → clock ≤ now → clock ≤ moment s now
 moment-from s now clock within later = omega (arith, within, later)
 
 pub handovers_may_be_loaded : HandoversMayBeLoaded

@@ -2,11 +2,10 @@
 use Rattle.std.specs.Prelude.{◌≡◌, ℕ, ◌&&◌, Bool, IsTrue, List, [], filter, map, Some, if◌then◌else◌, ◌≢◌, ◌*◌, ◌≤◌, ◌<◌, ◌⊎◌, min}
 use Rattle.std.specs.Prelude.{IfSome, All, Option, None, Result, Ok, Err, vec_len, vec_capacity, ◌+◌, not, nat_le, length, slice_index_or}
 use Rattle.am_alerts.specs.AlertData.{AlertData, is_resolved}
-use Rattle.am_alerts.specs.Labels.{label_set_cmp, same_label_set}
+use Rattle.am_alerts.specs.Labels.{label_set_cmp}
 use Rattle.am_mute.specs.Inhibit.{RuleData}
 use Rattle.am_mute.specs.Mute.{is_muted}
 use Rattle.am_nflog.specs.Members.{is_ascending, is_empty}
-use Rattle.am_nflog.specs.Needed.{needed}
 use Rattle.am_board.specs.declared.dedup.Update.{Update}
 use Rattle.am_model.specs.declared.config.Config.{Config}
 use Rattle.am_model.specs.declared.config.Integration.{Integration}
@@ -18,8 +17,7 @@ use Rattle.am_board.specs.declared.unmuted.Unmuted.{Unmuted}
 use Rattle.am_board.specs.declared.group.Group.{Group}
 use Rattle.am_model.specs.declared.group.GroupName.{GroupName}
 use Rattle.am_board.specs.declared.group.Member.{Member}
-use Rattle.am_model.specs.declared.views.RowView.{RowView}
-use Rattle.am_model.specs.Begin.{copied, entry_of, firing_of, resolved_of, label_sets, asked_of, deadline_of, flush_asking, notice_for}
+use Rattle.am_model.specs.Begin.{copied, firing_of, resolved_of, label_sets, asked_of, deadline_of, flush_asking, notice_for}
 use Rattle.am_model.specs.Begin.{due_cmp, taken}
 use Rattle.am_model.specs.Notice.{NoticeData}
 use Rattle.am_board.specs.Refinement.{member_state, flush_state, state_of, group_state}
@@ -57,12 +55,6 @@ pub record IsUnmuted (config : Config) (s : State) (t : ℕ) (g : GroupState) (u
   pub firing : unmuted.firing ≡ firing_of config s t g
   pub resolved : unmuted.resolved ≡ resolved_of config s t g
 
--- of these members under these rules, those that fire and those that are resolved, in their order
-pub record AreUnmuted (rules : List RuleData) (s : State) (t : ℕ) (members : List Member)
-    (fire are_resolved : List AlertData) : Type 0 where
-  pub firing : fire ≡ firing_among rules s t members
-  pub resolved : are_resolved ≡ resolved_among rules s t members
-
 -- the label sets of what is unmuted
 abbrev pub alert_sets_of : Unmuted → AlertSets
 alert_sets_of unmuted = record { firing = label_sets unmuted.firing; resolved = label_sets unmuted.resolved }
@@ -75,11 +67,6 @@ pub record AreRising (unmuted : Unmuted) : Type 0 where
 -- an integration that is asked, without what it is
 abbrev pub update_of : ℕ × Integration → Update
 update_of i = record { integration = i.0; send_resolved = i.1.send_resolved }
-
--- whether an integration needs an update about these label sets of a group, where these are the rows of the log
-abbrev pub needs_update_for : List RowView → GroupName → AlertSets → ℕ → ℕ → ℕ × Integration → Bool
-needs_update_for rows name sets repeat t i =
-    needed same_label_set (entry_of rows name i.0) sets.firing sets.resolved i.1.send_resolved repeat t
 
 -- the resolved alerts that are sent, if any are
 abbrev pub sent_where : Bool → Unmuted → List AlertData
@@ -173,9 +160,17 @@ pub record IsChosen (config : Config) (s : kept.State) (chosen : ChosenGroup) (g
   pub first : taken (state_of s) chosen.t ≡ Some (group_state g)
   pub due : chosen.due ≡ chosen.t + (route_of config g.name).group_interval
 
--- a begin at t asks no integration of the group that it takes
-abbrev pub IsQuietAt : Config → State → ℕ → Type 0
-IsQuietAt config s t = (g : GroupState) → taken s t ≡ Some g → asked_of config s t g ≡ []
+-- a call of the pass p at the time n takes this group
+pub record IsTaking (config : Config) (s : kept.State) (p n : ℕ) (c : ChosenGroup) : Type 0 where
+  pub pass : c.pass ≡ p
+  pub now : c.now ≡ n
+  pub group : Group
+  pub chosen : IsChosen config s c group
+
+-- what a call of a pass at this time takes: a group, or none where none may be taken
+abbrev pub IsChoice : Config → kept.State → ℕ → ℕ → Option ChosenGroup → Type 0
+IsChoice config s pass now None = taken (state_of s) (moment (state_of s) now) ≡ None
+IsChoice config s pass now (Some chosen) = IsTaking config s pass now chosen
 
 -- how a begin ends for which nothing but memory can be wanting
 abbrev pub IsEnd : Config → ℕ → ℕ → ℕ → kept.State → kept.State → Result Begun Fault → Type 0

@@ -4,6 +4,8 @@ pub mod Beginning
 pub mod Board
 -- the cached names of known alerts' groups are those that the configuration gives
 pub mod GroupNameCache
+-- why an integration is notified, by its row in the stored log, and whom a begin notifies for these reasons
+pub mod Dedup
 -- the keys of the set of due times, and what the set has while it is complete
 pub mod Due
 -- the laws of the order of those keys
@@ -40,9 +42,11 @@ pub mod Members
 pub mod Noting
 -- the alerts of a group in the order of their labels, as places
 pub mod Order
--- why an integration is notified, by its row in the stored log
+-- between the code of a preview and its definition: what it finds in the group that a begin takes
 pub mod Preview
 -- what a call does to the stored state of a board
 pub mod Step
 -- label sets that no silence mutes, as they are noted
 pub mod Unsilenced
+-- what a walk over the alerts of a group finds, by what mutes each of them
+pub mod Walk

@@ -1,39 +1,15 @@
--- Preview: why an integration is notified, by its row in the stored log.
-use Rattle.std.specs.Prelude.{ℕ, ◌+◌, ◌^◌, ◌<◌, ◌&&◌, Bool, List, Option, ⊤, if◌then◌else◌}
-use Rattle.am_alerts.specs.Labels.{same_label_set}
-use Rattle.am_alerts.specs.declared.labels.Label.{Label}
-use Rattle.am_nflog.specs.Members.{is_empty}
-use Rattle.am_nflog.specs.Needed.{update_reason}
-use Rattle.am_nflog.specs.declared.row.LogRow.{LogRow}
-use Rattle.am_nflog.specs.declared.update.UpdateReason.{UpdateReason}
-use Rattle.am_nflog.specs.declared.update.UpdateReason.TheVariants.{FirstNotice, NewAlert, AllResolved, NewlyResolved, Repeat}
-use Rattle.am_nflog.specs.declared.update.UpdateReason.TheVariants.{NothingFiring}
-use Rattle.am_nflog.specs.declared.update.UpdateReason.TheVariants.{NotYet}
-use Rattle.am_model.specs.declared.config.Integration.{Integration}
-use Rattle.am_model.specs.declared.group.GroupName.{GroupName}
-use Rattle.am_model.specs.declared.reason.Reason.{Reason}
-use Rattle.am_model.specs.declared.reason.Reason.TheVariants.{NothingLeft}
-use Rattle.am_model.specs.declared.views.RowView.{RowView}
-use Rattle.am_model.specs.Begin.{entry_of}
-use Rattle.am_model.specs.look_back.Reasons.{reason_of_update}
-use Rattle.am_board.specs.declared.flush.AlertSets.{AlertSets}
+-- Preview: between the code of a preview and its definition. What it finds in the group that a begin takes.
+use Rattle.std.specs.Prelude.{◌≡◌, ℕ, map}
+use Rattle.am_model.specs.Begin.{asked_of}
+use Rattle.am_model.specs.State.{GroupState, State}
+use Rattle.am_model.specs.declared.config.Config.{Config}
+use Rattle.am_model.specs.look_back.Preview.{preview_on, reason_of}
+use Rattle.am_board.specs.Beginning.{IsUnmuted, alert_sets_of, update_of}
+use Rattle.am_board.specs.declared.preview.GroupPreview.{GroupPreview}
 
--- where no update is needed yet, the moment from which on one is fits a number of 64 bits
-abbrev pub EndsInTime : ℕ → UpdateReason → Type 0
-EndsInTime repeat FirstNotice = ⊤
-EndsInTime repeat NewAlert = ⊤
-EndsInTime repeat AllResolved = ⊤
-EndsInTime repeat NewlyResolved = ⊤
-EndsInTime repeat Repeat = ⊤
-EndsInTime repeat NothingFiring = ⊤
-EndsInTime repeat (NotYet since) = since + repeat + 1 < 2 ^ 64
-
--- the reason by the row that is kept, if there is one, but where nothing fires and nothing is resolved nothing is left to tell
-abbrev pub reason_told_by : Option (LogRow (List Label)) → AlertSets → Bool → ℕ → ℕ → Reason
-reason_told_by logged sets send_resolved repeat t =
-    if is_empty sets.firing && is_empty sets.resolved then NothingLeft
-    else reason_of_update repeat (update_reason same_label_set logged sets.firing sets.resolved send_resolved repeat t)
-
--- the reason of an integration of a group about these label sets, where these are the rows of the log
-abbrev pub reason_among : List RowView → GroupName → AlertSets → ℕ → ℕ → ℕ × Integration → Reason
-reason_among rows name sets repeat t i = reason_told_by (entry_of rows name i.0) sets i.1.send_resolved repeat t
+-- what a preview at t finds in a group: what is shown is what the definitions give, and what a begin works on is theirs
+pub record IsGroupPreview (config : Config) (s : State) (t : ℕ) (g : GroupState) (p : GroupPreview) : Type 0 where
+  pub preview : p.preview ≡ preview_on config s t (reason_of config s t) g
+  pub unmuted : IsUnmuted config s t g p.unmuted
+  pub sets : p.sets ≡ alert_sets_of p.unmuted
+  pub asked : p.asked.items ≡ map update_of (asked_of config s t g)

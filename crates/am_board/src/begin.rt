@@ -3,15 +3,16 @@
 //!
 //! Steps, if the history has room (`take_with_room`): `Groups::first_due` picks the group,
 //! `prepare` sorts it and notes what no silence mutes, `plan` finds what is unmuted and whom to
-//! notify. A begin that opens a flush allocates in this order:
-//! - the unmuted alerts, their label sets, the integrations that need an update;
+//! notify, and `begin_planned` ends the begin. `previewed` has the same steps, with a preview in the
+//! place of what `plan` finds. A begin that opens a flush allocates in this order:
+//! - the unmuted alerts, their label sets, the reasons of the integrations;
 //! - all that goes into the board and the ticket;
 //! - the capacity of the history, the open flush, the log keys.
 //!
 //! `TooManyOpen` comes once it is known that an integration needs an update. Log keys of a failed
 //! begin can stay known: a known key without a row shows nowhere.
-ghost use Rattle.std.specs.Prelude.{◌≡◌, ◌≢◌, ℕ, ◌+◌, ◌<◌, ◌≤◌, [], None, length, map, true};
-ghost use Rattle.std.specs.Prelude.{All, IsTrue, MatchResult, OnOk, vec_len, vec_capacity};
+ghost use Rattle.std.specs.Prelude.{◌≡◌, ◌≢◌, ℕ, ◌+◌, ◌<◌, ◌≤◌, [], None, length, map};
+ghost use Rattle.std.specs.Prelude.{All, IfSome, IsTrue, MatchResult, Ok, OnOk, vec_len, vec_capacity};
 ghost use Rattle.std.specs.List.{IsDistinct};
 ghost use Rattle.am_alerts.specs.RoutingTree.{last_of, route_at};
 ghost use Rattle.am_nflog.specs.Log.{is_known};
@@ -24,7 +25,7 @@ ghost use Rattle.am_model.specs.Records.{entry};
 ghost use Rattle.am_board.specs.History.{reply_of, IsFresh};
 ghost use Rattle.am_board.specs.Refinement.{state_of, group_state};
 ghost use Rattle.am_board.specs.LogRows.{log_rows};
-ghost use Rattle.am_board.specs.Beginning.{IsPlannedFlush, IsChosen, IsEnd, IsQuietAt};
+ghost use Rattle.am_board.specs.Beginning.{IsPlan, IsPlannedFlush, IsChoice, IsChosen, IsEnd};
 ghost use Rattle.am_model.specs.State.{moment, same_name};
 ghost use Rattle.am_board.specs.Step.{StateInvariant, AppliesCall, LeavesUnchanged, IsAnswer};
 ghost use Rattle.am_model.specs.declared.config.TheConstants.{MAX_INTEGRATIONS};
@@ -88,6 +89,7 @@ pub(crate) fn take_group(
 ) -> Result<Begun, Fault>
     requires good { StateInvariant config.now state.old }
     requires sources { AreLearnt config.now.rules state.old.known.items sources.now }
+    requires moments { All (λ row. row.moment ≤ MAX_MOMENT) (log_rows state.old.log) }
     ensures { MatchResult result
         (λ begun. (begin_cause config.now (vec_len state.old.history) (state_of state.old) (moment (state_of state.old) now) ≡ None)
         × AppliesCall config.now id (entry pass (Call.Begin now) (reply_of begun)) state.old state.new × IsFresh id begun)
@@ -97,13 +99,11 @@ pub(crate) fn take_group(
     if !state.has_room(2, config.limits.history) {
         return Err(Fault::HistoryFull);
     }
-    take_with_room(alloc, config, id, state, sources, pass, now, false)
+    take_with_room(alloc, config, id, state, sources, pass, now)
 }
 
 /// Does what `take_group` does once the history is known to have room.
-///
-/// `is_quiet` says that no integration needs an update: then that isn't worked out.
-pub(crate) fn take_with_room(
+fn take_with_room(
     alloc: Global,
     config: &Config,
     id: u64,
@@ -111,35 +111,62 @@ pub(crate) fn take_with_room(
     sources: &Sources,
     pass: u32,
     now: u64,
-    is_quiet: bool,
 ) -> Result<Begun, Fault>
     requires good { StateInvariant config.now state.old }
     requires sources { AreLearnt config.now.rules state.old.known.items sources.now }
+    requires moments { All (λ row. row.moment ≤ MAX_MOMENT) (log_rows state.old.log) }
     requires room { vec_len state.old.history + vec_len state.old.flushes + 2 ≤ config.now.limits.history }
-    requires quiet { is_quiet ≡ true → IsQuietAt config.now (state_of state.old) (moment (state_of state.old) now) }
     ensures { MatchResult result
         (λ begun. (begin_cause config.now (vec_len state.old.history) (state_of state.old) (moment (state_of state.old) now) ≡ None)
         × AppliesCall config.now id (entry pass (Call.Begin now) (reply_of begun)) state.old state.new × IsFresh id begun)
         (λ fault. IsAnswer (begin_cause config.now (vec_len state.old.history) (state_of state.old) (moment (state_of state.old) now)) fault
         × LeavesUnchanged config.now state.old state.new) }
 {
-    let t = state.moment(now);
-    let Some(place) = state.groups.first_due(state.flushes.as_slice(), t) else {
+    let Some(chosen) = choose(config, state, pass, now) else {
+        let t = state.moment(now);
         return begin_nothing(state, pass, now, t);
     };
+    prepare(alloc, state, chosen.place, chosen.t);
+    let planned = plan(alloc, config, id, state, sources, chosen)?;
+    begin_planned(alloc, id, state, chosen, planned)
+}
+
+/// Returns the group that a begin takes: the one that is due first and has no open flush.
+pub(crate) fn choose(config: &Config, state: &State, pass: u32, now: u64) -> Option<ChosenGroup>
+    requires { StateInvariant config.now state.now }
+    ensures { IsChoice config.now state.now pass now result }
+{
+    let t = state.moment(now);
+    let Some(place) = state.groups.first_due(state.flushes.as_slice(), t) else {
+        return None;
+    };
     let due = due_again(config, state.groups.at(place).name.route, t);
-    let chosen = ChosenGroup {
+    Some(ChosenGroup {
         pass,
         now,
         t,
         place,
         due,
-    };
-    if is_quiet {
-        return begin_quiet(alloc, state, chosen);
-    }
-    prepare(alloc, state, place, t);
-    match plan(alloc, config, id, state, sources, chosen)? {
+    })
+}
+
+/// Opens the planned flush of a begin, or ends the begin where none is planned.
+pub(crate) fn begin_planned(
+    alloc: Global,
+    id: u64,
+    state: &mut State,
+    chosen: ChosenGroup,
+    planned: Option<PlannedFlush>,
+) -> Result<Begun, Fault>
+    requires place { chosen.place < length state.old.groups.items }
+    requires none { IfSome planned (λ p. vec_len p.outcomes ≡ 0) }
+    requires room { IfSome planned (λ p. vec_len p.notices ≤ vec_capacity p.outcomes) }
+    requires few { IfSome planned (λ p. vec_len p.notices ≤ MAX_INTEGRATIONS) }
+    ensures { (config : ConfigData) (g : Group) → StateInvariant config state.old → IsChosen config state.old chosen g
+        → IsPlan config id (vec_len state.old.flushes) (state_of state.old) chosen.t (group_state g) (Ok planned)
+        → IsEnd config id chosen.pass chosen.now state.old state.new result }
+{
+    match planned {
         None => begin_quiet(alloc, state, chosen),
         Some(planned) => begin_flush(alloc, id, state, chosen, planned),
     }
@@ -147,7 +174,7 @@ pub(crate) fn take_with_room(
 
 /// Computes the order by labels of the alerts of the group at a place, and notes those that no
 /// silence mutes at `t`.
-fn prepare(alloc: Global, state: &mut State, place: usize, t: u64)
+pub(crate) fn prepare(alloc: Global, state: &mut State, place: usize, t: u64)
     requires place { place < length state.old.groups.items }
     requires apart { All (λ g. IsDistinct same_member g.members) (map group_state state.old.groups.items) }
     ensures { state.new ≡ state.old }
@@ -168,7 +195,7 @@ fn due_again(config: &Config, route: u32, t: u64) -> u64
 }
 
 /// Ends a begin for which no group is due.
-fn begin_nothing(state: &mut State, pass: u32, now: u64, t: u64) -> Result<Begun, Fault>
+pub(crate) fn begin_nothing(state: &mut State, pass: u32, now: u64, t: u64) -> Result<Begun, Fault>
     ensures { (config : ConfigData) (id : ℕ) → StateInvariant config state.old
         → t ≡ moment (state_of state.old) now → taken (state_of state.old) t ≡ None
         → IsEnd config id pass now state.old state.new result }

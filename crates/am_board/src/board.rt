@@ -33,6 +33,7 @@ use am_ghost::GhostList;
 use am_model::views::RowView;
 use am_mute::silence::Silence;
 use am_mute::sources::Sources;
+use am_seed::Seed;
 use std::alloc::Global;
 use std::marker::Model;
 
@@ -79,10 +80,27 @@ impl Model for Board {
 impl Board {
     /// Returns an empty dispatcher of this configuration, whose tickets carry this id.
     ///
+    /// Everybody knows what its hashes start from: whoever chooses labels can make them collide, and
+    /// a call then takes time in proportion to all that collide. This will do for tests, and where
+    /// whoever chooses labels gains nothing from it. Else use `seeded`.
+    ///
     /// # Errors
     ///
     /// `BadConfig` exactly where `Config::check` fails. Never allocates.
     pub fn new(alloc: Global, config: Config, id: u64) -> Result<Board, BoardFault>
+        ensures { result ≡ ok_unless (option_map BoardFault.BadConfig (config_fault config)) (opening config id) }
+    {
+        Board::seeded(alloc, config, id, Seed::fixed())
+    }
+
+    /// Returns the dispatcher that `new` returns, whose hashes start from this seed.
+    ///
+    /// A program draws one at its start (`Seed::draw`). No reply depends on it.
+    ///
+    /// # Errors
+    ///
+    /// As `new`. Never allocates.
+    pub fn seeded(alloc: Global, config: Config, id: u64, seed: Seed) -> Result<Board, BoardFault>
         ensures { result ≡ ok_unless (option_map BoardFault.BadConfig (config_fault config)) (opening config id) }
     {
         match config.check() {
@@ -90,8 +108,8 @@ impl Board {
             Ok(()) => Ok(Board {
                 config,
                 id,
-                state: State::new(alloc)?,
-                sources: Sources::new(alloc),
+                state: State::new(alloc, seed)?,
+                sources: Sources::new(alloc, seed),
                 destinations: GroupNameCache::new(alloc),
                 handed: 0,
                 past: GhostList::new(),

@@ -1,20 +1,27 @@
-//! Which integrations need an update, by the log (`notify.DedupStage`). `plan` calls it.
-ghost use Rattle.std.specs.Prelude.{◌≡◌, ◌≤◌, IfOk, length, map, filter};
+//! Which integrations need an update, and why, by the log (`notify.DedupStage`). `plan` and `preview`
+//! call `decide`.
+//!
+//! One walk over the integrations finds the reason of each. `update_reason` of `am_nflog` alone
+//! decides: an integration is notified if its reason says so.
+ghost use Rattle.std.specs.Prelude.{◌≡◌, ◌+◌, ◌<◌, ◌≤◌, ◌^◌, All, IfOk, IfSome, length};
 ghost use Rattle.std.specs.List.{enumerate_from};
+ghost use Rattle.std.specs.Option.{option_copied};
 ghost use Rattle.am_alerts.specs.RoutingTree.{last_of};
-ghost use Rattle.am_model.specs.Begin.{needs};
 ghost use Rattle.am_model.specs.Configured.{HaveFewIntegrations, integrations_of};
-ghost use Rattle.am_board.specs.Beginning.{update_of, needs_update_for};
+ghost use Rattle.am_model.specs.declared.config.TheConstants.{MAX_INTEGRATIONS};
+ghost use Rattle.am_model.specs.look_back.Reasons.{reason_of_update};
+ghost use Rattle.am_board.specs.Dedup.{EndsInTime, AreDecided, reason_among, reason_for, reason_told_by};
 ghost use Rattle.am_board.specs.Refinement.{state_of};
 ghost use Rattle.am_board.specs.LogRows.{log_rows};
-ghost use Rattle.am_model.specs.declared.config.TheConstants.{MAX_INTEGRATIONS};
 
 use crate::config::{Config, Integration};
 use crate::flush::AlertSets;
 use crate::group::GroupName;
+use crate::reason::Reason;
 use crate::state::State;
 use am_alerts::labels::Labels;
-use am_nflog::{LogKey, NfLog, needs_update};
+use am_alerts::limits::MAX_MOMENT;
+use am_nflog::{LogKey, LogRow, NfLog, UpdateReason, update_reason};
 use std::alloc::{AllocError, Global};
 
 /// An integration that needs an update.
@@ -24,39 +31,72 @@ pub(crate) struct Update {
     pub(crate) send_resolved: bool,
 }
 
-/// The integrations of a group's receiver that need an update about these label sets.
-pub(crate) fn asked(
+/// Why each integration of a receiver is notified or not, and those that are.
+#[derive(Drop)]
+pub(crate) struct Decided {
+    pub(crate) reasons: Vec<Reason>,
+    pub(crate) asked: Vec<Update>,
+}
+
+/// Decides whether each integration of a group's receiver needs an update about these label sets, and
+/// why. None does where the group's route is muted until a time.
+pub(crate) fn decide(
     alloc: Global,
     config: &Config,
     state: &State,
     group: &GroupName,
+    muted_until: Option<u64>,
     sets: &AlertSets,
     t: u64,
-) -> Result<Vec<Update>, AllocError>
+) -> Result<Decided, AllocError>
     requires route { group.now.route ≤ last_of config.now.routes }
     requires few { HaveFewIntegrations config.now }
-    ensures { IfOk result (λ asked. asked.items ≡ map update_of
-        (filter (needs config.now (state_of state.now) t group.now sets.now.firing sets.now.resolved)
-        (integrations_of config.now group.now))) }
+    requires moments { All (λ row. row.moment ≤ MAX_MOMENT) (log_rows state.now.log) }
+    ensures { IfOk result
+        (AreDecided (reason_for config.now (state_of state.now) group.now muted_until sets.now t) (integrations_of config.now group.now)) }
 {
     let route = config.routes.route(group.route);
     let Some(receiver) = config.receiver(route.receiver.as_str()) else {
-        return Ok(Vec::new(alloc));
+        return Ok(Decided {
+            reasons: Vec::new(alloc),
+            asked: Vec::new(alloc),
+        });
     };
     let integrations = receiver.integrations.as_slice();
-    asked_of(
-        alloc,
-        integrations,
-        &state.log,
-        group,
-        sets,
-        route.repeat_interval,
-        t,
-    )
+    match muted_until {
+        Some(until) => decide_muted(alloc, integrations, until),
+        None => decide_each(
+            alloc,
+            integrations,
+            &state.log,
+            group,
+            sets,
+            route.repeat_interval,
+            t,
+        ),
+    }
 }
 
-/// Those of a receiver's integrations that need an update of a group.
-fn asked_of(
+/// The reason of each of these integrations is that their group's route is muted until a time.
+fn decide_muted(
+    alloc: Global,
+    integrations: &[Integration],
+    until: u64,
+) -> Result<Decided, AllocError>
+    ensures { IfOk result (AreDecided (λ i. Reason.RouteMuted until) (enumerate_from 0 integrations.now)) }
+{
+    let mut reasons = Vec::with_capacity(alloc, integrations.len())?;
+    for _ in integrations {
+        reasons.push(Reason::RouteMuted { until })?;
+    }
+    Ok(Decided {
+        reasons,
+        asked: Vec::new(alloc),
+    })
+}
+
+/// Decides for each of these integrations by its row of the log.
+fn decide_each(
     alloc: Global,
     integrations: &[Integration],
     log: &NfLog<GroupName, Labels>,
@@ -64,31 +104,68 @@ fn asked_of(
     sets: &AlertSets,
     repeat_interval: u64,
     t: u64,
-) -> Result<Vec<Update>, AllocError>
-    requires { length integrations.now ≤ MAX_INTEGRATIONS }
-    ensures { IfOk result (λ asked. asked.items ≡ map update_of
-        (filter (needs_update_for (log_rows log.now) group.now sets.now repeat_interval t) (enumerate_from 0 integrations.now))) }
+) -> Result<Decided, AllocError>
+    requires few { length integrations.now ≤ MAX_INTEGRATIONS }
+    requires fits { All (λ row. row.moment + repeat_interval + 1 < 2 ^ 64) (log_rows log.now) }
+    ensures { IfOk result
+        (AreDecided (reason_among (log_rows log.now) group.now sets.now repeat_interval t) (enumerate_from 0 integrations.now)) }
 {
+    let mut reasons = Vec::with_capacity(alloc, integrations.len())?;
     let mut asked = Vec::new(alloc);
     let mut key = LogKey {
         group: group.copy(alloc)?,
         integration: 0,
     };
     for integration in integrations {
-        if needs_update(
-            log.get(&key),
-            sets.firing.as_slice(),
-            sets.resolved.as_slice(),
-            integration.send_resolved,
-            repeat_interval,
-            t,
-        ) {
+        let row = log.get(&key);
+        let send_resolved = integration.send_resolved;
+        let reason = reason(row, sets, send_resolved, repeat_interval, t);
+        reasons.push(reason)?;
+        if reason.asks() {
             asked.push(Update {
                 integration: key.integration,
-                send_resolved: integration.send_resolved,
+                send_resolved,
             })?;
         }
         key.integration += 1;
     }
-    Ok(asked)
+    Ok(Decided { reasons, asked })
+}
+
+/// Returns why an integration with this log row is notified, or why not.
+fn reason(
+    logged: Option<&LogRow<Labels>>,
+    sets: &AlertSets,
+    send_resolved: bool,
+    repeat_interval: u64,
+    t: u64,
+) -> Reason
+    requires { IfSome (option_copied logged) (λ row. row.moment + repeat_interval + 1 < 2 ^ 64) }
+    ensures { result ≡ reason_told_by (option_copied logged.entry) sets.now send_resolved repeat_interval t }
+{
+    let firing = sets.firing.as_slice();
+    let resolved = sets.resolved.as_slice();
+    if firing.is_empty() && resolved.is_empty() {
+        return Reason::NothingLeft;
+    }
+    let update = update_reason(logged, firing, resolved, send_resolved, repeat_interval, t);
+    reason_of_update(update, repeat_interval)
+}
+
+/// Returns the reason of an update, or of none, under this repeat interval.
+fn reason_of_update(update: UpdateReason, repeat_interval: u64) -> Reason
+    requires { EndsInTime repeat_interval update }
+    ensures { result ≡ reason_of_update repeat_interval update }
+{
+    match update {
+        UpdateReason::FirstNotice => Reason::FirstNotice,
+        UpdateReason::NewAlert => Reason::NewAlert,
+        UpdateReason::AllResolved => Reason::AllResolved,
+        UpdateReason::NewlyResolved => Reason::NewlyResolved,
+        UpdateReason::Repeat => Reason::Repeat,
+        UpdateReason::NothingFiring => Reason::NothingFiring,
+        UpdateReason::NotYet { since } => Reason::NotYet {
+            from: since + repeat_interval + 1,
+        },
+    }
 }

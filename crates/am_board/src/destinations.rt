@@ -20,6 +20,7 @@ use crate::known::is_idle;
 use am_alerts::alert::Alert;
 use am_alerts::labels::Labels;
 use am_alerts::sequence::Sequence;
+use am_seed::Seed;
 use indexmap::IndexSet;
 use std::alloc::{AllocError, Global};
 use std::marker::Model;
@@ -87,7 +88,7 @@ impl GroupNameCache {
     }
     /// Drops the names of those of these known alerts that are resolved at `t` and whose label set
     /// isn't one of these. The others move to the places that their alerts get.
-    pub(crate) fn drop_idle(&mut self, known: &[Alert], sets: &IndexSet<Labels>, t: u64)
+    pub(crate) fn drop_idle(&mut self, known: &[Alert], sets: &IndexSet<Labels, Seed>, t: u64)
         ensures { (config : Config) → AreKept config known.now self.old
             → AreKept config (without (is_idle_but_for sets.now.keys t) known.now) self.new }
     {

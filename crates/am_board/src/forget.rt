@@ -28,6 +28,7 @@ use crate::state::State;
 use am_alerts::alert::Alert;
 use am_alerts::labels::Labels;
 use am_mute::sources::Sources;
+use am_seed::Seed;
 use indexmap::IndexSet;
 use std::alloc::{AllocError, Global};
 
@@ -55,7 +56,8 @@ pub(crate) fn forget_idle(
     if !state.has_room(1, config.limits.history) {
         return Err(Fault::HistoryFull);
     }
-    let grouped = grouped_labels(alloc, state.groups.as_slice())?;
+    let seed = state.groups.seed();
+    let grouped = grouped_labels(alloc, seed, state.groups.as_slice())?;
     let flushing = flushing_groups(alloc, state.flushes.as_slice())?;
     state.history.reserve(state.flushes.len() + 1)?;
 
@@ -90,15 +92,19 @@ pub(crate) fn renew(
     if gone == 0 {
         return;
     }
-    *sources = Sources::new(alloc);
+    *sources = Sources::new(alloc, sources.seed());
     let _ = sources.learn(alloc, config.rules.as_slice(), known);
 }
 
 /// The label sets of the alerts of these groups.
-fn grouped_labels(alloc: Global, groups: &[Group]) -> Result<IndexSet<Labels>, AllocError>
+fn grouped_labels(
+    alloc: Global,
+    seed: Seed,
+    groups: &[Group],
+) -> Result<IndexSet<Labels, Seed>, AllocError>
     ensures { IfOk result (λ sets. AreGrouped sets.keys (map group_state groups.now)) }
 {
-    let mut sets = IndexSet::new(alloc);
+    let mut sets = IndexSet::with_hasher(alloc, seed);
     for group in groups {
         add_labels(alloc, &mut sets, group.members.as_slice())?;
     }
@@ -108,7 +114,7 @@ fn grouped_labels(alloc: Global, groups: &[Group]) -> Result<IndexSet<Labels>, A
 /// Adds the label sets of these alerts.
 fn add_labels(
     alloc: Global,
-    sets: &mut IndexSet<Labels>,
+    sets: &mut IndexSet<Labels, Seed>,
     members: &[Member],
 ) -> Result<(), AllocError>
     ensures { OnOk result (AddsLabelsOf (map member_state members.now) sets.old.keys sets.new.keys) }

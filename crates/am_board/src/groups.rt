@@ -12,6 +12,7 @@ mod first;
 
 use crate::due::DueSet;
 use crate::group::{Group, GroupName};
+use am_seed::Seed;
 use indexmap::IndexMap;
 use std::alloc::{AllocError, Global};
 use std::marker::Model;
@@ -19,7 +20,7 @@ use std::marker::Model;
 /// Groups of different names, in the order in which they were made, and their due times.
 #[derive(Debug, Drop)]
 pub(crate) struct Groups {
-    groups: IndexMap<GroupName, Group>,
+    groups: IndexMap<GroupName, Group, Seed>,
     due: DueSet,
 }
 
@@ -38,13 +39,18 @@ impl Model for Groups {
 
 impl Groups {
     /// No groups.
-    pub(crate) fn new(alloc: Global) -> Groups
+    pub(crate) fn new(alloc: Global, seed: Seed) -> Groups
         ensures { result.items ≡ [] }
     {
         Groups {
-            groups: IndexMap::new(alloc),
+            groups: IndexMap::with_hasher(alloc, seed),
             due: DueSet::new(alloc),
         }
+    }
+
+    /// What the hashes of a board's maps start from.
+    pub(crate) fn seed(&self) -> Seed {
+        *self.groups.hasher()
     }
 
     /// How many groups there are.

@@ -43,6 +43,7 @@ use am_alerts::alert::Alert;
 use am_alerts::labels::Labels;
 use am_alerts::route::Routes;
 use am_alerts::sequence::Sequence;
+use am_seed::Seed;
 use std::alloc::{AllocError, Global};
 
 /// A group that an alert goes to by one of its routes.
@@ -155,7 +156,8 @@ fn put_found(
     if state.groups.len() + made > config.limits.groups {
         return Err(Fault::TooManyGroups);
     }
-    let placements = prepare_all(alloc, &config.routes, targets, &alert, stamp)?;
+    let seed = state.groups.seed();
+    let placements = prepare_all(alloc, seed, &config.routes, targets, &alert, stamp)?;
     let labels = alert.labels().copy(alloc)?;
     let copy = alert.copy(alloc)?;
     reserve_insert(state, placements.as_slice())?;
@@ -371,6 +373,7 @@ fn count_missing(targets: &[Target]) -> usize
 /// What the insert of an alert puts into each of these groups.
 fn prepare_all(
     alloc: Global,
+    seed: Seed,
     routes: &Routes,
     targets: Vec<Target>,
     alert: &Alert,
@@ -383,7 +386,7 @@ fn prepare_all(
 {
     let mut placements = Vec::with_capacity(alloc, targets.len())?;
     for target in targets {
-        placements.push(prepare(alloc, routes, target, alert, stamp)?)?;
+        placements.push(prepare(alloc, seed, routes, target, alert, stamp)?)?;
     }
     Ok(placements)
 }
@@ -391,6 +394,7 @@ fn prepare_all(
 /// What the insert of an alert puts into one of its groups.
 fn prepare(
     alloc: Global,
+    seed: Seed,
     routes: &Routes,
     target: Target,
     alert: &Alert,
@@ -414,20 +418,20 @@ fn prepare(
             stamp,
             leaves: false,
         },
-        members: list_for(alloc, place)?,
+        members: list_for(alloc, seed, place)?,
     })
 }
 
 /// Returns the list of a group that has to be made, with capacity for one alert.
 ///
 /// A group that exists needs none.
-fn list_for(alloc: Global, place: Option<usize>) -> Result<Members, AllocError>
+fn list_for(alloc: Global, seed: Seed, place: Option<usize>) -> Result<Members, AllocError>
     ensures empty { IfOk result (λ members. members.items ≡ []) }
     ensures room { place ≡ None → IfOk result (λ members. 0 < members.room) }
 {
     match place {
-        Some(_) => Ok(Members::new(alloc)),
-        None => Members::with_capacity(alloc, 1),
+        Some(_) => Ok(Members::new(alloc, seed)),
+        None => Members::with_capacity(alloc, 1, seed),
     }
 }
 

@@ -10,6 +10,7 @@ ghost use Rattle.am_model.specs.Lists.{upsert, without};
 
 use am_alerts::alert::Alert;
 use am_alerts::labels::Labels;
+use am_seed::Seed;
 use indexmap::{IndexMap, IndexSet};
 use std::alloc::{AllocError, Global};
 use std::marker::Model;
@@ -17,7 +18,7 @@ use std::marker::Model;
 /// The known alerts, each label set once, in the order of arrival.
 #[derive(Debug, Drop)]
 pub(crate) struct Known {
-    alerts: IndexMap<Labels, Alert>,
+    alerts: IndexMap<Labels, Alert, Seed>,
 }
 
 impl Model for Known {
@@ -35,11 +36,11 @@ impl Model for Known {
 
 impl Known {
     /// No alerts.
-    pub(crate) fn new(alloc: Global) -> Known
+    pub(crate) fn new(alloc: Global, seed: Seed) -> Known
         ensures { result.items ≡ [] }
     {
         Known {
-            alerts: IndexMap::new(alloc),
+            alerts: IndexMap::with_hasher(alloc, seed),
         }
     }
 
@@ -99,7 +100,7 @@ impl Known {
 
     /// Removes the alerts that are resolved at `t` and whose label set isn't one of these. Returns
     /// how many.
-    pub(crate) fn drop_idle(&mut self, sets: &IndexSet<Labels>, t: u64) -> usize
+    pub(crate) fn drop_idle(&mut self, sets: &IndexSet<Labels, Seed>, t: u64) -> usize
         ensures items { self.new.items ≡ without (is_idle_but_for sets.now.keys t) self.old.items }
         ensures count { result ≡ count_by (is_idle_but_for sets.now.keys t) self.old.items }
     {
@@ -114,7 +115,7 @@ impl Known {
 }
 
 /// Whether an alert is resolved at `t`, and its label set isn't one of these.
-pub(crate) fn is_idle(alert: &Alert, sets: &IndexSet<Labels>, t: u64) -> bool
+pub(crate) fn is_idle(alert: &Alert, sets: &IndexSet<Labels, Seed>, t: u64) -> bool
     ensures { result ≡ is_idle_but_for sets.now.keys t alert.now }
 {
     alert.resolved_at(t) && !sets.contains(alert.labels())

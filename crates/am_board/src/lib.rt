@@ -10,7 +10,7 @@
 //!   tables as plain lists in the order of arrival, with their capacity.
 //! - `due`, `order`, `noted`, `unsilenced`, `destinations`: indexes and caches, which only save time. No contract above
 //!   them mentions them.
-//! - `insert`, `silence`, `begin` (with `unmuted`, `dedup`, `plan`), `note`, `finish`, `maintain`,
+//! - `insert`, `silence`, `begin` (with `walk`, `unmuted`, `dedup`, `plan`), `note`, `finish`, `maintain`,
 //!   `forget`, `load`: one module for each call, named after it.
 //!
 //! Each module of a call has one function over the plain state with the exact contract. It relies
@@ -52,5 +52,6 @@ pub mod ticket;
 mod unmuted;
 mod unsilenced;
 pub mod views;
+mod walk;
 
 pub use am_model::{config, law, notice, reason, record};

@@ -21,9 +21,10 @@ ghost use Rattle.am_board.specs.Step.{StateInvariant, AppliesCall, LeavesUnchang
 use crate::config::Config;
 use crate::fault::LoadFault;
 use crate::group::GroupName;
-use crate::record::{Call, Loaded, Record, Reply, RowBox};
+use crate::record::{Call, Loaded, Record, Reply};
 use crate::state::State;
 use am_alerts::labels::Labels;
+use am_model::boxed::Boxed;
 use am_model::views::RowView;
 use am_nflog::{LogKey, LogRow, Members, NfLog};
 use std::alloc::{AllocError, Global};
@@ -51,9 +52,9 @@ pub(crate) fn load_row(
     }
     let key = key_of(alloc, &row)?;
     let logged = logged_of(alloc, &row)?;
-    let row = RowBox::new(alloc, row)?;
+    let row = Boxed::new(alloc, row)?;
     state.history.reserve(state.flushes.len() + 1)?;
-    let loaded = put_row(&mut state.log, key, logged, row.row(), t)?;
+    let loaded = put_row(&mut state.log, key, logged, row.get(), t)?;
 
     state.clock = t;
     let call = Call::Load { now, row };

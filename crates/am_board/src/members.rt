@@ -3,26 +3,28 @@
 //! Contracts see the list in the order of arrival. Invariant (specs/MemberTable.antt): each alert
 //! is under its labels, none is marked as leaving between calls, and a stored order is that of the
 //! alerts.
-ghost use Rattle.std.specs.Prelude.{◌≡◌, ◌+◌, ◌<◌, ◌≤◌, ◌↔◌, All, IfOk, IsTrue, OnOk, [], count_by, length, map, not};
+ghost use Rattle.std.specs.Prelude.{◌≡◌, ◌+◌, ◌<◌, ◌≤◌, ◌↔◌, All, IfOk, IfSome, IsTrue, OnOk, [], count_by, length, map, not};
 ghost use Rattle.std.specs.List.{IsDistinct, list_any};
 ghost use Rattle.std.specs.Map.{values_of};
+ghost use Rattle.std.specs.Option.{option_copied};
 ghost use Rattle.am_alerts.specs.AlertData.{is_resolved};
 ghost use Rattle.am_model.specs.Finish.{is_leaving};
 ghost use Rattle.am_model.specs.Insert.{same_member};
-ghost use Rattle.am_model.specs.Lists.{changed_where, in_order, upsert, without};
+ghost use Rattle.am_model.specs.Lists.{changed_where, upsert, without};
 ghost use Rattle.am_board.specs.Finishing.{marked, stands_as};
 ghost use Rattle.am_board.specs.Keyed.{AreKeyed};
 ghost use Rattle.am_board.specs.Refinement.{member_state, stamped};
 ghost use Rattle.am_board.specs.Members.{AreMembers, labels_of};
-ghost use Rattle.am_board.specs.Order.{member_cmp};
+ghost use Rattle.am_board.specs.Order.{places_in_order};
 
 use crate::flush::LeavingAlert;
 use crate::group::Member;
 use crate::noted::{note_members, noted_in};
-use crate::order::{forget, keep_where, ordered, renew};
+use crate::order::{forget, keep_where, renew, stored};
 use crate::silences::NotedSilences;
 use crate::unsilenced::NotedPlace;
 use am_alerts::labels::Labels;
+use am_seed::Seed;
 use indexmap::IndexMap;
 use std::alloc::{AllocError, Global};
 use std::marker::Model;
@@ -30,7 +32,7 @@ use std::marker::Model;
 /// The alerts of a group, each label set once, in the order of arrival.
 #[derive(Debug, Drop)]
 pub(crate) struct Members {
-    members: IndexMap<Labels, Member>,
+    members: IndexMap<Labels, Member, Seed>,
     /// Their places in the order of their labels. None after a label set came or left.
     order: Option<Vec<usize>>,
     /// Where those that no silence mutes are noted, in this order.
@@ -52,23 +54,27 @@ impl Model for Members {
 
 impl Members {
     /// No alerts.
-    pub(crate) fn new(alloc: Global) -> Members
+    pub(crate) fn new(alloc: Global, seed: Seed) -> Members
         ensures { result.items ≡ [] }
     {
         Members {
-            members: IndexMap::new(alloc),
+            members: IndexMap::with_hasher(alloc, seed),
             order: None,
             noted: NotedPlace::default(),
         }
     }
 
     /// Returns an empty list with capacity for so many alerts.
-    pub(crate) fn with_capacity(alloc: Global, room: usize) -> Result<Members, AllocError>
+    pub(crate) fn with_capacity(
+        alloc: Global,
+        room: usize,
+        seed: Seed,
+    ) -> Result<Members, AllocError>
         ensures empty { IfOk result (λ members. members.items ≡ []) }
         ensures room { IfOk result (λ members. room ≤ members.room) }
     {
         Ok(Members {
-            members: IndexMap::with_capacity(alloc, room)?,
+            members: IndexMap::with_capacity_and_hasher(alloc, room, seed)?,
             order: None,
             noted: NotedPlace::default(),
         })
@@ -94,12 +100,11 @@ impl Members {
         self.members.values().as_slice()
     }
 
-    /// The alerts in the order of their labels.
-    pub(crate) fn by_labels(&self, alloc: Global) -> Result<Vec<&Member>, AllocError>
-        requires { IsDistinct same_member (map member_state self.now.items) }
-        ensures { IfOk result (λ found. map (λ m. m.now) found.items ≡ in_order member_cmp self.now.items) }
+    /// The places of the alerts in the order of their labels, if they are stored.
+    pub(crate) fn places(&self) -> Option<&[usize]>
+        ensures { IfSome (option_copied result) (λ places. places ≡ places_in_order (map labels_of self.now.items)) }
     {
-        ordered(alloc, &self.order, self.members.values().as_slice())
+        stored(&self.order)
     }
 
     /// Where those that no silence mutes are noted, in the order of their labels.
@@ -206,7 +211,7 @@ fn is_any_resolved(members: &[Member], t: u64) -> bool
 }
 
 /// Marks the alerts of a group that are as they were when they were found resolved.
-fn mark_all(members: &mut IndexMap<Labels, Member>, leaving: &[LeavingAlert])
+fn mark_all(members: &mut IndexMap<Labels, Member, Seed>, leaving: &[LeavingAlert])
     requires { AreMembers members.old.entries }
     ensures keyed { AreKeyed labels_of members.new.entries }
     ensures states { map member_state (values_of members.new.entries) ≡ map member_state (values_of members.old.entries) }
@@ -218,7 +223,7 @@ fn mark_all(members: &mut IndexMap<Labels, Member>, leaving: &[LeavingAlert])
 }
 
 /// Marks the alert that is as it was when it was found resolved, if it is there.
-fn mark(members: &mut IndexMap<Labels, Member>, found: &LeavingAlert)
+fn mark(members: &mut IndexMap<Labels, Member, Seed>, found: &LeavingAlert)
     requires { AreKeyed labels_of members.old.entries }
     ensures keyed { AreKeyed labels_of members.new.entries }
     ensures marked { values_of members.new.entries ≡ changed_where (stands_as found.now) marked (values_of members.old.entries) }

@@ -1,4 +1,4 @@
-//! Which alerts of a group are noted with the silences. `begin` notes them, and `unmuted` looks at no
+//! Which alerts of a group are noted with the silences. `begin` notes them, and `walk` looks at no
 //! silence for those.
 //!
 //! `NotedSilences` has one list of the label sets that no silence mutes (`unsilenced`). A group

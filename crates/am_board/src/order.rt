@@ -4,7 +4,7 @@
 //! It only saves time. Where its memory is refused, each use computes it again.
 ghost use Rattle.std.specs.Prelude.{◌≡◌, IfOk, None, if◌then◌else◌, map, slice_get};
 ghost use Rattle.std.specs.List.{IsDistinct, filter_map, range_with_len};
-ghost use Rattle.std.specs.Option.{option_copied};
+ghost use Rattle.std.specs.Option.{option_copied, option_map};
 ghost use Rattle.am_model.specs.Insert.{same_member};
 ghost use Rattle.am_model.specs.Lists.{in_order};
 ghost use Rattle.am_board.specs.Refinement.{member_state};
@@ -47,6 +47,16 @@ pub(crate) fn forget(order: &mut Option<Vec<usize>>)
     *order = None;
 }
 
+/// The places, if they are there.
+pub(crate) fn stored(order: &Option<Vec<usize>>) -> Option<&[usize]>
+    ensures { option_copied result ≡ option_map (λ places. places.items) order.now }
+{
+    match order {
+        Some(places) => Some(places.as_slice()),
+        None => None,
+    }
+}
+
 /// Returns alerts in the order of their labels, by these places or by sorting.
 pub(crate) fn ordered<'m>(
     alloc: Global,
@@ -76,7 +86,7 @@ fn at_order<'m>(
 }
 
 /// The places of alerts in the order of their labels.
-fn places_in_order(alloc: Global, members: &[Member]) -> Result<Vec<usize>, AllocError>
+pub(crate) fn places_in_order(alloc: Global, members: &[Member]) -> Result<Vec<usize>, AllocError>
     requires { IsDistinct same_member (map member_state members.now) }
     ensures { IfOk result (λ places. places.items ≡ places_in_order (map labels_of members.now)) }
 {
@@ -114,7 +124,7 @@ fn labels_at(members: &[Member], place: usize) -> Option<&Labels>
 }
 
 /// The alert at a place.
-fn member_at(members: &[Member], place: usize) -> Option<&Member>
+pub(crate) fn member_at(members: &[Member], place: usize) -> Option<&Member>
     ensures { option_copied result ≡ slice_get members.now place }
 {
     members.get(place)

@@ -1,8 +1,9 @@
-//! The flush to open: all that its begin puts into the board and its ticket. `begin` calls `plan`.
+//! The flush to open: all that its begin puts into the board and its ticket. `begin` calls `plan`. A
+//! begin with its preview calls `plan_previewed`, with what the preview found.
 //!
 //! The label sets are made once. The open flush and each notified integration share them, so a note
 //! or the finish moves them into the log and never allocates.
-ghost use Rattle.std.specs.Prelude.{◌≡◌, ◌<◌, ◌≤◌, IfOk, length, map, slice_index_or, vec_len};
+ghost use Rattle.std.specs.Prelude.{◌≡◌, ◌<◌, ◌≤◌, All, IfOk, length, map, slice_index_or, vec_len};
 ghost use Rattle.std.specs.List.{IsDistinct};
 ghost use Rattle.am_mute.specs.Sources.{AreLearnt};
 ghost use Rattle.am_alerts.specs.RoutingTree.{last_of};
@@ -11,20 +12,23 @@ ghost use Rattle.am_model.specs.Configured.{HaveFewIntegrations};
 ghost use Rattle.am_board.specs.Beginning.{IsFlushAsking, IsUnmuted, asked_for_update, alert_sets_of};
 ghost use Rattle.am_board.specs.Beginning.{update_of, notice_of_update, IsPlannedFlush, IsPlan};
 ghost use Rattle.am_model.specs.Insert.{same_member};
+ghost use Rattle.am_board.specs.LogRows.{log_rows};
 ghost use Rattle.am_board.specs.Refinement.{state_of, group_state};
 ghost use Rattle.am_board.specs.Step.{StateInvariant};
 
 use crate::begin::{ChosenGroup, MIN_FLUSH_TIMEOUT};
 use crate::config::Config;
-use crate::dedup::{Update, asked};
+use crate::dedup::{Update, decide};
 use crate::fault::Fault;
 use crate::flush::{AlertSets, Asked, OpenFlush};
 use crate::group::{Group, GroupName};
 use crate::notice::{MAX_DEADLINE, Notice};
 use crate::state::State;
 use crate::unmuted::{Unmuted, leaving_at};
+use crate::walk::Walk;
 use am_alerts::limits::MAX_MOMENT;
 use am_alerts::sequence::{Sequence, copy_all};
+use am_model::boxed::Boxed;
 use am_mute::sources::Sources;
 use am_nflog::LogKey;
 use am_retry::Outcome;
@@ -42,7 +46,7 @@ pub(crate) struct PlannedFlush {
     pub(crate) outcomes: Vec<(u32, Outcome)>,
     /// For the record.
     pub(crate) recorded_group: GroupName,
-    pub(crate) recorded_notices: Sequence<Notice>,
+    pub(crate) recorded_notices: Boxed<Sequence<Notice>>,
 }
 
 /// Returns the flush that a begin opens, unless no integration needs an update.
@@ -56,6 +60,7 @@ pub(crate) fn plan(
 ) -> Result<Option<PlannedFlush>, Fault>
     requires good { StateInvariant config.now state.now }
     requires sources { AreLearnt config.now.rules state.now.known.items sources.now }
+    requires moments { All (λ row. row.moment ≤ MAX_MOMENT) (log_rows state.now.log) }
     requires place { chosen.place < length state.now.groups.items }
     requires moment { chosen.t ≤ MAX_MOMENT }
     ensures { (d : Group) → IsPlan config.now id (vec_len state.now.flushes) (state_of state.now) chosen.t
@@ -79,32 +84,80 @@ fn plan_of(
     requires route { group.now.name.route ≤ last_of config.now.routes }
     requires few { HaveFewIntegrations config.now }
     requires apart { IsDistinct same_member (group_state group.now).members }
+    requires moments { All (λ row. row.moment ≤ MAX_MOMENT) (log_rows state.now.log) }
     requires moment { t ≤ MAX_MOMENT }
     ensures { IsPlan config.now id (vec_len state.now.flushes) (state_of state.now) t (group_state group.now) result }
 {
-    let unmuted = Unmuted::at(alloc, config, state, sources, group, t)?;
+    if config.route_muted(&group.name, t).is_some() {
+        return Ok(None);
+    }
+    let rules = config.rules.as_slice();
+    let members = &group.members;
+    let walk = Walk::over(alloc, rules, state, sources, members, false, t)?;
+    let unmuted = walk.into_unmuted();
     if unmuted.is_empty() {
         return Ok(None);
     }
     let sets = unmuted.sets(alloc)?;
-    let asked = asked(alloc, config, state, &group.name, &sets, t)?;
+    let decided = decide(alloc, config, state, &group.name, None, &sets, t)?;
+    let asked = decided.asked.as_slice();
+    plan_asking(alloc, config, id, state, group, &unmuted, sets, asked, t)
+}
+
+/// Returns the flush of the group that a preview was made of, unless no integration needs an update.
+pub(crate) fn plan_previewed(
+    alloc: Global,
+    config: &Config,
+    id: u64,
+    state: &State,
+    chosen: ChosenGroup,
+    unmuted: &Unmuted,
+    sets: AlertSets,
+    asked: &[Update],
+) -> Result<Option<PlannedFlush>, Fault>
+    requires good { StateInvariant config.now state.now }
+    requires place { chosen.place < length state.now.groups.items }
+    requires moment { chosen.t ≤ MAX_MOMENT }
+    requires sets { sets ≡ alert_sets_of unmuted.now }
+    requires unmuted { (d : Group) → IsUnmuted config.now (state_of state.now) chosen.t
+        (group_state (slice_index_or state.now.groups.items chosen.place d)) unmuted.now }
+    requires asked { (d : Group) → asked.now ≡ map update_of (asked_of config.now (state_of state.now) chosen.t
+        (group_state (slice_index_or state.now.groups.items chosen.place d))) }
+    ensures { (d : Group) → IsPlan config.now id (vec_len state.now.flushes) (state_of state.now) chosen.t
+        (group_state (slice_index_or state.now.groups.items chosen.place d)) result }
+{
+    let group = state.groups.at(chosen.place);
+    plan_asking(
+        alloc, config, id, state, group, unmuted, sets, asked, chosen.t,
+    )
+}
+
+/// Returns the flush of a group at `t` that notifies these integrations, if there are any.
+fn plan_asking(
+    alloc: Global,
+    config: &Config,
+    id: u64,
+    state: &State,
+    group: &Group,
+    unmuted: &Unmuted,
+    sets: AlertSets,
+    asked: &[Update],
+    t: u64,
+) -> Result<Option<PlannedFlush>, Fault>
+    requires route { group.now.name.route ≤ last_of config.now.routes }
+    requires moment { t ≤ MAX_MOMENT }
+    requires sets { sets ≡ alert_sets_of unmuted.now }
+    requires unmuted { IsUnmuted config.now (state_of state.now) t (group_state group.now) unmuted.now }
+    requires asked { asked.now ≡ map update_of (asked_of config.now (state_of state.now) t (group_state group.now)) }
+    ensures { IsPlan config.now id (vec_len state.now.flushes) (state_of state.now) t (group_state group.now) result }
+{
     if asked.is_empty() {
         return Ok(None);
     }
     if state.flushes.len() >= config.limits.flushes {
         return Err(Fault::TooManyOpen);
     }
-    let planned = open(
-        alloc,
-        config,
-        id,
-        state,
-        group,
-        &unmuted,
-        sets,
-        asked.as_slice(),
-        t,
-    )?;
+    let planned = open(alloc, config, id, state, group, unmuted, sets, asked, t)?;
     Ok(Some(planned))
 }
 
@@ -140,7 +193,7 @@ fn open(
         deadline,
         group: group.name.copy(alloc)?,
         recorded_group: group.name.copy(alloc)?,
-        recorded_notices: copy_all(alloc, notices.as_slice())?,
+        recorded_notices: Boxed::new(alloc, copy_all(alloc, notices.as_slice())?)?,
         outcomes: Vec::with_capacity(alloc, notices.len())?,
         notices,
     })

@@ -1,29 +1,29 @@
 //! A begin with its preview: `Board::begin_previewed` calls `take_previewed`. `am_rehearsal` begins
 //! so.
 //!
-//! The preview comes first. Where none of its reasons notifies an integration, the begin opens no
-//! flush, and that isn't worked out again.
-ghost use Rattle.std.specs.Prelude.{◌≡◌, ◌≤◌, All, None, IfOk, MatchResult, OnErr, false, not, vec_len};
-ghost use Rattle.std.specs.List.{list_any};
-ghost use Rattle.std.specs.Option.{option_map_or};
+//! The group is prepared as for any begin, and the preview comes next. The begin goes on with what it
+//! found: what is unmuted, and whom to notify.
+ghost use Rattle.std.specs.Prelude.{◌≡◌, ◌+◌, ◌<◌, ◌≤◌, All, None, IfOk, MatchResult, OnErr, length, slice_index_or, vec_len};
 ghost use Rattle.am_alerts.specs.declared.limits.TheConstants.{MAX_MOMENT};
 ghost use Rattle.am_mute.specs.Sources.{AreLearnt};
 ghost use Rattle.am_model.specs.Causes.{begin_cause};
 ghost use Rattle.am_model.specs.Records.{entry};
 ghost use Rattle.am_model.specs.State.{moment};
 ghost use Rattle.am_model.specs.look_back.Preview.{preview, preview_at};
-ghost use Rattle.am_model.specs.look_back.Reasons.{asks};
+ghost use Rattle.am_board.specs.Beginning.{IsChosen};
 ghost use Rattle.am_board.specs.History.{records_at, reply_of, state_at, with_record, IsFresh, IsReplyAt};
 ghost use Rattle.am_board.specs.LogRows.{log_rows};
-ghost use Rattle.am_board.specs.Refinement.{state_of};
+ghost use Rattle.am_board.specs.Preview.{IsGroupPreview};
+ghost use Rattle.am_board.specs.Refinement.{group_state, state_of};
 ghost use Rattle.am_board.specs.Step.{StateInvariant, AppliesCall, LeavesUnchanged, IsAnswer, IsCaused};
+ghost use Rattle.am_board.specs.declared.group.Group.{Group};
 
-use crate::begin::{Begun, take_with_room};
+use crate::begin::{Begun, ChosenGroup, begin_nothing, begin_planned, choose, prepare};
 use crate::board::Board;
 use crate::config::Config;
 use crate::fault::Fault;
-use crate::preview::{Preview, preview_of};
-use crate::reason::Reason;
+use crate::plan::plan_previewed;
+use crate::preview::{GroupPreview, Preview};
 use crate::record::Call;
 use crate::state::State;
 use am_mute::sources::Sources;
@@ -32,7 +32,7 @@ use std::alloc::Global;
 impl Board {
     /// Begins as `begin` does, and returns with its reply what `preview` would return before it.
     ///
-    /// Cheaper than both: where no integration needs an update, the preview alone finds that out.
+    /// Cheaper than both: the begin goes on with what the preview found.
     ///
     /// # Errors
     ///
@@ -88,27 +88,52 @@ fn take_previewed(
     if !state.has_room(2, config.limits.history) {
         return Err(Fault::HistoryFull);
     }
-    let preview = preview_of(alloc, config, state, sources, now)?;
-    let is_quiet = is_quiet(&preview);
-    match take_with_room(alloc, config, id, state, sources, pass, now, is_quiet) {
-        Ok(begun) => Ok((begun, preview)),
+    let Some(chosen) = choose(config, state, pass, now) else {
+        let t = state.moment(now);
+        return match begin_nothing(state, pass, now, t) {
+            Ok(begun) => Ok((begun, None)),
+            Err(fault) => Err(fault),
+        };
+    };
+    prepare(alloc, state, chosen.place, chosen.t);
+    let group = state.groups.at(chosen.place);
+    let found = GroupPreview::of(alloc, config, state, sources, group, chosen.t)?;
+    begin_with(alloc, config, id, state, chosen, found)
+}
+
+/// Begins a group with what its preview found, and returns the preview with the reply.
+fn begin_with(
+    alloc: Global,
+    config: &Config,
+    id: u64,
+    state: &mut State,
+    chosen: ChosenGroup,
+    found: GroupPreview,
+) -> Result<(Begun, Option<Preview>), Fault>
+    requires good { StateInvariant config.now state.old }
+    requires place { chosen.place < length state.old.groups.items }
+    requires moment { chosen.t ≤ MAX_MOMENT }
+    requires room { vec_len state.old.history + vec_len state.old.flushes + 2 ≤ config.now.limits.history }
+    requires found { (d : Group) → IsGroupPreview config.now (state_of state.old) chosen.t
+        (group_state (slice_index_or state.old.groups.items chosen.place d)) found }
+    ensures { (g : Group) → IsChosen config.now state.old chosen g → MatchResult result
+        (λ both. (begin_cause config.now (vec_len state.old.history) (state_of state.old) (moment (state_of state.old) chosen.now) ≡ None)
+        × AppliesCall config.now id (entry chosen.pass (Call.Begin chosen.now) (reply_of both.0)) state.old state.new
+        × (IsFresh id both.0 × (both.1 ≡ preview_at config.now (state_of state.old) (moment (state_of state.old) chosen.now))))
+        (λ fault. IsAnswer
+        (begin_cause config.now (vec_len state.old.history) (state_of state.old) (moment (state_of state.old) chosen.now)) fault
+        × LeavesUnchanged config.now state.old state.new) }
+{
+    let GroupPreview {
+        preview,
+        unmuted,
+        sets,
+        asked,
+    } = found;
+    let asked = asked.as_slice();
+    let planned = plan_previewed(alloc, config, id, state, chosen, &unmuted, sets, asked)?;
+    match begin_planned(alloc, id, state, chosen, planned) {
+        Ok(begun) => Ok((begun, Some(preview))),
         Err(fault) => Err(fault),
     }
-}
-
-/// Returns whether there is a preview, none of whose reasons notifies an integration.
-fn is_quiet(preview: &Option<Preview>) -> bool
-    ensures { result ≡ option_map_or (λ p. not (list_any asks p.reasons)) preview.now false }
-{
-    match preview {
-        None => false,
-        Some(preview) => !some_ask(preview.reasons.as_slice()),
-    }
-}
-
-/// Returns whether an integration is notified for one of these reasons.
-fn some_ask(reasons: &[Reason]) -> bool
-    ensures { result ≡ list_any asks reasons.now }
-{
-    reasons.iter().any(|reason| reason.asks())
 }

@@ -17,6 +17,7 @@ use crate::silences::NotedSilences;
 use crate::state::State;
 use am_alerts::matcher::{Matcher, MatcherParts};
 use am_alerts::sequence::Sequence;
+use am_model::boxed::Boxed;
 use am_mute::silence::Silence;
 use std::alloc::{AllocError, Global};
 
@@ -87,12 +88,15 @@ fn keep_silence(alloc: Global, silences: &mut NotedSilences, place: Option<usize
 }
 
 /// What these matchers are made of.
-fn parts_of(alloc: Global, matchers: &[Matcher]) -> Result<Sequence<MatcherParts>, AllocError>
+fn parts_of(
+    alloc: Global,
+    matchers: &[Matcher],
+) -> Result<Boxed<Sequence<MatcherParts>>, AllocError>
     ensures { IfOk result (λ parts. parts ≡ matchers.now) }
 {
     let mut parts = Vec::with_capacity(alloc, matchers.len())?;
     for matcher in matchers {
         parts.push(matcher.parts().copy(alloc)?)?;
     }
-    Ok(Sequence::from(parts))
+    Ok(Boxed::new(alloc, Sequence::from(parts))?)
 }

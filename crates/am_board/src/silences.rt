@@ -1,5 +1,5 @@
 //! The silences of a board, with the label sets that none of them mutes (`unsilenced`). `silence` and
-//! `forget` change them, `begin` notes label sets, `unmuted` and `preview` read them.
+//! `forget` change them, `begin` notes label sets, `walk` reads them.
 //!
 //! Contracts see the list of silences and its capacity. Invariant: what is noted is true of these
 //! silences. Each change of them forgets it.
@@ -12,6 +12,7 @@ use crate::unsilenced::{NotedPlace, Unsilenced};
 use am_alerts::labels::Labels;
 use am_mute::silence::Silence;
 use am_mute::silences::Silences;
+use am_seed::Seed;
 use std::alloc::{AllocError, Global};
 use std::marker::Model;
 
@@ -35,11 +36,11 @@ impl Model for NotedSilences {
 
 impl NotedSilences {
     /// No silences.
-    pub(crate) fn new(alloc: Global) -> NotedSilences
+    pub(crate) fn new(alloc: Global, seed: Seed) -> NotedSilences
         ensures { result.items ≡ [] }
     {
         NotedSilences {
-            silences: Silences::new(alloc),
+            silences: Silences::new(alloc, seed),
             noted: Unsilenced::new(alloc),
         }
     }

@@ -11,6 +11,7 @@ use crate::silences::NotedSilences;
 use am_alerts::labels::Labels;
 use am_alerts::limits::MAX_MOMENT;
 use am_nflog::NfLog;
+use am_seed::Seed;
 use std::alloc::{AllocError, Global};
 
 /// The stored state. `state_of` (specs/Refinement.antt) reads it as a state of `am_model`.
@@ -32,17 +33,17 @@ pub(crate) struct State {
 }
 
 impl State {
-    /// Returns the state of an empty board.
-    pub(crate) fn new(alloc: Global) -> Result<State, AllocError>
+    /// Returns the state of an empty board. The hashes of its maps start from this seed.
+    pub(crate) fn new(alloc: Global, seed: Seed) -> Result<State, AllocError>
         ensures { IsOkAnd result IsNew }
     {
         Ok(State {
             clock: 0,
             inserts: 0,
-            known: Known::new(alloc),
-            groups: Groups::new(alloc),
-            silences: NotedSilences::new(alloc),
-            log: NfLog::new(alloc)?,
+            known: Known::new(alloc, seed),
+            groups: Groups::new(alloc, seed),
+            silences: NotedSilences::new(alloc, seed),
+            log: NfLog::new(alloc, seed)?,
             flushes: Vec::new(alloc),
             next_number: 1,
             history: Vec::new(alloc),

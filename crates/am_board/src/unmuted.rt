@@ -1,31 +1,20 @@
 //! What is unmuted in a group: its alerts that are neither silenced nor inhibited, and none where a
-//! time interval mutes its route. `begin` and `preview` call it (the mute stages and the time stages
-//! of `notify`).
-//!
-//! One walk in the order of labels finds the firing and the resolved alerts. Each has its own list.
-ghost use Rattle.std.specs.Prelude.{◌≡◌, ◌&&◌, IfOk, filter, map};
+//! time interval mutes its route (the mute stages and the time stages of `notify`). `walk` finds it,
+//! `plan` and `preview` use it.
+ghost use Rattle.std.specs.Prelude.{◌≡◌, ◌&&◌, [], IfOk, filter, map};
 ghost use Rattle.std.specs.List.{IsDistinct};
 ghost use Rattle.am_alerts.specs.AlertData.{is_resolved};
-ghost use Rattle.am_mute.specs.Mute.{is_muted};
-ghost use Rattle.am_mute.specs.Sources.{AreLearnt};
 ghost use Rattle.am_nflog.specs.Members.{is_empty};
 ghost use Rattle.am_model.specs.Begin.{alert_cmp, label_sets};
-ghost use Rattle.am_board.specs.Beginning.{AreUnmuted, AreRising, IsUnmuted, leaving_member, sent_where, alert_sets_of};
-ghost use Rattle.am_model.specs.Insert.{same_alert, same_member};
-ghost use Rattle.am_board.specs.Refinement.{group_state, state_of};
+ghost use Rattle.am_board.specs.Beginning.{AreRising, leaving_member, sent_where, alert_sets_of};
+ghost use Rattle.am_model.specs.Insert.{same_alert};
 ghost use Rattle.am_model.specs.Lists.{in_order};
 
-use crate::config::Config;
 use crate::flush::{AlertSets, LeavingAlert};
-use crate::group::{Group, Member};
-use crate::state::State;
-use crate::unsilenced::NotedPlace;
+use crate::group::Member;
 use am_alerts::alert::Alert;
 use am_alerts::labels::Labels;
 use am_alerts::sequence::Sequence;
-use am_mute::inhibit::InhibitRule;
-use am_mute::mute::{muted_under, muted_with};
-use am_mute::sources::Sources;
 use am_nflog::Members;
 use std::alloc::{AllocError, Global};
 
@@ -38,39 +27,15 @@ pub(crate) struct Unmuted {
 }
 
 impl Unmuted {
-    /// What a begin at `t` finds in a group: nothing where its route is muted.
-    pub(crate) fn at(
-        alloc: Global,
-        config: &Config,
-        state: &State,
-        sources: &Sources,
-        group: &Group,
-        t: u64,
-    ) -> Result<Unmuted, AllocError>
-        requires sources { AreLearnt config.now.rules state.now.known.items sources.now }
-        requires apart { IsDistinct same_member (group_state group.now).members }
-        ensures { IfOk result (IsUnmuted config.now (state_of state.now) t (group_state group.now)) }
+    /// Nothing is unmuted.
+    pub(crate) fn nothing(alloc: Global) -> Unmuted
+        ensures firing { result.firing ≡ [] }
+        ensures resolved { result.resolved ≡ [] }
     {
-        if config.route_muted(&group.name, t).is_some() {
-            return Ok(Unmuted {
-                firing: Sequence::empty(alloc),
-                resolved: Sequence::empty(alloc),
-            });
+        Unmuted {
+            firing: Sequence::empty(alloc),
+            resolved: Sequence::empty(alloc),
         }
-        let members = group.members.by_labels(alloc)?;
-        let (firing, resolved) = firing_and_resolved(
-            alloc,
-            config.rules.as_slice(),
-            state,
-            sources,
-            members.as_slice(),
-            group.members.noted(),
-            t,
-        )?;
-        Ok(Unmuted {
-            firing: Sequence::from(firing),
-            resolved: Sequence::from(resolved),
-        })
     }
 
     pub(crate) fn is_empty(&self) -> bool
@@ -111,63 +76,6 @@ impl Unmuted {
             resolved: Members::new(alloc, labels_of(alloc, self.resolved.as_slice())?)?,
         })
     }
-}
-
-/// The alerts that fire and those that are resolved, of those that aren't muted; in their order.
-fn firing_and_resolved(
-    alloc: Global,
-    rules: &[InhibitRule],
-    state: &State,
-    sources: &Sources,
-    members: &[&Member],
-    noted: NotedPlace,
-    t: u64,
-) -> Result<(Vec<Alert>, Vec<Alert>), AllocError>
-    requires { AreLearnt rules.now state.now.known.items sources.now }
-    ensures { IfOk result (λ unmuted.
-        AreUnmuted rules.now (state_of state.now) t (map (λ m. m.now) members.now) unmuted.0.items unmuted.1.items) }
-{
-    let mut firing = Vec::new(alloc);
-    let mut resolved = Vec::new(alloc);
-    let mut place = noted;
-    for member in members {
-        let alert = &member.alert;
-        if is_muted(alloc, rules, state, sources, alert.labels(), &mut place, t)? {
-            continue;
-        }
-        if alert.resolved_at(t) {
-            resolved.push(alert.copy(alloc)?)?;
-        } else {
-            firing.push(alert.copy_without_end(alloc)?)?;
-        }
-    }
-    Ok((firing, resolved))
-}
-
-/// Whether a label set is muted at `t`.
-///
-/// If it is noted at a place that no silence mutes it, none is looked at, and the place becomes the
-/// next one.
-fn is_muted(
-    alloc: Global,
-    rules: &[InhibitRule],
-    state: &State,
-    sources: &Sources,
-    labels: &Labels,
-    place: &mut NotedPlace,
-    t: u64,
-) -> Result<bool, AllocError>
-    requires { AreLearnt rules.now state.now.known.items sources.now }
-    ensures { IfOk result (λ muted.
-        muted ≡ is_muted labels.now t state.now.silences.items rules.now state.now.known.items) }
-{
-    let known = state.known.as_slice();
-    if state.silences.is_noted(*place, labels, t) {
-        *place = place.next();
-        return muted_with(alloc, labels, t, &[], rules, known, sources);
-    }
-    let silences = state.silences.all();
-    muted_under(alloc, labels, t, silences, rules, known, sources)
 }
 
 /// The members that are resolved at `t`, muted ones too.

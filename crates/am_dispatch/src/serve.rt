@@ -21,15 +21,18 @@ use am_lines::fault::{LineFault, no_memory_line};
 use am_lines::lines::{LineRead, LineReader};
 use am_lines::reply::write_opened;
 use am_lines::request::{Opening, Request, read_request};
+use am_seed::Seed;
 use std::alloc::{AllocError, Global};
 
 /// Answers each line of the source with a line to the sink, one after the other, until the source ends.
+/// The hashes of its boards start from this seed.
 ///
 /// # Errors
 ///
 /// `Unreadable`: a read failed. `Unwritable`: a write failed. Each want of memory is answered by a line.
 pub fn serve<S: Source, K: Sink>(
     alloc: Global,
+    seed: Seed,
     source: &mut S,
     sink: &mut K,
 ) -> Result<(), ServeFault>
@@ -43,7 +46,7 @@ pub fn serve<S: Source, K: Sink>(
 {
     let mut lines = LineReader::new();
     let mut line = Vec::new(alloc);
-    let Some(session) = first_session(alloc, &mut lines, &mut line, source, sink)? else {
+    let Some(session) = first_session(alloc, seed, &mut lines, &mut line, source, sink)? else {
         return Ok(());
     };
     let mut session = session;
@@ -55,6 +58,7 @@ pub fn serve<S: Source, K: Sink>(
 /// Answers lines until one has a configuration, and returns the session of that; none where the source ends before.
 fn first_session<S: Source, K: Sink>(
     alloc: Global,
+    seed: Seed,
     lines: &mut LineReader,
     line: &mut Vec<u8>,
     source: &mut S,
@@ -74,7 +78,7 @@ fn first_session<S: Source, K: Sink>(
         if read.is_end() {
             return Ok(None);
         }
-        if let Some(session) = answer_first(alloc, read, line.as_slice(), sink)? {
+        if let Some(session) = answer_first(alloc, seed, read, line.as_slice(), sink)? {
             return Ok(Some(session));
         }
     }
@@ -112,6 +116,7 @@ fn serve_on<S: Source, K: Sink>(
 /// Answers a line of which no session is there yet, and returns that which it opens.
 fn answer_first<K: Sink>(
     alloc: Global,
+    seed: Seed,
     read: LineRead,
     line: &[u8],
     sink: &mut K,
@@ -126,7 +131,7 @@ fn answer_first<K: Sink>(
         echo(line, sink)?;
         return Ok(None);
     }
-    match open(alloc, read, line) {
+    match open(alloc, seed, read, line) {
         Ok((session, answer)) => match write_all(sink, answer.as_slice()) {
             Ok(()) => Ok(Some(session)),
             Err(fault) => {
@@ -219,13 +224,18 @@ fn fault_text(alloc: Global, fault: &LineFault) -> Result<Vec<u8>, AllocError>
 }
 
 /// Opens the session that a line asks for, and makes the line that answers it.
-fn open(alloc: Global, read: LineRead, line: &[u8]) -> Result<(Session, Vec<u8>), LineFault>
+fn open(
+    alloc: Global,
+    seed: Seed,
+    read: LineRead,
+    line: &[u8],
+) -> Result<(Session, Vec<u8>), LineFault>
     ensures told { IfOk result (λ made. (text : List ℕ) → IsRead read text line.now → Opened text made.1.items made.0) }
     ensures refused { IfErr result (λ fault. (text : List ℕ) → IsRead read text line.now → OpensNone text fault) }
     ensures unread { read ≡ LineRead.NoMemory → IsErrAnd result (λ fault. fault ≡ LineFault.NoMemory) }
 {
     match request_of(alloc, read, line)? {
-        Request::Open(opening) => open_session(alloc, opening),
+        Request::Open(opening) => open_session(alloc, seed, opening),
         _ => Err(LineFault::NotMade {
             place: "",
             kind: "NoBoard",
@@ -235,7 +245,11 @@ fn open(alloc: Global, read: LineRead, line: &[u8]) -> Result<(Session, Vec<u8>)
 }
 
 /// Opens a session, and makes the line that answers its opening.
-fn open_session(alloc: Global, opening: Opening) -> Result<(Session, Vec<u8>), LineFault>
+fn open_session(
+    alloc: Global,
+    seed: Seed,
+    opening: Opening,
+) -> Result<(Session, Vec<u8>), LineFault>
     ensures told { IfOk result (λ made. IsOpenedBy opening made.1.items made.0) }
     ensures refused { IfErr result IsUnmade }
 {
@@ -243,7 +257,7 @@ fn open_session(alloc: Global, opening: Opening) -> Result<(Session, Vec<u8>), L
     let mut answer = Answer::new(alloc);
     write_opened(&ignored, &mut answer)?;
     let line = answer.into_line()?;
-    Ok((Session::open(alloc, config)?, line))
+    Ok((Session::open(alloc, seed, config)?, line))
 }
 
 /// Does what a line asks of a session, and makes the line that answers it.

@@ -9,6 +9,7 @@ mod calls;
 use crate::ticket::HOME;
 use am_board::board::Board;
 use am_board::own_ticket::OwnTicket;
+use am_seed::Seed;
 
 /// A board, and the tickets of its open flushes in the order of their begins.
 ///
@@ -16,5 +17,7 @@ use am_board::own_ticket::OwnTicket;
 pub struct Session {
     board: Board,
     tickets: Vec<OwnTicket<HOME>>,
+    /// What the hashes of its boards start from.
+    seed: Seed,
     ghost ours: { board.id ≡ HOME },
 }

@@ -15,6 +15,7 @@ use am_board::own_ticket::OwnTicket;
 use am_board::record::Inserted;
 use am_board::views::Summary;
 use am_pool::{Courier, Job, PoolFault, run_jobs};
+use am_seed::Seed;
 use std::alloc::{AllocError, Global};
 use std::sync::Wait;
 use std::thread::Threads;
@@ -55,9 +56,10 @@ pub enum RoundFault {
 }
 
 impl Dispatcher {
-    /// Returns a board of this configuration, with nothing in it.
-    pub fn open(alloc: Global, config: Config) -> Result<Dispatcher, BoardFault> {
-        let board = Board::new(alloc, config, HOME)?;
+    /// Returns a board of this configuration, with nothing in it. Its hashes start from a seed that
+    /// the program drew.
+    pub fn open(alloc: Global, config: Config, seed: Seed) -> Result<Dispatcher, BoardFault> {
+        let board = Board::seeded(alloc, config, HOME, seed)?;
         Ok(Dispatcher { board })
     }
 

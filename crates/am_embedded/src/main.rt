@@ -9,12 +9,14 @@ use am_alerts::alert::Alert;
 use am_alerts::labels::Labels;
 use am_board::fault::{BoardFault, Fault};
 use am_pool::PoolFault;
+use am_seed::Seed;
 use config::base;
 use dispatcher::{Dispatcher, RoundFault};
 use pager::Pager;
 use std::alloc::{AllocError, Global};
 use std::io;
 use std::process::ExitCode;
+use std::random::RandomSource;
 use std::sync::Wait;
 use std::thread::Threads;
 
@@ -28,6 +30,8 @@ enum Trouble {
     Rejected,
     /// The output isn't taken.
     Unwritable,
+    /// The system has no random numbers.
+    NoSeed,
 }
 
 impl From<AllocError> for Trouble {
@@ -70,12 +74,18 @@ fn main(rt: HostRuntime) -> ExitCode {
         Err(Trouble::Rejected) => ExitCode::from(2),
         Err(Trouble::NoMemory) => ExitCode::from(3),
         Err(Trouble::Unwritable) => ExitCode::from(4),
+        Err(Trouble::NoSeed) => ExitCode::from(5),
     }
 }
 
-fn run<R: Threads + Wait + Sync + Print + AllocGlobal>(rt: &R) -> Result<(), Trouble> {
+fn run<R: Threads + Wait + Sync + Print + AllocGlobal + RandomSource>(
+    rt: &R,
+) -> Result<(), Trouble> {
     let config = base(rt.alloc())?;
-    let mut dispatcher = Dispatcher::open(rt.alloc(), config)?;
+    let Ok(seed) = Seed::draw(rt) else {
+        return Err(Trouble::NoSeed);
+    };
+    let mut dispatcher = Dispatcher::open(rt.alloc(), config, seed)?;
     let ran = run_on(rt, &mut dispatcher);
     drop(dispatcher);
     ran

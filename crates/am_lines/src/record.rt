@@ -44,7 +44,15 @@ fn write_call(config: &Config, call: &Call, answer: &mut Answer) -> Result<(), A
             matchers,
             start,
             end,
-        } => write_silence(config, *now, *id, matchers.as_slice(), *start, *end, answer),
+        } => write_silence(
+            config,
+            *now,
+            *id,
+            matchers.get().as_slice(),
+            *start,
+            *end,
+            answer,
+        ),
         Call::Begin { now } => write_timed("begin", *now, answer),
         Call::Finish {
             now,
@@ -53,7 +61,7 @@ fn write_call(config: &Config, call: &Call, answer: &mut Answer) -> Result<(), A
         } => write_finish(config, *now, *number, outcomes.as_slice(), answer),
         Call::Maintain { now } => write_timed("maintain", *now, answer),
         Call::Forget { now } => write_timed("forget", *now, answer),
-        Call::Load { now, row } => write_load(config, *now, row.row(), answer),
+        Call::Load { now, row } => write_load(config, *now, row.get(), answer),
         Call::Note {
             now,
             number,

@@ -32,7 +32,7 @@ pub fn write_reply(config: &Config, reply: &Reply, answer: &mut Answer) -> Resul
             *number,
             group,
             *deadline,
-            notices.as_slice(),
+            notices.get().as_slice(),
             answer,
         ),
         Reply::Finished(x) => write_counts(

@@ -5,6 +5,7 @@ ghost use Rattle.am_nflog.specs.Members.{is_ascending};
 
 use crate::requests::probe::Probe;
 use am_nflog::{LogKey, LogRow, Members, NfLog, needs_update};
+use am_seed::Seed;
 use std::alloc::{AllocError, Global};
 
 pub fn make_calls(probe: &Probe, alloc: Global) -> Result<(), AllocError> {
@@ -42,7 +43,7 @@ fn members(alloc: Global, list: &[u64]) -> Result<Members<u64>, AllocError>
 /// Makes a key known, and puts a row at it.
 fn keep_rows(probe: &Probe, alloc: Global) -> Result<(), AllocError> {
     probe.ask("NfLog::new");
-    let mut log: NfLog<u64, u64> = NfLog::new(alloc)?;
+    let mut log: NfLog<u64, u64> = NfLog::new(alloc, Seed::fixed())?;
     probe.tell(&log.len());
     probe.ask("with memory: NfLog::reserve");
     log.reserve(key())?;
@@ -73,7 +74,7 @@ fn collect(probe: &Probe, log: &mut NfLog<u64, u64>) {
 
 /// Merges a row into an empty log, and then at its key one of the same moment and a later one.
 fn merge_rows(probe: &Probe, alloc: Global) -> Result<(), AllocError> {
-    let mut log: NfLog<u64, u64> = NfLog::new(alloc)?;
+    let mut log: NfLog<u64, u64> = NfLog::new(alloc, Seed::fixed())?;
     let first = row(alloc, 100)?;
     let same = row(alloc, 100)?;
     let later = row(alloc, 101)?;

@@ -3,9 +3,11 @@ pub mod DuePlaces
 pub mod DueWalk
 pub mod Ends
 pub mod FirstDue
+pub mod MutedPlaces
 pub mod Previews
-pub mod QuietPreviews
+pub mod Reasons
 pub mod PlannedFlushes
 pub mod ReservedRows
 pub mod Updates
 pub mod WhatIsUnmuted
+pub mod Walks

@@ -1,1 +1,2 @@
 pub mod Unsilencing
+pub mod Muting

@@ -22,6 +22,7 @@ use super::Groups;
 use crate::due::DueKey;
 use crate::flush::{OpenFlush, is_open};
 use crate::group::{Group, GroupName};
+use am_seed::Seed;
 use indexmap::IndexMap;
 use std::collections::BTreeSet;
 
@@ -46,7 +47,7 @@ impl Groups {
 /// It is the group of the first key that isn't stale and whose group has no open flush, if it is
 /// due. The key that is due first stands last.
 fn first_by_keys(
-    groups: &IndexMap<GroupName, Group>,
+    groups: &IndexMap<GroupName, Group, Seed>,
     keys: &BTreeSet<DueKey>,
     flushes: &[OpenFlush],
     t: u64,
@@ -71,7 +72,7 @@ fn first_by_keys(
 
 /// The place of the group that has a key, unless the key is stale or a flush of the group is open.
 fn free_place(
-    groups: &IndexMap<GroupName, Group>,
+    groups: &IndexMap<GroupName, Group, Seed>,
     key: &DueKey,
     flushes: &[OpenFlush],
 ) -> Option<usize>
@@ -88,7 +89,7 @@ fn free_place(
 }
 
 /// The place of the group that has a key, unless the key is stale.
-fn place_of(groups: &IndexMap<GroupName, Group>, key: &DueKey) -> Option<usize>
+fn place_of(groups: &IndexMap<GroupName, Group, Seed>, key: &DueKey) -> Option<usize>
     requires keyed { AreKeyed name_of groups.now.entries }
     requires distinct { IsDistinct same_name (keys_of groups.now.entries) }
     ensures { IsCurrent (values_of groups.now.entries) key.now result }

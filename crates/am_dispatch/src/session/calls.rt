@@ -33,6 +33,7 @@ use am_lines::request::{
     Finishing, Insertion, Loading, Noting, Opening, Reporting, Request, Silencing,
 };
 use am_lines::view::{write_due, write_list, write_outlook, write_summary};
+use am_seed::Seed;
 use std::alloc::{AllocError, Global};
 use std::mem::replace;
 
@@ -40,16 +41,17 @@ use std::mem::replace;
 const PASS: u32 = 0;
 
 impl Session {
-    /// Returns a session whose board has this configuration.
-    pub fn open(alloc: Global, config: Config) -> Result<Session, LineFault>
+    /// Returns a session whose board has this configuration. Hashes start from this seed.
+    pub fn open(alloc: Global, seed: Seed, config: Config) -> Result<Session, LineFault>
         ensures board { IfOk result (λ session. session.board ≡ opening config HOME) }
         ensures tickets { IfOk result (λ session. session.tickets.items ≡ []) }
         ensures refused { IfErr result IsUnmade }
     {
-        let board = open_board(alloc, config)?;
+        let board = open_board(alloc, seed, config)?;
         Ok(Session {
             board,
             tickets: Vec::new(alloc),
+            seed,
         })
     }
 
@@ -96,7 +98,7 @@ impl Session {
         ensures refused { IfErr result (Leaves self.old (Request.Open asked) self.new) }
     {
         let Opening { config, ignored } = asked;
-        let board = open_board(alloc, config)?;
+        let board = open_board(alloc, self.seed, config)?;
         finish_all(&mut self.board, replace(&mut self.tickets, Vec::new(alloc)));
         self.board = board;
         told(write_opened(&ignored, answer))
@@ -376,7 +378,11 @@ impl Session {
 
     /// Ends the session: the flushes that are open are finished with what was reported.
     pub fn close(self) {
-        let Session { mut board, tickets } = self;
+        let Session {
+            mut board,
+            tickets,
+            seed: _,
+        } = self;
         finish_all(&mut board, tickets);
     }
 }
@@ -397,11 +403,11 @@ fn write_begun(config: &Config, ticket: &Ticket, answer: &mut Answer) -> Result<
 }
 
 /// An empty board of the program.
-fn open_board(alloc: Global, config: Config) -> Result<Board, LineFault>
+fn open_board(alloc: Global, seed: Seed, config: Config) -> Result<Board, LineFault>
     ensures board { IfOk result (λ board. board ≡ opening config HOME) }
     ensures refused { IfErr result IsUnmade }
 {
-    match Board::new(alloc, config, HOME) {
+    match Board::seeded(alloc, config, HOME, seed) {
         Ok(board) => Ok(board),
         Err(BoardFault::NoMemory) => Err(LineFault::NoMemory),
         // (the readers of configurations look at them already)

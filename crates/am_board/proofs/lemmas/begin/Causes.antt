@@ -1,5 +1,6 @@
 -- Why a begin is refused, from what is found of the kept state.
-use Rattle.std.proofs.Common.{◌≡◌, ◌≢◌, ℕ, ◌+◌, ◌<◌, ◌≤◌, true, false, cond, ◌&&◌, nat_le, List, [], ◌∷◌, length, map, get_or, slice_index_or, Option, Some, None, Result, Ok, Err, MatchResult, vec_len, inl, inr, refl, sym, ap, subst, ◌∙◌, arith}
+use Rattle.std.proofs.Common.{◌≡◌, ◌≢◌, ℕ, ◌+◌, ◌<◌, ◌≤◌, true, false, cond, ◌&&◌, nat_le, List, [], ◌∷◌, length, map, get_or, slice_index_or, Option, Some, None, Result, Ok, Err, MatchResult, vec_len, vec_capacity, inl, inr, refl, sym, ap, subst, ◌∙◌, arith}
+use Rattle.std.specs.Prelude.{IfSome}
 use Rattle.std.proofs.Math.Bool.{and-false}
 use Rattle.std.proofs.lemmas.Bool.Decides.{nat_tests}
 use Rattle.std.proofs.lemmas.List.{get_or_default, length-map}
@@ -15,13 +16,17 @@ use Rattle.am_board.specs.declared.group.Group.{Group}
 use Rattle.am_board.specs.declared.plan.PlannedFlush.{PlannedFlush}
 use Rattle.am_model.specs.declared.record.Call.TheVariants.{Begin}
 use Rattle.am_board.specs.declared.state.State as kept
-use Rattle.am_model.specs.Begin.{asked_of, taken}
+use Rattle.am_model.specs.Begin.{asked_of, notice_for, taken}
+use Rattle.am_model.specs.Configured.{HaveFewIntegrations}
+use Rattle.am_model.specs.Notice.{NoticeData}
+use Rattle.am_model.specs.declared.config.TheConstants.{MAX_INTEGRATIONS}
+use Rattle.am_model.proofs.configuration.FewAsked.{few_asked}
 use Rattle.am_model.specs.Causes.{is_full, asks_some, opens_by, begin_cause}
 use Rattle.am_model.specs.Records.{entry}
 use Rattle.am_board.specs.History.{reply_of, IsFresh}
 use Rattle.am_board.specs.Refinement.{state_of, group_state, flush_state}
-use Rattle.am_board.specs.Beginning.{IsPlan, first_of, IsChosen, IsEnd}
-use Rattle.am_model.specs.State.{moment}
+use Rattle.am_board.specs.Beginning.{IsPlan, IsPlannedFlush, first_of, IsChosen, IsEnd}
+use Rattle.am_model.specs.State.{GroupState, moment}
 use Rattle.am_board.specs.Step.{AppliesCall, LeavesUnchanged, IsAnswer}
 
 -- what a begin is to answer where this is the first cause other than memory
@@ -62,7 +67,7 @@ module _ (config : Config) (s : kept.State) (now : ℕ) (t : ℕ) (at : t ≡ mo
       ∙ ap (λ b. cond b (Some TooManyOpen) None) (and-false (nat_le config.limits.flushes (length (map flush_state s.flushes.items))))
 
   -- one more may be open
-  pub cause-few : vec_len s.flushes < config.limits.flushes → begin_cause config (vec_len s.history) (state_of s) (moment (state_of s) now) ≡ None
+  cause-few : vec_len s.flushes < config.limits.flushes → begin_cause config (vec_len s.history) (state_of s) (moment (state_of s) now) ≡ None
   cause-few few =
       let length_is = opened in
       let below : nat_le config.limits.flushes (length (map flush_state s.flushes.items)) ≡ false = grind (arith, nat_tests, length_is) in
@@ -118,6 +123,40 @@ taking_found config s chosen g groups flushes all open_now at within first is du
       due = due;
     }
 
+-- an element of a list that has a place
+pub one_of : {X : Type 0} (xs : List X) (i : ℕ) → i < length xs → X
+one_of [] i within = absurd (omega (arith, within))
+one_of (x ∷ xs) i within = x
+
+-- ---- what a plan has, if a flush is planned
+
+module _ (config : Config) (id : ℕ) (s : kept.State) (chosen : ChosenGroup) (within : chosen.place < length s.groups.items) (o : Option PlannedFlush)
+    (plan : (d : Group) → IsPlan config id (vec_len s.flushes) (state_of s) chosen.t (group_state (slice_index_or s.groups.items chosen.place d)) (Ok o)) where
+  abbrev at_place : GroupState
+  at_place = group_state (slice_index_or s.groups.items chosen.place (one_of s.groups.items chosen.place within))
+
+  has : (P : PlannedFlush → Type 0) → ((p : PlannedFlush) → IsPlannedFlush config id (state_of s) chosen.t at_place p → P p) → IfSome o P
+  has P from = by o (plan (one_of s.groups.items chosen.place within))
+    where
+      by : (p : Option PlannedFlush) → IsPlan config id (vec_len s.flushes) (state_of s) chosen.t at_place (Ok p) → IfSome p P
+      by None is = tt
+      by (Some flush) is = from flush is.2
+
+  pub planned_none : IfSome o (λ p. vec_len p.outcomes ≡ 0)
+  planned_none = has (λ p. vec_len p.outcomes ≡ 0) (λ p is. is.none)
+
+  pub planned_room : IfSome o (λ p. vec_len p.notices ≤ vec_capacity p.outcomes)
+  planned_room = has (λ p. vec_len p.notices ≤ vec_capacity p.outcomes) (λ p is. is.room)
+
+  pub planned_few : HaveFewIntegrations config → IfSome o (λ p. vec_len p.notices ≤ MAX_INTEGRATIONS)
+  planned_few few = has (λ p. vec_len p.notices ≤ MAX_INTEGRATIONS) few_notices
+    where
+      few_notices : (p : PlannedFlush) → IsPlannedFlush config id (state_of s) chosen.t at_place p → vec_len p.notices ≤ MAX_INTEGRATIONS
+      few_notices p is =
+          let asked = asked_of config (state_of s) chosen.t at_place in
+          let count = ap (λ (ns : List NoticeData). length ns) is.notices ∙ length-map asked (notice_for config id (state_of s) chosen.t at_place) in
+          omega (arith, p.notices.ok.0, count, few_asked config (state_of s) chosen.t at_place few)
+
 -- ---- what is worked out for the group that a begin takes
 
 module _ (config : Config) (id : ℕ) (s : kept.State) (chosen : ChosenGroup) (g : Group) (takes : IsChosen config s chosen g) where
@@ -127,25 +166,13 @@ module _ (config : Config) (id : ℕ) (s : kept.State) (chosen : ChosenGroup) (g
       → IsPlan config id (vec_len s.flushes) (state_of s) chosen.t (group_state g) r
   planned r plan = subst (λ (x : Group). IsPlan config id (vec_len s.flushes) (state_of s) chosen.t (group_state x) r) (takes.group g) (plan g)
 
-  -- nobody is asked
-  pub planned_none : (o : Option PlannedFlush)
-      → ((d : Group) → IsPlan config id (vec_len s.flushes) (state_of s) chosen.t (group_state (slice_index_or s.groups.items chosen.place d)) (Ok o))
-      → o ≡ None → asked_of config (state_of s) chosen.t (group_state g) ≡ []
-  planned_none o plan e = subst (λ (x : Option PlannedFlush). IsPlan config id (vec_len s.flushes) (state_of s) chosen.t (group_state g) (Ok x)) e (planned (Ok o) plan)
-
-  -- a flush is opened
-  pub planned_some : (o : Option PlannedFlush) (flush : PlannedFlush)
-      → ((d : Group) → IsPlan config id (vec_len s.flushes) (state_of s) chosen.t (group_state (slice_index_or s.groups.items chosen.place d)) (Ok o))
-      → o ≡ Some flush → IsPlan config id (vec_len s.flushes) (state_of s) chosen.t (group_state g) (Ok (Some flush))
-  planned_some o flush plan e = subst (λ (x : Option PlannedFlush). IsPlan config id (vec_len s.flushes) (state_of s) chosen.t (group_state g) (Ok x)) e (planned (Ok o) plan)
-
   -- whether a flush is to be opened, by what is asked
   opens_taken : opens_by config (state_of s) chosen.t (taken (state_of s) chosen.t) ≡ asks_some (asked_of config (state_of s) chosen.t (group_state g))
   opens_taken = ap (λ o. opens_by config (state_of s) chosen.t o) takes.first
 
   module _ (room : vec_len s.history + vec_len s.flushes + 2 ≤ config.limits.history) where
     -- nobody is asked: only memory can be wanting
-    pub cause-quiet : asked_of config (state_of s) chosen.t (group_state g) ≡ [] → begin_cause config (vec_len s.history) (state_of s) (moment (state_of s) chosen.now) ≡ None
+    cause-quiet : asked_of config (state_of s) chosen.t (group_state g) ≡ [] → begin_cause config (vec_len s.history) (state_of s) (moment (state_of s) chosen.now) ≡ None
     cause-quiet none = cause-closed config s chosen.now chosen.t takes.moment room (opens_taken ∙ ap asks_some none)
 
     -- why it is refused before anything is put
@@ -159,3 +186,19 @@ module _ (config : Config) (id : ℕ) (s : kept.State) (chosen : ChosenGroup) (g
               let many = cause-many config s chosen.now chosen.t takes.moment room full.2 (opens_taken ∙ asks_some-true (asked_of config (state_of s) chosen.t (group_state g)) full.1) in
               subst (λ o. IsAnswer o fault) (sym many) (inl full.0)
         ]
+
+    -- a flush is opened or nobody is asked: only memory can be wanting
+    cause_planned : (o : Option PlannedFlush)
+        → ((d : Group) → IsPlan config id (vec_len s.flushes) (state_of s) chosen.t (group_state (slice_index_or s.groups.items chosen.place d)) (Ok o))
+        → begin_cause config (vec_len s.history) (state_of s) (moment (state_of s) chosen.now) ≡ None
+    cause_planned None plan = cause-quiet (planned (Ok None) plan)
+    cause_planned (Some flush) plan = cause-few config s chosen.now chosen.t takes.moment room (planned (Ok (Some flush)) plan).1
+
+    -- the begin ends as its plan says
+    pub ended : (o : Option PlannedFlush)
+        → ((d : Group) → IsPlan config id (vec_len s.flushes) (state_of s) chosen.t (group_state (slice_index_or s.groups.items chosen.place d)) (Ok o))
+        → (new : kept.State) (result : Result Begun Fault)
+        → (IsPlan config id (vec_len s.flushes) (state_of s) chosen.t (group_state g) (Ok o) → IsEnd config id chosen.pass chosen.now s new result)
+        → IsTold config id chosen.pass chosen.now s new (begin_cause config (vec_len s.history) (state_of s) (moment (state_of s) chosen.now)) result
+    ended o plan new result end =
+        told config id chosen.pass chosen.now s new (begin_cause config (vec_len s.history) (state_of s) (moment (state_of s) chosen.now)) result (cause_planned o plan) (end (planned (Ok o) plan))

@@ -1,17 +1,11 @@
 -- Which integrations are asked, against what the definitions say of the receiver, the log and what is unmuted.
-use Rattle.std.proofs.Common.{◌≡◌, ◌+◌, ◌<◌, ◌≤◌, ℕ, Bool, true, false, cond, ◌&&◌, Option, Some, None, List, [], ◌∷◌, ◌++◌, length, map, filter, find, take, get_or, refl, sym, ap, ◌∙◌, subst, arith}
+use Rattle.std.proofs.Common.{◌≡◌, ◌+◌, ◌<◌, ◌≤◌, ℕ, Bool, true, false, cond, ◌&&◌, Some, None, List, [], ◌∷◌, ◌++◌, length, map, filter, find, take, get_or, refl, sym, ap, ◌∙◌, subst, arith}
 use Rattle.std.specs.List.{enumerate_from, AllByRecursion}
 use Rattle.std.specs.Str.{bytes_eq}
 use Rattle.std.proofs.lemmas.List.{append-nil, map-append, take_more, length-take-le}
 use Rattle.std.proofs.lemmas.List.Elements.{filter-append, recursion_from_All}
 use Rattle.am_alerts.specs.AlertData.{AlertData}
-use Rattle.am_alerts.specs.Labels.{same_label_set}
-use Rattle.am_alerts.specs.declared.labels.Label.{Label}
-use Rattle.am_nflog.specs.Log.{Slots, row_of, HasDistinctKeys}
 use Rattle.am_nflog.specs.Members.{is_empty}
-use Rattle.am_nflog.specs.Needed.{needed}
-use Rattle.am_nflog.specs.declared.key.LogKey.{LogKey}
-use Rattle.am_nflog.specs.declared.row.LogRow.{LogRow}
 use Rattle.am_board.specs.declared.dedup.Update.{Update}
 use Rattle.am_model.specs.declared.config.Config.{Config}
 use Rattle.am_model.specs.declared.config.Integration.{Integration}
@@ -20,12 +14,10 @@ use Rattle.am_model.specs.declared.config.TheConstants.{MAX_INTEGRATIONS}
 use Rattle.am_board.specs.declared.flush.AlertSets.{AlertSets}
 use Rattle.am_board.specs.declared.unmuted.Unmuted.{Unmuted}
 use Rattle.am_model.specs.declared.group.GroupName.{GroupName}
-use Rattle.am_model.specs.Begin.{asked_about, asked_of, entry_of, label_sets, needs, resolved_of}
+use Rattle.am_model.specs.Begin.{asked_about, asked_of, label_sets, needs, resolved_of}
 use Rattle.am_model.specs.Configured.{HaveFewIntegrations, integrations_named, integrations_of, route_of}
-use Rattle.am_board.specs.Beginning.{IsUnmuted, update_of, needs_update_for, alert_sets_of}
-use Rattle.am_board.specs.LogRows.{log_rows}
-use Rattle.am_model.specs.State.{GroupState, State, same_name}
-use Rattle.am_board.proofs.lemmas.invariant.LogRows.{entry_of-log_rows}
+use Rattle.am_board.specs.Beginning.{IsUnmuted, update_of, alert_sets_of}
+use Rattle.am_model.specs.State.{GroupState, State}
 
 -- an element more has the place behind the others
 enumerate-push : {X : Type 0} (n : ℕ) (xs : List X) (y : X) → enumerate_from n (xs ++ y ∷ []) ≡ enumerate_from n xs ++ (n + length xs, y) ∷ []
@@ -57,17 +49,6 @@ module _ (test : ℕ × Integration → Bool) (integrations : List Integration) 
   -- it isn't
   pub asked-same : test (i, integration) ≡ false → asked ≡ map update_of (filter test (enumerate_from 0 (take (i + 1) integrations)))
   asked-same e = sym (append-nil asked) ∙ (ap (λ b. asked ++ map update_of (cond b ((i, integration) ∷ []) [])) (sym e) ∙ sym more)
-
--- the test of an integration, by the row under its key
-pub needs_update_for-key : (eq : GroupName → GroupName → Bool) → ((a b : GroupName) → eq a b ≡ same_name a b) → (log : Slots GroupName (List Label)) (key : LogKey GroupName) (name : GroupName) (sets : AlertSets) (i : ℕ) (one : Integration) (repeat t : ℕ) (logged : Option (LogRow (List Label))) (firing resolved : List (List Label)) (answer : Bool)
-    → HasDistinctKeys eq log → key.group ≡ name → key.integration ≡ i → logged ≡ row_of eq log key → firing ≡ sets.firing → resolved ≡ sets.resolved
-    → answer ≡ needed same_label_set logged firing resolved one.send_resolved repeat t → needs_update_for (log_rows log) name sets repeat t (i, one) ≡ answer
-needs_update_for-key eq same log key name sets i one repeat t logged firing resolved answer apart group integration row fire over told_is =
-    let entry : entry_of (log_rows log) name i ≡ logged =
-    ap (λ n. entry_of (log_rows log) n i) (sym group) ∙ (ap (entry_of (log_rows log) key.group) (sym integration) ∙ (entry_of-log_rows eq same log key.group key.integration apart ∙ sym row)) in
-    ap (λ r. needed same_label_set r sets.firing sets.resolved one.send_resolved repeat t) entry
-    ∙ (ap (λ l. needed same_label_set logged l sets.resolved one.send_resolved repeat t) (sym fire)
-    ∙ (ap (λ l. needed same_label_set logged firing l one.send_resolved repeat t) (sym over) ∙ sym told_is))
 
 -- there are as few integrations of a name as each receiver has
 few-named : (name : List ℕ) (receivers : List Receiver) → AllByRecursion (λ r. length r.integrations ≤ MAX_INTEGRATIONS) receivers → length (integrations_named name receivers) ≤ MAX_INTEGRATIONS
@@ -111,21 +92,6 @@ module _ (config : Config) (name : GroupName) (text : List ℕ) (named : text �
       → enumerate_from 0 integrations ≡ integrations_of config name
   its-receiver r integrations there are =
       ap (enumerate_from 0) (are ∙ (named-some text config.receivers r there ∙ ap (λ n. integrations_named n config.receivers) named))
-
-module _ (config : Config) (s : State) (t : ℕ) (name : GroupName) (text : List ℕ) (named : text ≡ (route_of config name).receiver) where
-  -- nobody is asked where the receiver isn't there
-  pub about-nobody : (test : ℕ × Integration → Bool) → None ≡ find (λ r. bytes_eq r.name text) config.receivers → filter test (integrations_of config name) ≡ []
-  about-nobody test none =
-      ap (λ l. filter test (enumerate_from 0 l)) (ap (λ n. integrations_named n config.receivers) (sym named) ∙ named-none text config.receivers none)
-
-  -- those of the receiver's integrations are asked that need an update
-  pub about-receiver : (r : Receiver) (integrations : List Integration) (sets : AlertSets) (repeat : ℕ) → Some r ≡ find (λ r. bytes_eq r.name text) config.receivers → integrations ≡ r.integrations → repeat ≡ (route_of config name).repeat_interval
-      → filter (needs_update_for s.rows name sets repeat t) (enumerate_from 0 integrations) ≡ filter (needs config s t name sets.firing sets.resolved) (integrations_of config name)
-  about-receiver r integrations sets repeat there ways_are repeat_is =
-      let are : integrations ≡ integrations_named (route_of config name).receiver config.receivers =
-      ways_are ∙ (named-some text config.receivers r there ∙ ap (λ n. integrations_named n config.receivers) named) in
-      ap (λ n. filter (needs_update_for s.rows name sets n t) (enumerate_from 0 integrations)) repeat_is
-      ∙ ap (λ l. filter (needs config s t name sets.firing sets.resolved) (enumerate_from 0 l)) are
 
 -- who is asked by a group in which this is unmuted
 module _ (config : Config) (s : State) (t : ℕ) (g : GroupState) (unmuted : Unmuted) (is : IsUnmuted config s t g unmuted) (empty : Bool) (is_empty-is : empty ≡ (is_empty unmuted.firing && is_empty unmuted.resolved)) where

@@ -1,8 +1,8 @@
 -- What a begin finds in a group, in the order of the labels.
-use Rattle.std.proofs.Common.{◌≡◌, ℕ, Bool, true, false, not, Option, Some, None, List, [], filter, map, refl, sym, ap, ◌∙◌}
+use Rattle.std.proofs.Common.{◌≡◌, ℕ, Bool, true, false, not, Option, Some, None, List, [], filter, map, slice_get, refl, sym, ap, ◌∙◌}
 use Rattle.std.specs.Prelude.{is_some}
 use Rattle.std.proofs.lemmas.Bool.{false≢true}
-use Rattle.std.specs.List.{IsDistinct}
+use Rattle.std.specs.List.{IsDistinct, filter_map}
 use Rattle.std.specs.declared.cmp.Ordering.{Ordering}
 use Rattle.am_alerts.specs.AlertData.{AlertData, is_resolved}
 use Rattle.am_alerts.specs.Labels.{label_set_cmp, same_label_set}
@@ -15,16 +15,19 @@ use Rattle.am_board.specs.declared.group.Group.{Group}
 use Rattle.am_board.specs.declared.group.Member.{Member}
 use Rattle.am_model.specs.Begin.{alert_cmp, copied, copy_under, label_sets}
 use Rattle.am_model.specs.Configured.{route_muted}
-use Rattle.am_board.specs.Beginning.{AreUnmuted, AreRising, IsUnmuted, copy_among, firing_among, resolved_among}
+use Rattle.am_board.specs.Beginning.{AreRising, IsUnmuted, copy_among, firing_among, resolved_among}
 use Rattle.am_model.specs.Insert.{same_alert, same_member}
 use Rattle.am_board.specs.Refinement.{group_state, member_state}
-use Rattle.am_board.specs.Order.{member_cmp}
+use Rattle.am_board.specs.Members.{labels_of}
+use Rattle.am_board.specs.Order.{member_cmp, places_in_order}
+use Rattle.am_board.specs.Walk.{IsWalk}
+use Rattle.am_board.specs.declared.walk.Walk.{Walk}
 use Rattle.am_model.specs.Lists.{in_order, unless, without}
 use Rattle.am_model.specs.State.{GroupState, MemberState, State}
 use Rattle.am_model.proofs.lists.Distinct.{IsDistinct-told}
 use Rattle.am_model.proofs.lists.InOrder.{apart_by_ties, in_order-map}
 use Rattle.am_model.proofs.states.InOrder.{IsDistinct-copy, alert_cmp_total, firing-ascends, labels-copied, resolved-ascends, same_alert-ties}
-use Rattle.am_board.proofs.lemmas.invariant.Order.{in_order-filter}
+use Rattle.am_board.proofs.lemmas.invariant.Order.{in_order-filter, members_there}
 
 -- the order of alerts of a group by their label sets, with their stamps
 abbrev state_cmp : MemberState → MemberState → Ordering
@@ -50,28 +53,39 @@ module _ (config : Config) (s : State) (t : ℕ) (g : Group) (apart : IsDistinct
       ∙ left_out (λ a. not (is_muted a.labels t s.silences config.rules s.known)) (copies t g.members.items)
       (IsDistinct-told same_member same_alert (λ (m : MemberState). copied t m.alert) (λ m n i. same_label_set (labels-copied t m.alert i) (labels-copied t n.alert i)) (group_state g).members apart)
 
-  -- what the walk over a group in the order of its labels keeps is what is unmuted in it
-  pub is_found : (rules : List RuleData) (members : List Member) (firing resolved : List AlertData)
+  -- what fires and what is resolved of a group in the order of its labels is what is unmuted in it
+  is_found : (rules : List RuleData) (members : List Member) (firing resolved : List AlertData)
       → route_muted config g.name t ≡ None → rules ≡ config.rules → members ≡ in_order member_cmp g.members.items
-      → AreUnmuted rules s t members firing resolved
+      → firing ≡ firing_among rules s t members → resolved ≡ resolved_among rules s t members
       → IsUnmuted config s t (group_state g) (record { firing = firing; resolved = resolved })
-  is_found rules members firing resolved unshut same_rules same_members unmuted =
+  is_found rules members firing resolved unshut same_rules same_members fire gone =
       let copy = copy_under config.rules s t (group_state g) in
       let apart_copy : IsDistinct same_alert copy = IsDistinct-copy config.rules s t (group_state g) apart in
       record {
         firing =
-            unmuted.firing
+            fire
             ∙ (ap (λ r. firing_among r s t members) same_rules ∙ ap (firing_among config.rules s t) same_members)
             ∙ ap (without (λ (a : AlertData). is_resolved a t)) copy-in_order
             ∙ left_out (λ a. not (is_resolved a t)) copy apart_copy
             ∙ sym (ap (λ o. in_order alert_cmp (without (λ a. is_resolved a t) (unless o copy))) unshut);
         resolved =
-            unmuted.resolved
+            gone
             ∙ (ap (λ r. resolved_among r s t members) same_rules ∙ ap (resolved_among config.rules s t) same_members)
             ∙ ap (filter (λ (a : AlertData). is_resolved a t)) copy-in_order
             ∙ left_out (λ a. is_resolved a t) copy apart_copy
             ∙ sym (ap (λ o. in_order alert_cmp (filter (λ a. is_resolved a t) (unless o copy))) unshut);
       }
+
+  -- what a walk finds is what is unmuted
+  pub is_walked : (rules : List RuleData) (causes : Bool) (walk : Walk) (unmuted : Unmuted)
+      → route_muted config g.name t ≡ None → rules ≡ config.rules → IsWalk rules s t g.members.items causes walk
+      → unmuted.firing ≡ walk.firing.items → unmuted.resolved ≡ walk.resolved.items
+      → IsUnmuted config s t (group_state g) unmuted
+  is_walked rules causes walk unmuted unshut same_rules is fire gone =
+      let ms = g.members.items in
+      let found = is_found rules (filter_map (slice_get ms) (places_in_order (map labels_of ms))) walk.firing.items walk.resolved.items
+      unshut same_rules (members_there ms) is.firing is.resolved in
+      record { firing = fire ∙ found.firing; resolved = gone ∙ found.resolved }
 
 -- nothing is unmuted where the route is muted
 pub nothing_found : (config : Config) (s : State) (t : ℕ) (g : GroupState) (firing resolved : List AlertData)

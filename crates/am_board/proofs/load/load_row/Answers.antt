@@ -29,9 +29,9 @@ returns c =
     let full = not_full config old 1 counted (omega arith) in
     let none : row_cause config u row ≡ None = ap (λ t. row_cause config t row) (sym e) ∙ no_fault (row_cause config c.moment-t.result row) tt _ c.in_ok-check_row.ensures.cause in
     let may : may_load config u row ≡ true = load-allowed config u row none in
-    let given : c.row-2.result.now ≡ row = c.row-2.ensures ∙ c.in_ok-row.ensures in
+    let given : c.get.result.now ≡ row = c.get.ensures ∙ c.in_ok-row.ensures in
     let became : c.in_ok-loaded.loaded ≡ loaded rows u row = c.in_ok-loaded.ensures.loaded ∙ (λ i. loaded rows (e i) (given i)) in
-    let left : (if is_put (loaded rows c.moment-t.result c.row-2.result.now) then log_with c.row-2.result.now rows else rows) ≡ rows_loading config rows u row =
+    let left : (if is_put (loaded rows c.moment-t.result c.get.result.now) then log_with c.get.result.now rows else rows) ≡ rows_loading config rows u row =
     (λ i. if is_put (loaded rows (e i) (given i)) then log_with (given i) rows else rows) ∙ sym (ap (λ b. if b && is_put (loaded rows u row) then log_with row rows else rows) may) in (
       (λ i. option_or (none i) (if full i then Some load.HistoryFull else None)),
       λ id. record {

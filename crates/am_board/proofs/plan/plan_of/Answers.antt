@@ -1,35 +1,49 @@
-use Rattle.std.proofs.Common.{◌≡◌, ◌∙◌, length, map, sym, ap, arith, rules}
-use Rattle.std.proofs.lemmas.Bool.Decides.{nat_tests}
-use Rattle.am_model.specs.Begin.{asked_of}
-use Rattle.am_board.specs.Beginning.{update_of}
+use Rattle.std.proofs.Common.{◌∙◌, None, [], sym, ap, refl, true, false}
+use Rattle.std.specs.Prelude.{is_some}
+use Rattle.am_model.specs.Configured.{route_muted}
+use Rattle.am_board.specs.Beginning.{IsUnmuted}
 use Rattle.am_board.specs.Refinement.{group_state, state_of}
-use Rattle.am_board.proofs.lemmas.begin.Updates.{no-updates, nothing-asks, something-asks}
-use Rattle.am_board.proofs.lemmas.begin.WhatIsUnmuted.{unmuted-rises}
+use Rattle.am_board.proofs.lemmas.begin.Reasons.{asked_are}
+use Rattle.am_board.proofs.lemmas.begin.Updates.{nothing-asks}
+use Rattle.am_board.proofs.lemmas.begin.WhatIsUnmuted.{is_walked, not_muted, nothing_found, unmuted-rises}
 use Rattle.am_board.proofs.plan.plan_of.Goals as goal
-use Rattle.am_board.proofs.plan.plan_of.Goals.{In_ok-asked}
+use Rattle.am_board.proofs.plan.plan_of.Goals.{After-into_unmuted-unmuted}
 
--- those that need an update are those that are asked
-asked-are : (c : In_ok-asked) → c.in_ok-asked.asked.items ≡ map update_of (asked_of c.args.config.now (state_of c.args.state.now) c.args.t (group_state c.args.group.now))
-asked-are c =
-    c.in_ok-asked.ensures ∙ ap (map update_of) (something-asks c.args.config.now (state_of c.args.state.now) c.args.t (group_state c.args.group.now) c.in_ok-unmuted.unmuted c.in_ok-unmuted.ensures c.is_empty.result c.is_empty.ensures
-    c.in_ok-sets.sets c.if-is_empty.false c.in_ok-sets.ensures)
+pub returns-then-is_some : goal.returns-then-is_some
+returns-then-is_some c =
+    let config = c.args.config.now in
+    let s = state_of c.args.state.now in
+    let g = group_state c.args.group.now in
+    let shut = sym (c.is_some.ensures ∙ ap is_some c.route_muted.ensures) ∙ c.if-is_some.true in
+    nothing-asks config s c.args.t g (record { firing = []; resolved = [] }) (nothing_found config s c.args.t g [] [] shut refl refl) true refl refl
+
+-- what isn't muted
+is_unmuted : (c : After-into_unmuted-unmuted) → IsUnmuted c.args.config.now (state_of c.args.state.now) c.args.t (group_state c.args.group.now) c.into_unmuted-unmuted.result
+is_unmuted c =
+    is_walked c.args.config.now (state_of c.args.state.now) c.args.t c.args.group.now c.requires.apart c.as_slice-rules.result.now false c.in_ok-walk.walk c.into_unmuted-unmuted.result
+    (not_muted (route_muted c.args.config.now c.args.group.now.name c.args.t) (sym (c.is_some.ensures ∙ ap is_some c.route_muted.ensures) ∙ c.if-is_some.false))
+    c.as_slice-rules.ensures c.in_ok-walk.ensures c.into_unmuted-unmuted.ensures.firing c.into_unmuted-unmuted.ensures.resolved
 
 pub sets-requires : goal.sets-requires
-sets-requires c = unmuted-rises c.args.config.now (state_of c.args.state.now) c.args.t (group_state c.args.group.now) c.in_ok-unmuted.unmuted c.requires.apart c.in_ok-unmuted.ensures
+sets-requires c =
+    unmuted-rises c.args.config.now (state_of c.args.state.now) c.args.t (group_state c.args.group.now) c.into_unmuted-unmuted.result c.requires.apart
+    (is_unmuted (goal.at.sets-requires c).After-into_unmuted-unmuted)
 
 pub returns-then-is_empty : goal.returns-then-is_empty
-returns-then-is_empty c = nothing-asks c.args.config.now (state_of c.args.state.now) c.args.t (group_state c.args.group.now) c.in_ok-unmuted.unmuted c.in_ok-unmuted.ensures c.is_empty.result c.is_empty.ensures c.if-is_empty.true
+returns-then-is_empty c =
+    nothing-asks c.args.config.now (state_of c.args.state.now) c.args.t (group_state c.args.group.now) c.into_unmuted-unmuted.result
+    (is_unmuted (goal.at.returns-then-is_empty c).After-into_unmuted-unmuted) c.is_empty.result c.is_empty.ensures c.if-is_empty.true
 
-pub returns-then-is_empty-2 : goal.returns-then-is_empty-2
-returns-then-is_empty-2 c =
-    let same = asked-are (goal.at.returns-then-is_empty-2 c).In_ok-asked in
-    let none : length c.in_ok-asked.asked.items ≡ 0 = grind (arith, nat_tests, c.is_empty-2.ensures, c.if-is_empty-2.true, c.in_ok-asked.asked.ok.0) in
-    no-updates _ (ap length (sym same) ∙ none)
+pub plan_asking-requires-clause-sets : goal.plan_asking-requires-clause-sets
+plan_asking-requires-clause-sets c = c.in_ok-sets.ensures
 
-pub returns : goal.returns
-returns c =
-    let same = asked-are (goal.at.returns c).In_ok-asked in (
-      λ none. let empty : length c.in_ok-asked.asked.items ≡ 0 = ap length (same ∙ ap (map update_of) none) in grind (arith, nat_tests, c.is_empty-2.ensures, c.if-is_empty-2.false, c.in_ok-asked.asked.ok.0),
-      search rules,
-      c.in_ok-planned.ensures,
-    )
+pub plan_asking-requires-clause-unmuted : goal.plan_asking-requires-clause-unmuted
+plan_asking-requires-clause-unmuted c = is_unmuted (goal.at.plan_asking-requires-clause-unmuted c).After-into_unmuted-unmuted
+
+pub plan_asking-requires-clause-asked : goal.plan_asking-requires-clause-asked
+plan_asking-requires-clause-asked c =
+    c.as_slice-asked.ensures.value
+    ∙ asked_are c.args.config.now (state_of c.args.state.now) c.args.t (group_state c.args.group.now) c.into_unmuted-unmuted.result
+    (is_unmuted (goal.at.plan_asking-requires-clause-asked c).After-into_unmuted-unmuted) c.in_ok-sets.sets c.in_ok-sets.ensures None
+    (sym (not_muted (route_muted c.args.config.now c.args.group.now.name c.args.t) (sym (c.is_some.ensures ∙ ap is_some c.route_muted.ensures) ∙ c.if-is_some.false)))
+    c.in_ok-decided.decided c.in_ok-decided.ensures

@@ -7,10 +7,10 @@ use Rattle.am_board.proofs.preview.preview_of.Goals.{After-at-group}
 within : (c : After-at-group) → c.in-Some.place < length c.args.state.now.groups.items
 within c = c.in-Some.ensures.within
 
-pub preview_on-requires-clause-route : goal.preview_on-requires-clause-route
-preview_on-requires-clause-route c =
+pub of-requires-clause-route : goal.of-requires-clause-route
+of-requires-clause-route c =
     routed_at c.args.config.now.routes c.args.state.now.groups.items c.in-Some.place c.at-group.result.now c.requires.good.routed (within c) c.at-group.ensures
 
-pub preview_on-requires-clause-apart : goal.preview_on-requires-clause-apart
-preview_on-requires-clause-apart c =
+pub of-requires-clause-apart : goal.of-requires-clause-apart
+of-requires-clause-apart c =
     members-apart c.args.state.now.groups.items c.in-Some.place c.at-group.result.now c.requires.good.consistent.members (within c) c.at-group.ensures

@@ -1,11 +1,132 @@
-use Rattle.std.proofs.Common.{◌≡◌, Bool, true, subst}
-use Rattle.am_model.specs.State.{State, moment}
-use Rattle.am_board.specs.Refinement.{state_of}
-use Rattle.am_board.proofs.lemmas.begin.QuietPreviews.{quiet_preview}
+use Rattle.std.proofs.Common.{◌≡◌, ◌∙◌, ◌+◌, ◌<◌, ◌≤◌, ℕ, None, Option, Result, MatchResult, length, vec_len, refl, sym, ap, subst, arith}
+use Rattle.std.specs.Prelude.{All}
+use Rattle.std.specs.Option.{option_map}
+use Rattle.std.proofs.lemmas.Result.{err_from_is_err_and}
+use Rattle.std.proofs.lemmas.List.{get_or_default}
+use Rattle.am_alerts.specs.declared.limits.TheConstants.{MAX_MOMENT}
+use Rattle.am_mute.specs.Sources.{AreLearnt}
+use Rattle.am_model.specs.Begin.{taken}
+use Rattle.am_model.specs.Causes.{begin_cause, opens_by}
+use Rattle.am_model.specs.Records.{entry}
+use Rattle.am_model.specs.State.{moment}
+use Rattle.am_model.specs.declared.config.Config.{Config}
+use Rattle.am_model.specs.declared.fault.Fault.{Fault}
+use Rattle.am_model.specs.declared.preview.Preview.{Preview}
+use Rattle.am_model.specs.declared.record.Call.TheVariants.{Begin}
+use Rattle.am_model.specs.look_back.Preview.{preview_at, preview_on, reason_of}
+use Rattle.am_board.specs.Beginning.{IsChosen}
+use Rattle.am_board.specs.History.{reply_of, IsFresh}
+use Rattle.am_board.specs.LogRows.{log_rows}
+use Rattle.am_board.specs.Preview.{IsGroupPreview}
+use Rattle.am_board.specs.Refinement.{group_state, state_of}
+use Rattle.am_board.specs.Step.{AppliesCall, IsAnswer, LeavesUnchanged, StateInvariant}
+use Rattle.am_board.specs.declared.begin.Begun.{Begun}
+use Rattle.am_board.specs.declared.group.Group.{Group}
+use Rattle.am_board.specs.declared.state.State.{State}
+use Rattle.am_board.proofs.lemmas.begin.Causes.{IsTold, answer-memory, cause-closed, told}
+use Rattle.am_board.proofs.lemmas.begin.PlannedFlushes.{members-apart}
+use Rattle.am_board.proofs.lemmas.invariant.GroupNames.{routed_at}
+use Rattle.am_board.proofs.lemmas.invariant.Staying.{stays_itself}
 use Rattle.am_board.proofs.previewed.take_previewed.Goals as goal
 
-pub take_with_room-requires-clause-quiet : goal.take_with_room-requires-clause-quiet
-take_with_room-requires-clause-quiet c quiet =
-    let s : State = state_of c.args.state.now in
-    quiet_preview c.args.config.now s (moment s c.args.now) c.in_ok-preview.preview c.in_ok-preview.ensures
-    (subst (λ (b : Bool). b ≡ true) c.is_quiet-is_quiet.ensures quiet)
+pub prepare-requires-clause-place : goal.prepare-requires-clause-place
+prepare-requires-clause-place c = c.in-Some.ensures.chosen.place
+
+pub prepare-requires-clause-apart : goal.prepare-requires-clause-apart
+prepare-requires-clause-apart c = c.requires.good.consistent.members
+
+-- the reply and the preview, or the fault, where the begin is at this state, of this pass and at this time
+abbrev IsPreviewed : Config → ℕ → ℕ → ℕ → State → State → Result (Begun × Option Preview) Fault → Type 0
+IsPreviewed config id pass now old new result =
+    MatchResult result
+    (λ both. (begin_cause config (vec_len old.history) (state_of old) (moment (state_of old) now) ≡ None)
+    × AppliesCall config id (entry pass (Begin now) (reply_of both.0)) old new
+    × (IsFresh id both.0 × (both.1 ≡ preview_at config (state_of old) (moment (state_of old) now))))
+    (λ fault. IsAnswer (begin_cause config (vec_len old.history) (state_of old) (moment (state_of old) now)) fault × LeavesUnchanged config old new)
+
+pub of-requires-clause-sources : goal.of-requires-clause-sources
+of-requires-clause-sources c = subst (λ (x : State). AreLearnt c.args.config.now.rules x.known.items c.args.sources.now) (sym c.prepare.ensures) c.requires.sources
+
+pub of-requires-clause-route : goal.of-requires-clause-route
+of-requires-clause-route c =
+    let s = c.prepare.new.state in
+    let good = subst (StateInvariant c.args.config.now) (sym c.prepare.ensures) c.requires.good in
+    let within = subst (λ (x : State). c.in-Some.chosen.place < length x.groups.items) (sym c.prepare.ensures) c.in-Some.ensures.chosen.place in
+    routed_at c.args.config.now.routes s.groups.items c.in-Some.chosen.place c.at-group.result.now good.routed within c.at-group.ensures
+
+pub of-requires-clause-apart : goal.of-requires-clause-apart
+of-requires-clause-apart c =
+    let s = c.prepare.new.state in
+    let good = subst (StateInvariant c.args.config.now) (sym c.prepare.ensures) c.requires.good in
+    let within = subst (λ (x : State). c.in-Some.chosen.place < length x.groups.items) (sym c.prepare.ensures) c.in-Some.ensures.chosen.place in
+    members-apart s.groups.items c.in-Some.chosen.place c.at-group.result.now good.consistent.members within c.at-group.ensures
+
+pub of-requires-clause-moments : goal.of-requires-clause-moments
+of-requires-clause-moments c = subst (λ (x : State). All (λ row. row.moment ≤ MAX_MOMENT) (log_rows x.log)) (sym c.prepare.ensures) c.requires.moments
+
+pub begin_with-requires-clause-good : goal.begin_with-requires-clause-good
+begin_with-requires-clause-good c = subst (StateInvariant c.args.config.now) (sym c.prepare.ensures) c.requires.good
+
+pub begin_with-requires-clause-place : goal.begin_with-requires-clause-place
+begin_with-requires-clause-place c = subst (λ (x : State). c.in-Some.chosen.place < length x.groups.items) (sym c.prepare.ensures) c.in-Some.ensures.chosen.place
+
+pub begin_with-requires-clause-moment : goal.begin_with-requires-clause-moment
+begin_with-requires-clause-moment c = omega (arith, c.requires.good.consistent.clock, c.in-Some.ensures.chosen.moment)
+
+pub begin_with-requires-clause-found : goal.begin_with-requires-clause-found
+begin_with-requires-clause-found c d =
+    let s = c.prepare.new.state in
+    let within = subst (λ (x : State). c.in-Some.chosen.place < length x.groups.items) (sym c.prepare.ensures) c.in-Some.ensures.chosen.place in
+    subst (λ (x : Group). IsGroupPreview c.args.config.now (state_of s) c.in-Some.chosen.t (group_state x) c.in_ok-found.found)
+    (c.at-group.ensures ∙ sym (get_or_default s.groups.items c.in-Some.chosen.place d c.at-group.result.now within)) c.in_ok-found.ensures
+
+pub returns : goal.returns
+returns c =
+    let config = c.args.config.now in
+    let chosen = c.in-Some.chosen in
+    let takes = c.in-Some.ensures in
+    let s = c.args.state.now in
+    let new = c.begin_with.new.state in
+    let ends = subst (λ (x : State). IsChosen config x chosen takes.group → IsPreviewed config c.args.id chosen.pass chosen.now x new c.begin_with.result)
+    c.prepare.ensures (c.begin_with.ensures takes.group) in
+    subst (λ n. IsPreviewed config c.args.id n c.args.now s new c.begin_with.result) takes.pass
+    (subst (λ n. IsPreviewed config c.args.id chosen.pass n s new c.begin_with.result) takes.now (ends takes.chosen))
+
+pub begin_with-requires-clause-room : goal.begin_with-requires-clause-room
+begin_with-requires-clause-room c =
+    subst (λ (x : State). vec_len x.history + vec_len x.flushes + 2 ≤ c.args.config.now.limits.history) (sym c.prepare.ensures) (c.has_room.ensures.0 c.if-not-has_room.false)
+
+pub returns-in-Ok : goal.returns-in-Ok
+returns-in-Ok c =
+    let config = c.args.config.now in
+    let s = c.args.state.now in
+    let st = state_of s in
+    let t = c.moment-t.result in
+    let none : taken st t ≡ None = subst (λ n. taken st n ≡ None) (sym c.moment-t.ensures) c.in_default.ensures in
+    let cause = cause-closed config s c.args.now t c.moment-t.ensures (c.has_room.ensures.0 c.if-not-has_room.false) (ap (λ o. opens_by config st t o) none) in
+    let all = told config c.args.id c.args.pass c.args.now s c.begin_nothing.new.state (begin_cause config (vec_len s.history) st (moment st c.args.now)) c.begin_nothing.result cause
+    (c.begin_nothing.ensures config c.args.id c.requires.good c.moment-t.ensures none) in
+    let is = subst (λ (r : Result Begun Fault). IsTold config c.args.id c.args.pass c.args.now s c.begin_nothing.new.state (begin_cause config (vec_len s.history) st (moment st c.args.now)) r) c.in-Ok.is all in
+    (is.0, is.1, (is.2, sym (ap (option_map (preview_on config st (moment st c.args.now) (reason_of config st (moment st c.args.now)))) c.in_default.ensures)))
+
+pub returns-in-Err : goal.returns-in-Err
+returns-in-Err c =
+    let config = c.args.config.now in
+    let s = c.args.state.now in
+    let st = state_of s in
+    let t = c.moment-t.result in
+    let none : taken st t ≡ None = subst (λ n. taken st n ≡ None) (sym c.moment-t.ensures) c.in_default.ensures in
+    let cause = cause-closed config s c.args.now t c.moment-t.ensures (c.has_room.ensures.0 c.if-not-has_room.false) (ap (λ o. opens_by config st t o) none) in
+    let all = told config c.args.id c.args.pass c.args.now s c.begin_nothing.new.state (begin_cause config (vec_len s.history) st (moment st c.args.now)) c.begin_nothing.result cause
+    (c.begin_nothing.ensures config c.args.id c.requires.good c.moment-t.ensures none) in
+    subst (λ (r : Result Begun Fault). IsTold config c.args.id c.args.pass c.args.now s c.begin_nothing.new.state (begin_cause config (vec_len s.history) st (moment st c.args.now)) r) c.in-Err.is all
+
+pub returns-in_err-found : goal.returns-in_err-found
+returns-in_err-found c =
+    let config = c.args.config.now in
+    let s = c.args.state.now in
+    let p = err_from_is_err_and c.from_residual.result c.from_residual.ensures.1 in
+    rw (p.1, p.2) (
+      answer-memory config s c.args.now (moment (state_of s) c.args.now) refl (c.has_room.ensures.0 c.if-not-has_room.false),
+      subst (LeavesUnchanged config s) (sym c.prepare.ensures) (stays_itself config s c.requires.good),
+    )

@@ -2,13 +2,16 @@ use Rattle.std.proofs.Common.{refl, subst}
 use Rattle.std.specs.Prelude.{IfOk}
 use Rattle.am_model.specs.declared.record.Call.TheVariants.{Begin}
 use Rattle.am_board.specs.History.{BoardData, reply_of, IsFresh}
-use Rattle.am_board.proofs.lemmas.invariant.Calls.{recorded, told_now, refused, sound_again, caused_too, fresh_too}
+use Rattle.am_board.proofs.lemmas.invariant.Calls.{recorded, told_now, refused, sound_again, caused_too, fresh_too, rows_timely}
 use Rattle.am_board.proofs.lemmas.invariant.Limits.{begin_within, begin_caused}
 use Rattle.am_board.proofs.lemmas.invariant.Sound.{good}
 use Rattle.am_board.proofs.board.Board.begin.Goals as goal
 
 pub take_group-requires-clause-good : goal.take_group-requires-clause-good
 take_group-requires-clause-good c = good c.self.inside c.self.invariant
+
+pub take_group-requires-clause-moments : goal.take_group-requires-clause-moments
+take_group-requires-clause-moments c = rows_timely c.self.inside c.self.invariant c.args.self.now c.self.view_is
 
 pub invariant_of-self : goal.invariant_of-self
 invariant_of-self c =

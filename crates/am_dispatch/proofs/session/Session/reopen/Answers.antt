@@ -18,6 +18,7 @@ returns-clause-refused c =
     untold_all _ c.args.self.now (record {
       board = c.in_ok-board.board;
       tickets = c.replace.new.dest;
+      seed = c.args.self.now.seed;
       ours = ap (λ (b : BoardData). b.id) c.in_ok-board.ensures.board;
     }) (Open c.args.asked) c.told.ensures.err (opened_tokens c.args.asked.ignored, (c.in_ok-board.ensures.board, none, refl))
 

@@ -1,0 +1,27 @@
+use Rattle.std.proofs.Common.{◌≡◌, None, refl, subst}
+use Rattle.am_model.specs.Begin.{taken}
+use Rattle.am_board.specs.Beginning.{IsChosen}
+use Rattle.am_board.specs.Refinement.{state_of}
+use Rattle.am_board.specs.declared.begin.ChosenGroup.{ChosenGroup}
+use Rattle.am_board.proofs.lemmas.begin.Causes.{taken-none, taking_found}
+use Rattle.am_board.proofs.lemmas.invariant.GroupNames.{routed_at}
+use Rattle.am_board.proofs.begin.choose.Goals as goal
+
+pub due_again-due-requires-clause-route : goal.due_again-due-requires-clause-route
+due_again-due-requires-clause-route c =
+    routed_at c.args.config.now.routes c.args.state.now.groups.items c.in-Some.place c.at.result.now c.requires.routed c.in-Some.ensures.within c.at.ensures
+
+pub returns-in_default : goal.returns-in_default
+returns-in_default c =
+    let s = c.args.state.now in
+    subst (λ n. taken (state_of s) n ≡ None) c.moment-t.ensures
+    (taken-none s c.moment-t.result s.groups.items c.as_slice.result.now refl c.as_slice.ensures.value c.in_default.ensures.first)
+
+pub returns : goal.returns
+returns c =
+    let s = c.args.state.now in
+    let chosen : ChosenGroup = record { pass = c.args.pass; now = c.args.now; t = c.moment-t.result; place = c.in-Some.place; due = c.due_again-due.result } in
+    let takes : IsChosen c.args.config.now s chosen c.at.result.now =
+    taking_found c.args.config.now s chosen c.at.result.now s.groups.items c.as_slice.result.now refl c.as_slice.ensures.value
+    c.moment-t.ensures c.in-Some.ensures.within (c.in-Some.ensures.first c.at.result.now) c.at.ensures c.due_again-due.ensures in
+    record { pass = refl; now = refl; group = c.at.result.now; chosen = takes }

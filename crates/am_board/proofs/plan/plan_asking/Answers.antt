@@ -1,0 +1,17 @@
+use Rattle.std.proofs.Common.{◌≡◌, ◌∙◌, length, map, sym, ap, arith, rules}
+use Rattle.std.proofs.lemmas.Bool.Decides.{nat_tests}
+use Rattle.am_board.specs.Beginning.{update_of}
+use Rattle.am_board.proofs.lemmas.begin.Updates.{no-updates}
+use Rattle.am_board.proofs.plan.plan_asking.Goals as goal
+
+pub returns-then-is_empty : goal.returns-then-is_empty
+returns-then-is_empty c =
+    let none : length c.args.asked.now ≡ 0 = grind (arith, nat_tests, c.is_empty.ensures, c.if-is_empty.true) in
+    no-updates _ (sym (ap length c.requires.asked) ∙ none)
+
+pub returns : goal.returns
+returns c = (
+  λ none. let empty : length c.args.asked.now ≡ 0 = ap length (c.requires.asked ∙ ap (map update_of) none) in grind (arith, nat_tests, c.is_empty.ensures, c.if-is_empty.false),
+  search rules,
+  c.in_ok-planned.ensures,
+)

@@ -1,0 +1,70 @@
+-- Walk: what a walk over the alerts of a group finds, by what mutes each of them.
+use Rattle.std.specs.Prelude.{◌≡◌, ℕ, Bool, List, [], ◌∷◌, Option, Some, None, map, slice_get, if◌then◌else◌}
+use Rattle.std.specs.List.{cons_option, filter_map}
+use Rattle.std.specs.Option.{option_and_then, option_map}
+use Rattle.am_alerts.specs.AlertData.{AlertData, is_resolved}
+use Rattle.am_mute.specs.Inhibit.{RuleData}
+use Rattle.am_mute.specs.Mute.{mute_cause_of}
+use Rattle.am_mute.specs.declared.mute.MuteCause.{MuteCause}
+use Rattle.am_model.specs.Begin.{copied}
+use Rattle.am_model.specs.State.{State}
+use Rattle.am_model.specs.declared.preview.MutedAlert.{MutedAlert}
+use Rattle.am_board.specs.Beginning.{firing_among, resolved_among}
+use Rattle.am_board.specs.Members.{labels_of}
+use Rattle.am_board.specs.Order.{places_in_order}
+use Rattle.am_board.specs.declared.group.Member.{Member}
+use Rattle.am_board.specs.declared.walk.MutedPlace.{MutedPlace}
+use Rattle.am_board.specs.declared.walk.Walk.{Walk}
+
+-- ---- one alert
+
+-- what mutes an alert under these rules, if anything does
+abbrev pub cause_for : List RuleData → State → ℕ → AlertData → Option MuteCause
+cause_for rules s t a = mute_cause_of a.labels t s.silences rules s.known
+
+-- an alert as it is listed among those that fire: not if this mutes it
+abbrev pub firing_if : ℕ → AlertData → Option MuteCause → List AlertData
+firing_if t a None = if is_resolved a t then [] else copied t a ∷ []
+firing_if t a (Some cause) = []
+
+-- an alert as it is listed among those that are resolved: not if this mutes it
+abbrev pub resolved_if : ℕ → AlertData → Option MuteCause → List AlertData
+resolved_if t a None = if is_resolved a t then copied t a ∷ [] else []
+resolved_if t a (Some cause) = []
+
+-- the muted alert at a place, if this mutes it
+abbrev pub muted_if : ℕ → Option MuteCause → Option MutedPlace
+muted_if place cause = option_map (λ c. record { place = place; cause = c }) cause
+
+-- the same, as a walk lists it that wants causes or not
+abbrev pub listed_if : Bool → ℕ → Option MuteCause → List MutedPlace
+listed_if causes place cause = if causes then cons_option (muted_if place cause) [] else []
+
+-- what mutes an alert of a group under these rules, if anything does
+abbrev pub cause_of : List RuleData → State → ℕ → Member → Option MuteCause
+cause_of rules s t m = cause_for rules s t m.alert
+
+-- the muted alert at a place among members, where these are their causes
+abbrev pub muted_at : (Member → Option MuteCause) → List Member → ℕ → Option MutedPlace
+muted_at causes members place = option_and_then (λ m. muted_if place (causes m)) (slice_get members place)
+
+-- a muted alert as a preview lists it, if its place is one among members
+abbrev pub alert_there : List Member → MutedPlace → Option MutedAlert
+alert_there members found = option_map (λ m. record { labels = m.alert.labels; cause = found.cause }) (slice_get members found.place)
+
+-- a member as a preview lists it, if it is muted
+abbrev pub muted_member : (Member → Option MuteCause) → Member → Option MutedAlert
+muted_member causes m = option_map (λ c. record { labels = m.alert.labels; cause = c }) (causes m)
+
+-- ---- a group
+
+-- what a walk that wants causes or not finds at these places among members
+pub record AreFound (rules : List RuleData) (s : State) (t : ℕ) (members : List Member) (places : List ℕ)
+    (causes : Bool) (walk : Walk) : Type 0 where
+  pub firing : walk.firing.items ≡ firing_among rules s t (filter_map (slice_get members) places)
+  pub resolved : walk.resolved.items ≡ resolved_among rules s t (filter_map (slice_get members) places)
+  pub muted : walk.muted.items ≡ (if causes then filter_map (muted_at (cause_of rules s t) members) places else [])
+
+-- what a walk over members finds, in the order of their labels
+abbrev pub IsWalk : List RuleData → State → ℕ → List Member → Bool → Walk → Type 0
+IsWalk rules s t members causes walk = AreFound rules s t members (places_in_order (map labels_of members)) causes walk

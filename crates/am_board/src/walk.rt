@@ -1,0 +1,318 @@
+//! The one walk over the alerts of a group, in the order of their labels: which fire, which are
+//! resolved, and what mutes the others (the mute stages of `notify`). `plan` and `preview` call it.
+//!
+//! A preview wants the causes, a plain begin doesn't: to know that an alert is muted costs less than to
+//! know why. A muted alert is found with its place, so that a preview lists it where it is in the
+//! group.
+ghost use Rattle.std.specs.Prelude.{◌≡◌, ◌++◌, [], false, true, IfOk, OnOk, Option, map};
+ghost use Rattle.std.specs.List.{IsDistinct, cons_option, filter_map};
+ghost use Rattle.am_mute.specs.Mute.{is_muted, mute_cause_of};
+ghost use Rattle.am_mute.specs.Silence.{is_silenced};
+ghost use Rattle.am_mute.specs.Sources.{AreLearnt};
+ghost use Rattle.am_mute.specs.declared.mute.MuteCause.{MuteCause};
+ghost use Rattle.am_model.specs.Insert.{same_member};
+ghost use Rattle.am_board.specs.Members.{labels_of};
+ghost use Rattle.am_board.specs.Order.{places_in_order};
+ghost use Rattle.am_board.specs.Refinement.{member_state, state_of};
+ghost use Rattle.am_board.specs.Walk.{AreFound, IsWalk, alert_there, cause_for, firing_if, listed_if, muted_at, muted_if};
+ghost use Rattle.am_board.specs.Walk.{muted_member, resolved_if};
+ghost use Rattle.am_board.specs.declared.group.Member.{Member};
+
+use crate::group::Member;
+use crate::members::Members;
+use crate::order::{member_at, places_in_order};
+use crate::silences::NotedSilences;
+use crate::state::State;
+use crate::unmuted::Unmuted;
+use crate::unsilenced::NotedPlace;
+use am_alerts::alert::Alert;
+use am_alerts::labels::Labels;
+use am_alerts::sequence::Sequence;
+use am_model::preview::MutedAlert;
+use am_mute::inhibit::InhibitRule;
+use am_mute::mute::{MuteCause, mute_cause_under, mute_cause_with, muted_under, muted_with};
+use am_mute::sources::Sources;
+use std::alloc::{AllocError, Global};
+
+/// A muted alert of a group: its place among the alerts, and what mutes it.
+#[derive(Debug, Drop)]
+pub(crate) struct MutedPlace {
+    pub(crate) place: usize,
+    pub(crate) cause: MuteCause,
+}
+
+/// What a walk finds: the alerts that aren't muted, and those that are, if their causes are wanted; by
+/// labels.
+#[derive(Debug, Drop)]
+pub(crate) struct Walk {
+    pub(crate) firing: Vec<Alert>,
+    pub(crate) resolved: Vec<Alert>,
+    pub(crate) muted: Vec<MutedPlace>,
+}
+
+impl Walk {
+    /// Finds what the alerts of a group are at `t`. The muted ones are left out if causes aren't wanted.
+    pub(crate) fn over(
+        alloc: Global,
+        rules: &[InhibitRule],
+        state: &State,
+        sources: &Sources,
+        members: &Members,
+        wants_causes: bool,
+        t: u64,
+    ) -> Result<Walk, AllocError>
+        requires sources { AreLearnt rules.now state.now.known.items sources.now }
+        requires apart { IsDistinct same_member (map member_state members.now.items) }
+        ensures { IfOk result (IsWalk rules.now (state_of state.now) t members.now.items wants_causes) }
+    {
+        let all = members.as_slice();
+        let noted = members.noted();
+        match members.places() {
+            Some(places) => walk_places(
+                alloc,
+                rules,
+                state,
+                sources,
+                all,
+                places,
+                noted,
+                wants_causes,
+                t,
+            ),
+            None => {
+                let places = places_in_order(alloc, all)?;
+                walk_places(
+                    alloc,
+                    rules,
+                    state,
+                    sources,
+                    all,
+                    places.as_slice(),
+                    noted,
+                    wants_causes,
+                    t,
+                )
+            }
+        }
+    }
+
+    /// Finds what mutes the alert at a place, if anything does, and adds it.
+    fn visit(
+        &mut self,
+        alloc: Global,
+        rules: &[InhibitRule],
+        state: &State,
+        sources: &Sources,
+        place: usize,
+        alert: &Alert,
+        noted: &mut NotedPlace,
+        wants_causes: bool,
+        t: u64,
+    ) -> Result<(), AllocError>
+        requires { AreLearnt rules.now state.now.known.items sources.now }
+        ensures firing { OnOk result (self.new.firing.items
+            ≡ self.old.firing.items ++ firing_if t alert.now (cause_for rules.now (state_of state.now) t alert.now)) }
+        ensures resolved { OnOk result (self.new.resolved.items
+            ≡ self.old.resolved.items ++ resolved_if t alert.now (cause_for rules.now (state_of state.now) t alert.now)) }
+        ensures muted { OnOk result (self.new.muted.items
+            ≡ self.old.muted.items ++ listed_if wants_causes place (cause_for rules.now (state_of state.now) t alert.now)) }
+    {
+        let labels = alert.labels();
+        if wants_causes {
+            let cause = mute_cause(alloc, rules, state, sources, labels, noted, t)?;
+            return self.add(alloc, place, alert, cause, t);
+        }
+        if is_muted(alloc, rules, state, sources, labels, noted, t)? {
+            return Ok(());
+        }
+        self.add(alloc, place, alert, None, t)
+    }
+
+    /// Adds the alert at a place, which this mutes, if anything does.
+    fn add(
+        &mut self,
+        alloc: Global,
+        place: usize,
+        alert: &Alert,
+        cause: Option<MuteCause>,
+        t: u64,
+    ) -> Result<(), AllocError>
+        ensures firing { OnOk result (self.new.firing.items ≡ self.old.firing.items ++ firing_if t alert.now cause) }
+        ensures resolved { OnOk result (self.new.resolved.items ≡ self.old.resolved.items ++ resolved_if t alert.now cause) }
+        ensures muted { OnOk result (self.new.muted.items ≡ self.old.muted.items ++ cons_option (muted_if place cause) []) }
+    {
+        if let Some(cause) = cause {
+            self.muted.push(MutedPlace { place, cause })?;
+        } else if alert.resolved_at(t) {
+            self.resolved.push(alert.copy(alloc)?)?;
+        } else {
+            self.firing.push(alert.copy_without_end(alloc)?)?;
+        }
+        Ok(())
+    }
+
+    /// The alerts that aren't muted.
+    pub(crate) fn into_unmuted(self) -> Unmuted
+        ensures firing { result.firing ≡ self.firing.items }
+        ensures resolved { result.resolved ≡ self.resolved.items }
+    {
+        Unmuted {
+            firing: Sequence::from(self.firing),
+            resolved: Sequence::from(self.resolved),
+        }
+    }
+}
+
+/// Walks over the alerts at these places.
+fn walk_places(
+    alloc: Global,
+    rules: &[InhibitRule],
+    state: &State,
+    sources: &Sources,
+    members: &[Member],
+    places: &[usize],
+    noted: NotedPlace,
+    wants_causes: bool,
+    t: u64,
+) -> Result<Walk, AllocError>
+    requires { AreLearnt rules.now state.now.known.items sources.now }
+    ensures { IfOk result (AreFound rules.now (state_of state.now) t members.now places.now wants_causes) }
+{
+    let mut walk = Walk {
+        firing: Vec::with_capacity(alloc, places.len())?,
+        resolved: Vec::new(alloc),
+        muted: Vec::new(alloc),
+    };
+    let mut noted = noted;
+    for place in places {
+        if let Some(member) = member_at(members, *place) {
+            let alert = &member.alert;
+            walk.visit(
+                alloc,
+                rules,
+                state,
+                sources,
+                *place,
+                alert,
+                &mut noted,
+                wants_causes,
+                t,
+            )?;
+        }
+    }
+    Ok(walk)
+}
+
+/// What mutes a label set at `t`, if anything does.
+///
+/// If it is noted at a place that no silence mutes it, none is looked at.
+fn mute_cause(
+    alloc: Global,
+    rules: &[InhibitRule],
+    state: &State,
+    sources: &Sources,
+    labels: &Labels,
+    noted: &mut NotedPlace,
+    t: u64,
+) -> Result<Option<MuteCause>, AllocError>
+    requires { AreLearnt rules.now state.now.known.items sources.now }
+    ensures { IfOk result (λ cause.
+        cause ≡ mute_cause_of labels.now t state.now.silences.items rules.now state.now.known.items) }
+{
+    let known = state.known.as_slice();
+    if is_unsilenced(&state.silences, labels, noted, t) {
+        return mute_cause_with(alloc, labels, t, &[], rules, known, sources);
+    }
+    let silences = state.silences.all();
+    mute_cause_under(alloc, labels, t, silences, rules, known, sources)
+}
+
+/// Whether a label set is muted at `t`. This stops at the first silence that is found.
+///
+/// If it is noted at a place that no silence mutes it, none is looked at.
+fn is_muted(
+    alloc: Global,
+    rules: &[InhibitRule],
+    state: &State,
+    sources: &Sources,
+    labels: &Labels,
+    noted: &mut NotedPlace,
+    t: u64,
+) -> Result<bool, AllocError>
+    requires { AreLearnt rules.now state.now.known.items sources.now }
+    ensures { IfOk result (λ muted.
+        muted ≡ is_muted labels.now t state.now.silences.items rules.now state.now.known.items) }
+{
+    let known = state.known.as_slice();
+    if is_unsilenced(&state.silences, labels, noted, t) {
+        return muted_with(alloc, labels, t, &[], rules, known, sources);
+    }
+    let silences = state.silences.all();
+    muted_under(alloc, labels, t, silences, rules, known, sources)
+}
+
+/// Whether it is known without a look-up that no silence mutes a label set at `t`.
+///
+/// If the label set is noted at the place, the place becomes the next one.
+fn is_unsilenced(silences: &NotedSilences, labels: &Labels, noted: &mut NotedPlace, t: u64) -> bool
+    ensures { result ≡ true → is_silenced labels.now t silences.now.items ≡ false }
+{
+    if silences.len() == 0 {
+        return true;
+    }
+    let is_noted = silences.is_noted(*noted, labels, t);
+    if is_noted {
+        *noted = noted.next();
+    }
+    is_noted
+}
+
+/// Returns the muted alerts of a group in the order in which they came into it, with their causes.
+pub(crate) fn in_group_order(
+    alloc: Global,
+    members: &[Member],
+    mut muted: Vec<MutedPlace>,
+) -> Result<Sequence<MutedAlert>, AllocError>
+    ensures { (causes : Member → Option MuteCause)
+        → muted.items ≡ filter_map (muted_at causes members.now) (places_in_order (map labels_of members.now))
+        → IfOk result (λ all. all ≡ filter_map (muted_member causes) members.now) }
+{
+    muted.sort_unstable_by(|a, b| a.place.cmp(&b.place));
+    listed(alloc, members, muted.as_slice())
+}
+
+/// Returns these muted alerts of a group, in turn, as a preview lists them.
+fn listed(
+    alloc: Global,
+    members: &[Member],
+    muted: &[MutedPlace],
+) -> Result<Sequence<MutedAlert>, AllocError>
+    ensures { IfOk result (λ all. all ≡ filter_map (alert_there members.now) muted.now) }
+{
+    let mut all = Vec::with_capacity(alloc, muted.len())?;
+    for found in muted {
+        if let Some(member) = member_at(members, found.place) {
+            all.push(MutedAlert {
+                labels: member.alert.labels().copy(alloc)?,
+                cause: copy_cause(alloc, &found.cause)?,
+            })?;
+        }
+    }
+    Ok(Sequence::from(all))
+}
+
+/// A copy of what mutes an alert. It shares the label set.
+fn copy_cause(alloc: Global, cause: &MuteCause) -> Result<MuteCause, AllocError>
+    ensures { IfOk result (λ copy. copy ≡ cause.now) }
+{
+    match cause {
+        MuteCause::Silenced { id, until } => Ok(MuteCause::Silenced {
+            id: *id,
+            until: *until,
+        }),
+        MuteCause::Inhibited { rule, by } => Ok(MuteCause::Inhibited {
+            rule: *rule,
+            by: by.copy(alloc)?,
+        }),
+    }
+}

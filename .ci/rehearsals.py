@@ -120,7 +120,7 @@ def check_dispatchers():
             got = run(json.dumps({**story, "output": output}), *PLAY, "--output", "html")
             is_right = got[:2] == (2, "") and faults_in(got[2]) == ["/output: value"]
             tell(f"{name}: no page in place of {output}", is_right, got[2])
-    tell(f"{len(names)} stories with several dispatchers", len(names) >= 8)
+    tell(f"{len(names)} stories with several dispatchers", len(names) >= 10)
 
 
 def handovers(story):

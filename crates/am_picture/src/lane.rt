@@ -3,8 +3,9 @@ use crate::span::{Span, end_or_add, is_open};
 use am_alerts::alert::Alert;
 use am_alerts::labels::Labels;
 use am_model::group::GroupName;
-use am_model::preview::{MutedAlert, Preview};
+use am_model::preview::MutedAlert;
 use am_model::reason::Reason;
+use am_terms::shared_preview::SharedPreview;
 use std::alloc::{AllocError, Global};
 
 /// How many alerts of a group have a row each; those that come later share one.
@@ -142,12 +143,16 @@ impl Lane {
     }
 
     /// Adds a flush, with the alerts that it left out.
-    pub(crate) fn add_flush(&mut self, preview: &Preview, event: usize) -> Result<(), AllocError> {
-        let at = preview.moment;
+    pub(crate) fn add_flush(
+        &mut self,
+        preview: &SharedPreview,
+        event: usize,
+    ) -> Result<(), AllocError> {
+        let at = preview.moment();
         self.flushes.push(Flush { at, event })?;
-        let is_route_muted = is_route_muted(preview.reasons.as_slice());
+        let is_route_muted = is_route_muted(preview.reasons());
         for row in self.rows.iter_mut() {
-            let is_muted = is_route_muted || has(preview.muted.as_slice(), &row.labels);
+            let is_muted = is_route_muted || has(preview.muted(), &row.labels);
             row.flush(is_muted, at, event)?;
         }
         Ok(())

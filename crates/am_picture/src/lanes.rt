@@ -190,19 +190,19 @@ impl Lanes {
         event: &Event,
     ) -> Result<(), AllocError> {
         match event {
-            Event::Begun { begin } => match scene.begins().get(*begin) {
+            Event::Begun { begin } => match scene.begins().get(*begin as usize) {
                 None => Ok(()),
                 Some(begin) => self.add_flush(begin, place),
             },
-            Event::Sent { begin, report } => match scene.begins().get(*begin) {
+            Event::Sent { begin, report } => match scene.begins().get(*begin as usize) {
                 None => Ok(()),
-                Some(begin) => self.add_sent(scene, clock, place, begin, report),
+                Some(begin) => self.add_sent(scene, clock, place, begin, report.report()),
             },
         }
     }
 
     fn add_flush(&mut self, begin: &PreviewedBegin, place: usize) -> Result<(), AllocError> {
-        let group = begin.preview.group.copy(self.alloc)?;
+        let group = begin.preview.group().copy(self.alloc)?;
         let lane = self.lane_of(group)?;
         match self.lanes.get_mut(lane) {
             None => Ok(()),
@@ -227,11 +227,11 @@ impl Lanes {
         let mark = Mark {
             kind,
             integration: report.integration,
-            since: begin.preview.moment,
+            since: begin.preview.moment(),
             at: report.ended,
             event: place,
         };
-        let group = begin.preview.group.copy(self.alloc)?;
+        let group = begin.preview.group().copy(self.alloc)?;
         self.add_mark(group, mark)
     }
 
@@ -263,7 +263,7 @@ fn add_spans(lanes: &mut Vec<Lane>, places: &[Place], alert: &Alert) -> Result<(
 
 /// What the mark of a delivered notice shows: the reason of its integration.
 fn kind_of(begin: &PreviewedBegin, integration: u32) -> Kind {
-    match begin.preview.reasons.as_slice().get(integration as usize) {
+    match begin.preview.reasons().get(integration as usize) {
         None => Kind::Repeat,
         Some(reason) => Kind::of(reason),
     }

@@ -7,11 +7,10 @@ use Rattle.std.proofs.lemmas.List.{append_assoc, flat_map_more, take_more}
 use Rattle.std.proofs.lemmas.List.Sums.{sum_by_push}
 use Rattle.std.proofs.lemmas.Option.{none-some, same_Some, slice_get_read}
 use Rattle.am_board.specs.History.{BoardData}
-use Rattle.am_model.specs.Carry.{carried}
-use Rattle.am_model.specs.declared.config.Config.{Config}
+use Rattle.am_model.specs.Rekey.{Reload, rekeyed}
 use Rattle.am_model.specs.declared.views.RowView.{RowView}
 use Rattle.am_rehearsal.specs.Parts.{PartData, after, cut_at, parts_from}
-use Rattle.am_rehearsal.specs.Playing.{ArePlayed, IsWhyNotPart, IsWhyNotParts, PlaysPart, is_carried, last_board}
+use Rattle.am_rehearsal.specs.Playing.{ArePlayed, IsWhyNotPart, IsWhyNotParts, PlaysPart, is_taken, last_board}
 use Rattle.am_rehearsal.specs.declared.playing.PartFault.{PartFault}
 use Rattle.am_rehearsal.specs.declared.playing.PlayedPart.{PlayedPart}
 use Rattle.am_terms.specs.declared.handover.Handover.{Handover}
@@ -73,19 +72,20 @@ module _ (maintain : ℕ) (outages : List Outage) where
         stopped = subst (λ (o : Option PartData). IsSomeAnd o (λ x. IsWhyNotPart maintain outages (last_board None played) x told.fault)) (sym there) why;
       }
 
--- what one more of these rows is carried over as, and whether it is
-module _ (old new : Config) (rows : List RowView) (i : ℕ) (row : RowView) (some : i < length rows) (is : row ≡ get_or rows i row) where
-  pub carried_more : (before more : List RowView) → before ≡ flat_map (carried old new) (take i rows) → more ≡ before ++ carried old new row
-      → more ≡ flat_map (carried old new) (take (i + 1) rows)
-  carried_more before more so_far now =
-      let one : take (i + 1) rows ≡ take i rows ++ row ∷ [] = take_more rows i row some ∙ ap (λ (r : RowView). take i rows ++ r ∷ []) (sym is) in
-      now ∙ ap (λ (rs : List RowView). rs ++ carried old new row) so_far ∙ flat_map_more (carried old new) [] (take i rows) row
-      ∙ ap (flat_map (carried old new)) (sym one)
+-- by which rows one more of these rows is found again, and whether it is taken over
+module _ (reload : Reload) (rows : List RowView) (i : ℕ) (row : RowView) (some : i < length rows) (is : row ≡ get_or rows i row) where
+  one : take (i + 1) rows ≡ take i rows ++ row ∷ []
+  one = take_more rows i row some ∙ ap (λ (r : RowView). take i rows ++ r ∷ []) (sym is)
 
-  pub counted_more : (before more : ℕ) → before ≡ count_by (is_carried old new) (take i rows) → more ≡ before + (if is_carried old new row then 1 else 0)
-      → more ≡ count_by (is_carried old new) (take (i + 1) rows)
-  counted_more before more so_far now =
-      let one : take (i + 1) rows ≡ take i rows ++ row ∷ [] = take_more rows i row some ∙ ap (λ (r : RowView). take i rows ++ r ∷ []) (sym is) in
-      now ∙ ap (λ (n : ℕ). n + (if is_carried old new row then 1 else 0)) so_far
-      ∙ sym (sum_by_push (λ (r : RowView). if is_carried old new r then 1 else 0) (take i rows) row)
-      ∙ ap (count_by (is_carried old new)) (sym one)
+  pub found_more : (before more : List RowView) → before ≡ flat_map (rekeyed reload) (take i rows) → more ≡ before ++ rekeyed reload row
+      → more ≡ flat_map (rekeyed reload) (take (i + 1) rows)
+  found_more before more so_far now =
+      now ∙ ap (λ (rs : List RowView). rs ++ rekeyed reload row) so_far ∙ flat_map_more (rekeyed reload) [] (take i rows) row
+      ∙ ap (flat_map (rekeyed reload)) (sym one)
+
+  pub counted_more : (at before more : ℕ) → before ≡ count_by (is_taken at reload) (take i rows) → more ≡ before + (if is_taken at reload row then 1 else 0)
+      → more ≡ count_by (is_taken at reload) (take (i + 1) rows)
+  counted_more at before more so_far now =
+      now ∙ ap (λ (n : ℕ). n + (if is_taken at reload row then 1 else 0)) so_far
+      ∙ sym (sum_by_push (λ (r : RowView). if is_taken at reload r then 1 else 0) (take i rows) row)
+      ∙ ap (count_by (is_taken at reload)) (sym one)

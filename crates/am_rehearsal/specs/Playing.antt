@@ -1,9 +1,11 @@
 -- Playing: the parts of a rehearsal, played one after another, each by a board of its own.
-use Rattle.std.specs.Prelude.{◌≡◌, ◌≢◌, ℕ, Bool, true, false, nat_lt, List, [], ◌∷◌, ◌++◌, length, take, slice_get, Option, Some, None, if◌then◌else◌}
-use Rattle.std.specs.List.{count_by, flat_map}
+use Rattle.std.specs.Prelude.{◌≡◌, ◌≢◌, ◌&&◌, ℕ, Bool, true, false, not, nat_lt, List, [], ◌∷◌, ◌++◌, length}
+use Rattle.std.specs.Prelude.{take, slice_get, Option, Some, None, if◌then◌else◌}
+use Rattle.std.specs.List.{count_by, flat_map, list_any}
 use Rattle.std.specs.Option.{IsSomeAnd}
-use Rattle.am_model.specs.Carry.{carried}
+use Rattle.am_model.specs.Carry.{is_led_to}
 use Rattle.am_model.specs.Config.{config_fault}
+use Rattle.am_model.specs.Rekey.{Reload, rekeyed}
 use Rattle.am_model.specs.Views.{row_views}
 use Rattle.am_model.specs.declared.config.Config.{Config}
 use Rattle.am_model.specs.declared.views.RowView.{RowView}
@@ -33,20 +35,25 @@ abbrev pub rows_before : Option BoardData → List RowView
 rows_before None = []
 rows_before (Some b) = row_views (state_at b)
 
--- whether a log under the new configuration takes anything over for a row of one under the old
-abbrev pub is_carried : Config → Config → RowView → Bool
-is_carried old new row = nat_lt 0 (length (carried old new row))
+-- the reload from a board's configuration to a new one
+abbrev pub reload_of : BoardData → Config → Reload
+reload_of b config = record { old = b.config; new = config }
 
--- taken_over: the log rows that a dispatcher takes over of the board before it: for each of that one's rows those that are carried over, if
--- the log is kept
+-- whether a log row of the board before is taken over at a time: it hasn't expired, and under the new configuration an alert of it goes to a
+-- group that finds it again
+abbrev pub is_taken : ℕ → Reload → RowView → Bool
+is_taken at reload row = not (nat_lt row.expiry at) && list_any (is_led_to reload.new) (rekeyed reload row)
+
+-- taken_over: the log rows that a dispatcher begins with: for each of those of the board before it the rows by which its log finds that one
+-- again, if the log is kept
 abbrev pub taken_over : Keeps → Config → Option BoardData → List RowView
 taken_over keeps config None = []
-taken_over keeps config (Some b) = if keeps_log keeps then flat_map (carried b.config config) (row_views (state_at b)) else []
+taken_over keeps config (Some b) = if keeps_log keeps then flat_map (rekeyed (reload_of b config)) (row_views (state_at b)) else []
 
--- how many log rows of the board before are taken over
-abbrev pub taken_count : Keeps → Config → Option BoardData → ℕ
-taken_count keeps config None = 0
-taken_count keeps config (Some b) = if keeps_log keeps then count_by (is_carried b.config config) (row_views (state_at b)) else 0
+-- how many log rows of the board before are taken over at a time
+abbrev pub taken_count : Keeps → ℕ → Config → Option BoardData → ℕ
+taken_count keeps at config None = 0
+taken_count keeps at config (Some b) = if keeps_log keeps then count_by (is_taken at (reload_of b config)) (row_views (state_at b)) else 0
 
 -- the plans of a part with the loads of the log rows that its dispatcher takes over in front of them
 abbrev pub loaded_plans : Option BoardData → PartData → List TimedAction
@@ -60,7 +67,7 @@ setting_of_part maintain outages p = setting_with p.until maintain outages p.spa
 pub record PlaysPart (maintain : ℕ) (outages : List Outage) (before : Option BoardData) (p : PartData) (q : PlayedPart) : Type 0 where
   pub plays : PlaysTo (setting_of_part maintain outages p) p.config (loaded_plans before p) q.played.value.board q.played.value.events.items
   pub rows : q.rows ≡ length (rows_before before)
-  pub taken : q.taken ≡ taken_count p.keeps p.config before
+  pub taken : q.taken ≡ taken_count p.keeps p.span.since p.config before
 
 -- parts play so one after another: each after the board of the one before it, and the first after this board, if there is one
 abbrev pub ArePlayed : ℕ → List Outage → Option BoardData → List PartData → List PlayedPart → Type 0

@@ -49,7 +49,8 @@ IsTaken old events at new events_since Nothing = IsBeginBy old events at new eve
 IsTaken old events at new events_since Quiet =
     (group : GroupName) × (removed : ℕ) × IsBeginBy old events at new events_since (reply.Quiet group removed)
 IsTaken old events at new events_since (Flush t) =
-    (t.desk ≡ old.id) × (t.outcomes ≡ []) × IsBeginBy old events at new events_since (reply.Flush t.number t.group t.deadline t.notices)
+    (t.desk ≡ old.id) × (t.outcomes ≡ [])
+    × IsBeginBy old events at new events_since (reply.Flush t.number t.group t.deadline t.notices)
 
 -- what a begin came to is what the board answered
 abbrev pub IsOwn : Answer → Taken → Type 0

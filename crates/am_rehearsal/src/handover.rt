@@ -167,21 +167,8 @@ fn copy_action(alloc: Global, act: &Action) -> Result<Action, AllocError>
     match act {
         Action::Insert(alert) => Ok(Action::Insert(alert.copy(alloc)?)),
         Action::Silence(silence) => Ok(Action::Silence(copy_silence(alloc, silence)?)),
-        Action::Load(row) => Ok(Action::Load(copy_row(alloc, row)?)),
+        Action::Load(row) => Ok(Action::Load(row.copy(alloc)?)),
     }
-}
-
-fn copy_row(alloc: Global, row: &RowView) -> Result<RowView, AllocError>
-    ensures { IfOk result (λ copy. copy ≡ row.now) }
-{
-    Ok(RowView {
-        group: row.group.copy(alloc)?,
-        integration: row.integration,
-        moment: row.moment,
-        expiry: row.expiry,
-        firing: row.firing.copy(alloc)?,
-        resolved: row.resolved.copy(alloc)?,
-    })
 }
 
 /// A copy of a silence.

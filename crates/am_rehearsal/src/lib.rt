@@ -14,6 +14,7 @@ mod next;
 pub mod parts;
 pub mod play;
 pub mod playing;
+mod preview_log;
 mod previewing;
 mod sending;
 pub mod span;

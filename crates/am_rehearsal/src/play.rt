@@ -192,7 +192,7 @@ pub(crate) fn play_pieces<W: Watch>(
 {
     let mut course = Course::open(alloc, config, until, maintain, plans, outages, span)?;
     match course.run(watch) {
-        Ok(()) => Ok(course.into_played()),
+        Ok(()) => Ok(course.into_played()?),
         Err(fault) => {
             course.abandon();
             Err(fault)
@@ -466,7 +466,7 @@ impl<'o> Course<'o> {
     }
 
     /// Sends the notices of a flush from `at` on.
-    fn send(&mut self, begin: usize, own: OwnTicket<BOARD_ID>, at: u64) -> Result<(), PlayFault>
+    fn send(&mut self, begin: u32, own: OwnTicket<BOARD_ID>, at: u64) -> Result<(), PlayFault>
         requires moment { at ≤ MAX_MOMENT }
         requires room { vec_len self.old.sendings < vec_capacity self.old.sendings }
         ensures same { setting_in self.new ≡ setting_in self.old }
@@ -496,13 +496,10 @@ impl<'o> Course<'o> {
     }
 
     /// What was played to its end.
-    fn into_played(self) -> Played
+    fn into_played(self) -> Result<Played, AllocError>
         requires { vec_len self.sendings ≡ 0 }
-        ensures board { result.board ≡ self.entry.board.board }
-        ensures events { result.events.items ≡ self.entry.board.events.items }
-        ensures ours { result.board.id ≡ BOARD_ID }
-        ensures previews { result.begins.items ≡ previews_of result.board.config result.board.history }
-        ensures begun { begin_indices result.events.items ≡ range_with_len 0 (vec_len result.begins) }
+        ensures board { IfOk result (λ played. played.board ≡ self.entry.board.board) }
+        ensures events { IfOk result (λ played. played.events.items ≡ self.entry.board.events.items) }
     {
         let Course {
             alloc: _,
@@ -520,12 +517,12 @@ impl<'o> Course<'o> {
             is_blocked: _,
         } = self;
         sendings.destroy_empty();
-        let (board, begins, events) = board.into_parts();
-        Played {
+        let (board, begins, events) = board.into_parts()?;
+        Ok(Played {
             board,
             begins,
             events,
-        }
+        })
     }
 
     /// Finishes the open flushes as they are, and gives up.
@@ -550,7 +547,7 @@ fn report_end(
         ≡ (if is_success end.report then with_note end.at (with_report end.report sending.old.ticket) end.place board.old.board
         else board.old.board)) }
 {
-    keep_report(board, sending, end.report)?;
+    keep_report(alloc, board, sending, end.report)?;
     if is_success(end.report) {
         return board.note(alloc, &sending.own, end.place, end.at);
     }
@@ -559,6 +556,7 @@ fn report_end(
 
 /// Keeps the report on a notice of a flush, if there is one.
 fn keep_report(
+    alloc: Global,
     board: &mut PreviewingBoard,
     sending: &mut Sending,
     report: Option<Report>,
@@ -570,7 +568,7 @@ fn keep_report(
     match report {
         None => Ok(()),
         Some(report) => {
-            board.keep_sent(sending.begin, report)?;
+            board.keep_sent(alloc, sending.begin, report)?;
             sending.record(report);
             Ok(())
         }

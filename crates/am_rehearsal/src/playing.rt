@@ -3,11 +3,12 @@
 //!
 //! A dispatcher that keeps the log gets the rows of the board before it as loads, in front of its own
 //! plans. Boards are in boxes: a proof of a function with a whole board in its frame takes a minute.
-ghost use Rattle.std.specs.Prelude.{◌≡◌, ◌<◌, ◌≤◌, ◌+◌, ◌++◌, [], if◌then◌else◌, length, nat_lt, None, IfErr, IfOk, OnErr, OnOk};
-ghost use Rattle.std.specs.List.{count_by, flat_map};
+ghost use Rattle.std.specs.Prelude.{◌≡◌, ◌<◌, ◌≤◌, ◌+◌, ◌++◌, ◌&&◌, [], if◌then◌else◌, length, nat_lt, not, None, IfErr, IfOk, OnErr, OnOk};
+ghost use Rattle.std.specs.List.{count_by, flat_map, list_any};
 ghost use Rattle.std.specs.Option.{option_copied};
-ghost use Rattle.am_model.specs.Carry.{carried};
-ghost use Rattle.am_rehearsal.specs.Playing.{is_carried, keeps_log, last_board, rows_before, taken_count, taken_over};
+ghost use Rattle.am_model.specs.Carry.{is_led_to};
+ghost use Rattle.am_model.specs.Rekey.{rekeyed};
+ghost use Rattle.am_rehearsal.specs.Playing.{is_taken, keeps_log, last_board, rows_before, taken_count, taken_over};
 ghost use Rattle.am_rehearsal.specs.Playing.{ArePlayed, IsPlayedNext, IsTakeFault, IsWhyNotPart, IsWhyNotParts, PlaysPart};
 ghost use Rattle.am_rehearsal.specs.Scene.{setting_with};
 ghost use Rattle.am_rehearsal.specs.Play.{PlaysTo};
@@ -20,7 +21,7 @@ use crate::play::{PlayFault, Played, play_pieces};
 use crate::span::Span;
 use am_board::board::Board;
 use am_board::config::Config;
-use am_model::carry::carried;
+use am_model::rekey::{Rekeying, is_led_to};
 use am_model::views::RowView;
 use am_terms::handover::Keeps;
 use am_terms::rehearsal::{Outage, TimedAction};
@@ -49,7 +50,7 @@ pub struct PartFault {
 ///
 /// `maintain` is the time between two maintenances, in milliseconds. Each part is played as by
 /// `play_span`. Before its own plans come loads of the log rows that it takes over of the board
-/// before it, if it keeps the log (`am_model::carry::carried`). `watch` is called at each step.
+/// before it, if it keeps the log (`am_model::rekey`). `watch` is called at each step.
 ///
 /// Clause `played`: each part plays to its board and events (`PlaysTo`), and the numbers of log rows
 /// are right. Clause `refused`: the parts before the failing one are played, and for that one the
@@ -133,8 +134,8 @@ fn play_part<W: Watch>(
         plans: mut own,
         keeps,
     } = part;
-    let log = take_over(alloc, before, keeps, &config)?;
-    let mut plans = loads(alloc, span.since, log.carried)?;
+    let log = take_over(alloc, before, keeps, span.since, &config)?;
+    let mut plans = loads(alloc, span.since, log.found)?;
     plans.append(&mut own)?;
     let played = play_boxed(alloc, config, until, maintain, plans, outages, span, watch)?;
     Ok(PlayedPart {
@@ -170,24 +171,26 @@ fn play_boxed<W: Watch>(
 /// What a dispatcher takes over of the log of the board before it.
 #[derive(Drop)]
 struct TakenLog {
-    /// The rows, as they are carried over.
-    carried: Vec<RowView>,
+    /// The rows by which the new log finds them again.
+    found: Vec<RowView>,
     /// How many rows the log had.
     rows: usize,
     /// How many of these were taken over.
     taken: usize,
 }
 
-/// Returns what a dispatcher of this configuration takes over of the log of the board before it.
+/// Returns what a dispatcher of this configuration takes over of the log of the board before it at
+/// `at` (milliseconds).
 fn take_over(
     alloc: Global,
     before: Option<&Board>,
     keeps: Keeps,
+    at: u64,
     config: &Config,
 ) -> Result<TakenLog, PlayFault>
-    ensures carried { IfOk result (λ log. log.carried.items ≡ taken_over keeps config.now (option_copied before.entry)) }
+    ensures found { IfOk result (λ log. log.found.items ≡ taken_over keeps config.now (option_copied before.entry)) }
     ensures rows { IfOk result (λ log. log.rows ≡ length (rows_before (option_copied before.entry))) }
-    ensures taken { IfOk result (λ log. log.taken ≡ taken_count keeps config.now (option_copied before.entry)) }
+    ensures taken { IfOk result (λ log. log.taken ≡ taken_count keeps at config.now (option_copied before.entry)) }
     ensures refused { IfErr result (IsTakeFault config.now) }
 {
     match before {
@@ -195,7 +198,7 @@ fn take_over(
         Some(board) => {
             let rows = board.rows(alloc)?;
             if keeps_log(keeps) {
-                carry_all(alloc, board.config(), config, rows.as_slice())
+                find_all(alloc, board.config(), config, at, rows.as_slice())
             } else {
                 Ok(TakenLog::nothing(alloc, rows.len()))
             }
@@ -212,52 +215,86 @@ fn keeps_log(keeps: Keeps) -> bool
     }
 }
 
-/// Carries these rows of a log over to a new configuration.
-fn carry_all(
+/// Finds these rows of a log again under a new configuration, and counts those that are taken over
+/// at `at` (milliseconds).
+fn find_all(
     alloc: Global,
     old: &Config,
     new: &Config,
+    at: u64,
     rows: &[RowView],
 ) -> Result<TakenLog, PlayFault>
-    ensures carried { IfOk result (λ log. log.carried.items ≡ flat_map (carried old.now new.now) rows.now) }
+    ensures found { IfOk result (λ log. log.found.items ≡ flat_map (rekeyed (record { old = old.now; new = new.now })) rows.now) }
     ensures rows { IfOk result (λ log. log.rows ≡ length rows.now) }
-    ensures taken { IfOk result (λ log. log.taken ≡ count_by (is_carried old.now new.now) rows.now) }
+    ensures taken { IfOk result (λ log. log.taken ≡ count_by (is_taken at (record { old = old.now; new = new.now })) rows.now) }
     ensures refused { IfErr result (IsTakeFault new.now) }
 {
     if new.check().is_err() {
         return Err(PlayFault::BadConfig);
     }
+    let reload = Rekeying::new(alloc, old, new)?;
     let mut log = TakenLog::nothing(alloc, rows.len());
     for i in 0..rows.len() {
-        log.add(carried(alloc, old, new, &rows[i])?)?;
+        let row = &rows[i];
+        let found = reload.rows(alloc, row)?;
+        let taken = is_taken(alloc, at, new, row, found.as_slice())?;
+        log.add(found, taken)?;
     }
     Ok(log)
+}
+
+/// Returns whether a row is taken over at `at` (milliseconds), if the log finds it again by these.
+fn is_taken(
+    alloc: Global,
+    at: u64,
+    new: &Config,
+    row: &RowView,
+    found: &[RowView],
+) -> Result<bool, AllocError>
+    ensures { IfOk result (λ taken. taken ≡ (not (nat_lt row.now.expiry at) && list_any (is_led_to new.now) found.now)) }
+{
+    if row.expiry < at {
+        return Ok(false);
+    }
+    one_is_led_to(alloc, new, found)
+}
+
+/// Returns whether an alert of one of these rows goes to the row's group.
+fn one_is_led_to(alloc: Global, config: &Config, rows: &[RowView]) -> Result<bool, AllocError>
+    ensures { IfOk result (λ one. one ≡ list_any (is_led_to config.now) rows.now) }
+{
+    for row in rows {
+        if is_led_to(alloc, config, row)? {
+            return Ok(true);
+        }
+    }
+    Ok(false)
 }
 
 impl TakenLog {
     /// Nothing of a log of so many rows.
     fn nothing(alloc: Global, rows: usize) -> TakenLog
-        ensures carried { result.carried.items ≡ [] }
+        ensures found { result.found.items ≡ [] }
         ensures rows { result.rows ≡ rows }
         ensures taken { result.taken ≡ 0 }
     {
         TakenLog {
-            carried: Vec::new(alloc),
+            found: Vec::new(alloc),
             rows,
             taken: 0,
         }
     }
 
-    /// Adds what one row of the log is carried over as.
-    fn add(&mut self, mut carried: Vec<RowView>) -> Result<(), AllocError>
+    /// Adds the rows by which one row of the log is found again, and counts it if it is taken over.
+    fn add(&mut self, mut found: Vec<RowView>, taken: bool) -> Result<(), AllocError>
         requires { self.old.taken < self.old.rows }
-        ensures carried { OnOk result (self.new.carried.items ≡ self.old.carried.items ++ carried.items) }
+        ensures found { OnOk result (self.new.found.items ≡ self.old.found.items ++ found.items) }
         ensures rows { self.new.rows ≡ self.old.rows }
-        ensures taken { OnOk result (self.new.taken ≡ self.old.taken + (if nat_lt 0 (length carried.items) then 1 else 0)) }
+        ensures taken { OnOk result (self.new.taken ≡ self.old.taken + (if taken then 1 else 0)) }
     {
-        if !carried.is_empty() {
+        if taken {
             self.taken += 1;
         }
-        self.carried.append(&mut carried)
+        self.found.append(&mut found)
     }
 }

@@ -17,6 +17,7 @@ ghost use Rattle.am_model.specs.declared.record.Call.TheVariants as call;
 ghost use Rattle.am_rehearsal.specs.Acting.{IsActed};
 ghost use Rattle.am_rehearsal.specs.EventOrder.{begin_indices};
 ghost use Rattle.am_rehearsal.specs.Planned.{call_of, input_trace, no_inputs, refuses, with_inputs};
+ghost use Rattle.am_rehearsal.specs.PreviewLog.{IsReady};
 ghost use Rattle.am_rehearsal.specs.Previews.{takes_group, previews_of, preview_where};
 ghost use Rattle.am_rehearsal.specs.Steps.{with_call, with_note};
 ghost use Rattle.am_rehearsal.specs.Taking.{begun_where, why_not, IsOwn, IsTaken};
@@ -25,6 +26,7 @@ ghost use Rattle.am_rehearsal.specs.declared.limits.TheConstants.{BOARD_ID};
 
 use crate::acting::ActFault;
 use crate::limits::BOARD_ID;
+use crate::preview_log::PreviewLog;
 use crate::taken::Taken;
 use am_alerts::alert::Alert;
 use am_board::begin::Begun;
@@ -36,7 +38,7 @@ use am_board::own_ticket::OwnTicket;
 use am_board::preview::Preview;
 use am_board::views::RowView;
 use am_mute::silence::Silence;
-use am_terms::event::{Event, PreviewedBegin};
+use am_terms::event::{Event, PreviewedBegin, ReportBox};
 use am_terms::rehearsal::Action;
 use std::alloc::{AllocError, Global};
 
@@ -47,12 +49,12 @@ const PASS: u32 = 0;
 #[derive(Drop)]
 pub(crate) struct PreviewingBoard {
     board: Board,
-    begins: Vec<PreviewedBegin>,
+    begins: PreviewLog,
     events: Vec<Event>,
     ghost ours: { board.id ≡ BOARD_ID },
     ghost whole: { board.handed ≡ [] },
     ghost previews: { begins.items ≡ previews_of board.config board.history },
-    ghost begun: { begin_indices events.items ≡ range_with_len 0 (vec_len begins) },
+    ghost begun: { begin_indices events.items ≡ range_with_len 0 (length begins.items) },
 }
 
 impl PreviewingBoard {
@@ -67,26 +69,27 @@ impl PreviewingBoard {
         let board = Board::new(alloc, config, BOARD_ID)?;
         Ok(PreviewingBoard {
             board,
-            begins: Vec::new(alloc),
+            begins: PreviewLog::new(alloc),
             events: Vec::new(alloc),
         })
     }
 
     /// The board, what its begins were to do, and what happened.
-    pub(crate) fn into_parts(self) -> (Board, Vec<PreviewedBegin>, Vec<Event>)
-        ensures board { result.0 ≡ self.board }
-        ensures ours { result.0.id ≡ BOARD_ID }
-        ensures whole { result.0.handed ≡ [] }
-        ensures previews { result.1.items ≡ previews_of result.0.config result.0.history }
-        ensures begun { begin_indices result.2.items ≡ range_with_len 0 (vec_len result.1) }
-        ensures events { result.2.items ≡ self.events.items }
+    pub(crate) fn into_parts(self) -> Result<(Board, Vec<PreviewedBegin>, Vec<Event>), AllocError>
+        ensures board { IfOk result (λ parts. parts.0 ≡ self.board) }
+        ensures ours { IfOk result (λ parts. parts.0.id ≡ BOARD_ID) }
+        ensures whole { IfOk result (λ parts. parts.0.handed ≡ []) }
+        ensures previews { IfOk result (λ parts. parts.1.items ≡ previews_of parts.0.config parts.0.history) }
+        ensures begun { IfOk result (λ parts. begin_indices parts.2.items ≡ range_with_len 0 (vec_len parts.1)) }
+        ensures events { IfOk result (λ parts. parts.2.items ≡ self.events.items) }
     {
         let PreviewingBoard {
             board,
             begins,
             events,
         } = self;
-        (board, begins, events)
+        let begins = begins.into_vec()?;
+        Ok((board, begins, events))
     }
 
     pub(crate) fn config(&self) -> &Config
@@ -96,7 +99,7 @@ impl PreviewingBoard {
     }
 
     /// How many begins took a group.
-    pub(crate) fn taken(&self) -> usize
+    pub(crate) fn taken(&self) -> u32
         ensures { result ≡ length (begin_indices self.now.events.items) }
     {
         self.begins.len()
@@ -173,13 +176,22 @@ impl PreviewingBoard {
 
     /// Keeps that the sending of a notice came to its end, whose flush was opened by the begin at this
     /// place among those that took a group.
-    pub(crate) fn keep_sent(&mut self, begin: usize, report: Report) -> Result<(), AllocError>
+    pub(crate) fn keep_sent(
+        &mut self,
+        alloc: Global,
+        begin: u32,
+        report: Report,
+    ) -> Result<(), AllocError>
         ensures input_trace { input_trace self.new.board ≡ input_trace self.old.board }
         ensures board { self.new.board ≡ self.old.board }
         ensures events { IfOk result (λ _. self.new.events.items ≡ self.old.events.items ++ Sent begin report ∷ []) }
     {
+        let boxed = ReportBox::new(alloc, report)?;
         self.events.reserve(1)?;
-        self.events.push_reserved(Event::Sent { begin, report });
+        self.events.push_reserved(Event::Sent {
+            begin,
+            report: boxed,
+        });
         Ok(())
     }
 
@@ -222,7 +234,7 @@ impl PreviewingBoard {
         ensures refused { OnErr result (self.new.board ≡ self.old.board) }
         ensures events { OnErr result (self.new.events.items ≡ self.old.events.items) }
     {
-        self.begins.reserve(1)?;
+        self.begins.make_ready()?;
         self.events.reserve(1)?;
         let place = self.board.history().len();
         let both = match self.board.begin_previewed(alloc, PASS, now) {
@@ -253,18 +265,18 @@ fn own(begun: Begun) -> Taken
 /// Adds what a begin was to do whose record is at this place, and that it was made, if it took a
 /// group.
 fn tell(
-    begins: &mut Vec<PreviewedBegin>,
+    begins: &mut PreviewLog,
     events: &mut Vec<Event>,
     place: usize,
     preview: Option<Preview>,
     begun: &Begun,
 )
-    requires room { vec_len begins.old + 1 ≤ vec_capacity begins.old }
+    requires room { IsReady begins.old }
     requires events_room { vec_len events.old + 1 ≤ vec_capacity events.old }
-    requires begun { begin_indices events.old.items ≡ range_with_len 0 (vec_len begins.old) }
+    requires begun { begin_indices events.old.items ≡ range_with_len 0 (length begins.old.items) }
     ensures previews { begins.new.items ≡ begins.old.items ++ preview_where (takes_group (reply_of begun.now)) place preview }
-    ensures begun { begin_indices events.new.items ≡ range_with_len 0 (vec_len begins.new) }
-    ensures events { events.new.items ≡ events.old.items ++ begun_where preview (takes_group (reply_of begun.now)) (vec_len begins.old) }
+    ensures begun { begin_indices events.new.items ≡ range_with_len 0 (length begins.new.items) }
+    ensures events { events.new.items ≡ events.old.items ++ begun_where preview (takes_group (reply_of begun.now)) (length begins.old.items) }
 {
     match (begun, preview) {
         (Begun::NothingDue, _) | (_, None) => {}
@@ -272,7 +284,7 @@ fn tell(
             events.push_reserved(Event::Begun {
                 begin: begins.len(),
             });
-            begins.push_reserved(PreviewedBegin { place, preview });
+            begins.push(place, preview);
         }
     }
 }

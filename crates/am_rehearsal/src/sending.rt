@@ -22,7 +22,7 @@ use std::marker::Model;
 pub(crate) struct Sending {
     pub(crate) own: OwnTicket<BOARD_ID>,
     /// The position of its begin among the previewed begins.
-    pub(crate) begin: usize,
+    pub(crate) begin: u32,
     /// The ends that are still to come, by place.
     pub(crate) ends: Vec<End>,
 }

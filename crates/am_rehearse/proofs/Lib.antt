@@ -4,3 +4,5 @@ pub mod Tales
 pub mod Refusals
 -- members that tell no handovers tell none in any other way
 pub mod NoHandovers
+-- a rehearsal without handovers is played by one dispatcher
+pub mod Alone

@@ -1,7 +1,7 @@
 //! `am-rehearse compare`: simulates a story under two configurations, and prints what differs.
 use crate::play::until_of;
 use crate::render::logbook_of;
-use crate::run::refused;
+use crate::run::play_alone;
 use am_cli::fault::{FaultKind, InputFault};
 use am_cli::faults::Refusal;
 use am_cli::place::JsonPointer;
@@ -16,13 +16,11 @@ use am_console::progress::Progress;
 use am_input::faults::ReceiversOf;
 use am_input::input::{Changes, Input, Overrides, read_input};
 use am_input::zone_files::ZoneFiles;
-use am_plans::origin::Origin;
-use am_rehearsal::play::{Played, play};
-use am_rehearsal::playing::PartFault;
+use am_rehearsal::play::Played;
+use am_rehearsal::playing::PlayedPart;
 use am_terms::clock::Elapsed;
 use am_terms::dated::UtcDates;
 use am_terms::handover::{Handover, Keeps};
-use am_terms::rehearsal::Rehearsal;
 use am_terms::watch::Watch;
 use am_timeline::comparison::{Comparison, compare_notices};
 use am_timeline::playback::Playback;
@@ -33,7 +31,7 @@ use std::time::Clock;
 /// A story that was played.
 #[derive(Drop)]
 struct PlayedStory {
-    played: Box<Played>,
+    part: PlayedPart,
     /// The moment of the start, if the story tells it.
     start: Option<UtcDates>,
     /// What of the configuration is ignored.
@@ -178,9 +176,9 @@ fn play_input<W: Watch>(
         dropped,
     } = input;
     check_handovers(alloc, handovers.as_slice())?;
-    let played = play_or_refuse(alloc, rehearsal, origins.as_slice(), watch)?;
+    let part = play_alone(alloc, rehearsal, origins.as_slice(), watch)?;
     Ok(PlayedStory {
-        played,
+        part,
         start,
         ignored: dropped,
     })
@@ -200,29 +198,14 @@ fn check_handovers(alloc: Global, handovers: &[Handover]) -> Result<(), InputFau
     )
 }
 
-/// Plays a rehearsal whose planned actions are at these places of the input.
-fn play_or_refuse<W: Watch>(
-    alloc: Global,
-    rehearsal: Rehearsal,
-    origins: &[Origin],
-    watch: &mut W,
-) -> Result<Box<Played>, InputFault> {
-    let ended = play(alloc, rehearsal, watch);
-    watch.end();
-    match ended {
-        Ok(played) => Ok(Box::new(alloc, played)?),
-        Err(fault) => Err(refused(alloc, PartFault { part: 0, fault }, origins)),
-    }
-}
-
 fn compare_played(
     alloc: Global,
     old: &PlayedStory,
     new: &PlayedStory,
 ) -> Result<Comparison, AllocError> {
-    let log = logbook_of(alloc, &old.played)?;
-    let playback = Playback::new(&log, old.played.events.as_slice());
-    compare_with(alloc, &playback, &old.start, &new.played)
+    let log = logbook_of(alloc, &old.part.played)?;
+    let playback = Playback::new(&log, old.part.played.events.as_slice());
+    compare_with(alloc, &playback, &old.start, &new.part.played)
 }
 
 /// Compares a playback with a story that was played, with dates if its start is told.

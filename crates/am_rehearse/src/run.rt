@@ -1,5 +1,5 @@
 //! The run of a rehearsal: reads the whole input, runs it, writes the output. `main` calls it.
-ghost use Rattle.std.specs.Prelude.{◌≡◌, ◌≢◌, ◌≤◌, ◌<◌, ◌+◌, ◌++◌, ◌⊎◌, ◌↔◌, List, [], ℕ, false, true};
+ghost use Rattle.std.specs.Prelude.{◌≡◌, ◌≢◌, ◌≤◌, ◌<◌, ◌+◌, ◌++◌, ◌∷◌, ◌⊎◌, ◌↔◌, List, [], ℕ, false, true};
 ghost use Rattle.std.specs.Prelude.{IfErr, IfOk, IsTrue, OnOk, length, string_bytes};
 ghost use Rattle.am_cli.specs.Read.{IsRefusedBy};
 ghost use Rattle.am_cli.specs.declared.transfer.TheConstants.{MAX_INPUT};
@@ -145,7 +145,7 @@ pub fn run_rehearsal<S: Source, Z: ZoneFiles, K: Sink, W: Watch>(
 }
 
 /// Why a rehearsal wasn't played to its end, told at the place in the input.
-pub(crate) fn refused(alloc: Global, fault: PartFault, origins: &[Origin]) -> InputFault
+fn refused(alloc: Global, fault: PartFault, origins: &[Origin]) -> InputFault
     ensures memory { fault.fault ≡ PlayFault.NoMemory → result ≡ InputFault.NoMemory }
     ensures limit { IsTrue (is_limit fault.fault) → IsRefusedBy FaultKind.Full result }
 {
@@ -248,6 +248,24 @@ fn check_page(alloc: Global, story: &Input, wanted: &Wanted) -> Result<(), Input
 fn refused_output(alloc: Global) -> InputFault {
     let top = JsonPointer::Root;
     top.member("output").refuse(alloc, FaultKind::BadValue)
+}
+
+/// Plays a rehearsal of one dispatcher, whose planned actions are at these places of the input.
+pub(crate) fn play_alone<W: Watch>(
+    alloc: Global,
+    rehearsal: Rehearsal,
+    origins: &[Origin],
+    watch: &mut W,
+) -> Result<PlayedPart, InputFault>
+    ensures plays { IfOk result (λ part. PlaysThrough rehearsal [] (part ∷ [])) }
+    ensures refused { IfErr result (RefusesPlay rehearsal []) }
+{
+    let handovers = Vec::new(alloc);
+    let mut played = play_or_refuse(alloc, rehearsal, handovers, origins, watch)?;
+    match played.pop() {
+        Some(part) => Ok(part),
+        None => unreachable!(),
+    }
 }
 
 /// Plays a rehearsal with these handovers, whose planned actions are at these places of the input.

@@ -2,3 +2,5 @@
 pub mod Rows
 -- the day so many days later
 pub mod Days
+-- lists are the same where their elements are, by a test
+pub mod Sameness

@@ -6,3 +6,5 @@ pub mod UtcDates
 pub mod Expectation
 -- texts of times that were computed by hand
 pub mod Rows
+-- previews of one group that differ in their times at most
+pub mod Like

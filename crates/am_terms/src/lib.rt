@@ -10,5 +10,7 @@ pub mod event;
 pub mod expectation;
 pub mod handover;
 pub mod law;
+mod like;
 pub mod rehearsal;
+pub mod shared_preview;
 pub mod watch;

@@ -1,5 +1,6 @@
 -- Runs of like flushes, by a table of the next flush of each group, and then by one of the last run of each group.
 use Rattle.std.proofs.Common.{◌≡◌, ◌∙◌, ◌<◌, ◌≤◌, ◌==◌, ◌&&◌, ℕ, suc, ◌+◌, Bool, true, false, not, List, [], ◌∷◌, ◌++◌, Option, Some, None, ap, sym, refl, subst, drop, get_or, length, map, reverse, arith, append_assoc, if◌then◌else◌}
+use Rattle.std.specs.Prelude.{zero, slice_get}
 use Rattle.std.specs.Bool.{one_answer}
 use Rattle.std.specs.Option.{IfSome, option_map_or}
 use Rattle.std.specs.Str.{bytes_eq}
@@ -15,7 +16,7 @@ use Rattle.am_terms.specs.TimeFormatData.{TimeFormatData}
 use Rattle.am_timeline.specs.Playback.{PlaybackData}
 use Rattle.am_timeline.specs.declared.runs.Fold.{Fold}
 use Rattle.am_timeline.specs.declared.runs.Run.{Run}
-use Rattle.am_timeline.specs.Runs.{FlushData, HasLines, are_same_lines, flush_by, folds_of, group_of, kept_next, last_moment, likes, lines_by, next_of, run_before, run_by, run_of, run_with, runs_of, with_runs}
+use Rattle.am_timeline.specs.Runs.{FlushData, HasLines, are_same_lines, flush_by, folds_in, folds_of, group_of, kept_next, last_moment, likes, lines_by, next_of, run_before, run_by, run_of, run_with, runs_of, with_runs}
 
 -- what a map has from one place on
 pub drop_map-at : {X Y : Type 0} (f : X → Y) (xs : List X) (i : ℕ) (x : X) → i < length xs → x ≡ get_or xs i x
@@ -233,6 +234,44 @@ groups-are : (all : Bool) (playback : PlaybackData) (times : TimeFormatData) (be
     → map group_of begins ≡ map (λ (f : FlushData). f.group) (map (flush_by all playback times) begins)
 groups-are all playback times [] = refl
 groups-are all playback times (b ∷ begins) = ap (λ (l : List GroupName). b.preview.group ∷ l) (groups-are all playback times begins)
+
+-- what becomes of flushes, with one that begins its run or doesn't more
+pub folds_in-more : (firsts more : List Bool) (first : Bool) (runs : List Run) (r : Run) → more ≡ firsts ++ first ∷ [] → length firsts < length runs
+    → folds_in more runs ≡ folds_in firsts runs ++ record { is_first = first; run = get_or runs (length firsts) r } ∷ []
+folds_in-more firsts more first runs r is inside = ap (λ (l : List Bool). folds_in l runs) is ∙ by firsts runs inside
+  where
+    by : (firsts : List Bool) (runs : List Run) → length firsts < length runs
+        → folds_in (firsts ++ first ∷ []) runs ≡ folds_in firsts runs ++ record { is_first = first; run = get_or runs (length firsts) r } ∷ []
+    by [] [] inside = absurd (omega (arith, inside))
+    by [] (s ∷ runs) inside = refl
+    by (b ∷ firsts) [] inside = absurd (omega (arith, inside))
+    by (b ∷ firsts) (s ∷ runs) inside =
+        ap (λ (folds : List Fold). record { is_first = b; run = s } ∷ folds) (by firsts runs (omega (arith, inside)))
+
+-- what becomes of the flush at a position
+pub fold_at : (firsts : List Bool) (runs : List Run) (n : ℕ) (b : Bool) (r : Run) → slice_get firsts n ≡ Some b → slice_get runs n ≡ Some r
+    → slice_get (folds_in firsts runs) n ≡ Some (record { is_first = b; run = r })
+fold_at [] runs n b r first run = absurd (cc first)
+fold_at (x ∷ firsts) [] n b r first run = absurd (cc run)
+fold_at (x ∷ firsts) (y ∷ runs) zero b r first run =
+    let one : x ≡ b = cc first in
+    let other : y ≡ r = cc run in
+    λ i. Some (record { is_first = one i; run = other i })
+fold_at (x ∷ firsts) (y ∷ runs) (suc n) b r first run = fold_at firsts runs n b r first run
+
+-- nothing becomes of a flush that isn't there
+pub no_first : (firsts : List Bool) (runs : List Run) (n : ℕ) → slice_get firsts n ≡ None → slice_get (folds_in firsts runs) n ≡ None
+no_first [] runs n h = refl
+no_first (x ∷ firsts) [] n h = refl
+no_first (x ∷ firsts) (y ∷ runs) zero h = absurd (cc h)
+no_first (x ∷ firsts) (y ∷ runs) (suc n) h = no_first firsts runs n h
+
+-- nor of one that has no run
+pub no_run : (firsts : List Bool) (runs : List Run) (n : ℕ) → slice_get runs n ≡ None → slice_get (folds_in firsts runs) n ≡ None
+no_run [] runs n h = refl
+no_run (x ∷ firsts) [] n h = refl
+no_run (x ∷ firsts) (y ∷ runs) zero h = absurd (cc h)
+no_run (x ∷ firsts) (y ∷ runs) (suc n) h = no_run firsts runs n h
 
 -- what becomes of begins, by the runs of their flushes
 pub folds-are : (all : Bool) (playback : PlaybackData) (times : TimeFormatData) (begins : List PreviewedBegin) (runs : List Run)

@@ -1,7 +1,6 @@
 -- Previews of two flushes that are alike have the same lines.
 use Rattle.std.proofs.Common.{◌≡◌, ◌∙◌, ◌+◌, ◌++◌, ◌&&◌, ◌||◌, ◌==◌, ◌∷◌, [], Bool, ℕ, List, Option, Some, None, true, false, not, ap, codes, refl, sym, length, if◌then◌else◌}
 use Rattle.std.specs.Prelude.{IfSome}
-use Rattle.std.specs.Cmp.Lexicographic.{pointwise}
 use Rattle.std.specs.List.{list_all}
 use Rattle.std.specs.Option.{IsSomeAnd}
 use Rattle.std.proofs.lemmas.Bool.{and_parts}
@@ -18,21 +17,6 @@ use Rattle.am_timeline.specs.Alike.{AreAlike, is_unasked}
 use Rattle.am_timeline.specs.Playback.{PlaybackData, notices_at}
 use Rattle.am_timeline.specs.Runs.{lines_by, sends_nothing, start_frame}
 use Rattle.am_timeline.specs.Timeline.{FrameData, begun_lines, asked_lines, is_sent_nothing, muted_line, no_integrations_line, not_sent_line, nothing_left, nothing_left_line, quiet_line, quiet_lines, reason_text}
-
--- lists are the same by a test that tells of elements that they are
-same_from : {X : Type 0} {E : X → X → Bool} → ((a b : X) → E a b ≡ true → a ≡ b) → (xs ys : List X) → pointwise E xs ys ≡ true → xs ≡ ys
-same_from each [] [] h = refl
-same_from each [] (y ∷ ys) h = cc
-same_from each (x ∷ xs) [] h = cc
-same_from each (x ∷ xs) (y ∷ ys) h =
-    let parts = and_parts _ _ h in
-    let first = each x y parts.0 in
-    let rest = same_from each xs ys parts.1 in
-    λ i. first i ∷ rest i
-
--- the same, by the answer of the test
-pub same_by : {X : Type 0} {E : X → X → Bool} → ((a b : X) → E a b ≡ true → a ≡ b) → (xs ys : List X) (r : Bool) → r ≡ pointwise E xs ys → r ≡ true → xs ≡ ys
-same_by each xs ys r is h = same_from each xs ys (sym is ∙ h)
 
 -- a preview
 abbrev preview_of : ℕ → GroupName → List MutedAlert → List Reason → Preview

@@ -85,6 +85,12 @@ abbrev pub folds_of : List FlushData → List FlushData → List Fold
 folds_of before [] = []
 folds_of before (f ∷ later) = fold_of before f later ∷ folds_of (f ∷ before) later
 
+-- what becomes of flushes which begin their runs or don't, and have these runs
+abbrev pub folds_in : List Bool → List Run → List Fold
+folds_in [] runs = []
+folds_in (first ∷ firsts) [] = []
+folds_in (first ∷ firsts) (r ∷ runs) = record { is_first = first; run = r } ∷ folds_in firsts runs
+
 -- when the last flush of a run begins
 abbrev pub until_text : TimeFormatData → ℕ → List ℕ
 until_text times until = codes " flushes until " ++ times.text until

@@ -1,23 +1,16 @@
 //! Whether the previews of two flushes tell that their lines are the same. `runs` then makes the lines of one of them alone.
 ghost use Rattle.std.specs.Prelude.{◌≡◌, IsTrue};
 ghost use Rattle.std.specs.List.{list_all};
-ghost use Rattle.am_mute.specs.declared.mute.MuteCause.TheVariants.{Inhibited, Silenced};
 ghost use Rattle.am_timeline.specs.Alike.{AreAlike, is_unasked};
 
-use am_alerts::labels::Labels;
-use am_model::group::GroupName;
-use am_model::preview::{MutedAlert, Preview};
 use am_model::reason::Reason;
-use am_mute::mute::MuteCause;
+use am_terms::shared_preview::SharedPreview;
 
 /// Returns whether two previews are of one group, with the same muted alerts and the same reasons, for which nobody is notified.
-pub(crate) fn are_alike(one: &Preview, other: &Preview) -> bool
+pub(crate) fn are_alike(one: &SharedPreview, other: &SharedPreview) -> bool
     ensures { IsTrue result → AreAlike one.now other.now }
 {
-    are_unasked(one.reasons.as_slice())
-        && are_same_reasons(one.reasons.as_slice(), other.reasons.as_slice())
-        && are_same_muted(one.muted.as_slice(), other.muted.as_slice())
-        && is_same_group(&one.group, &other.group)
+    are_unasked(one.reasons()) && one.is_like(other)
 }
 
 fn are_unasked(reasons: &[Reason]) -> bool
@@ -30,75 +23,4 @@ fn is_unasked(reason: &Reason) -> bool
     ensures { result ≡ is_unasked reason.now }
 {
     !reason.asks()
-}
-
-fn are_same_reasons(some: &[Reason], others: &[Reason]) -> bool
-    ensures { IsTrue result → some.now ≡ others.now }
-{
-    some == others
-}
-
-fn is_same_group(one: &GroupName, other: &GroupName) -> bool
-    ensures { IsTrue result → one.now ≡ other.now }
-{
-    one == other
-}
-
-fn are_same_muted(some: &[MutedAlert], others: &[MutedAlert]) -> bool
-    ensures { IsTrue result → some.now ≡ others.now }
-{
-    if some.len() != others.len() {
-        return false;
-    }
-    for place in 0..some.len() {
-        if !is_same_muted(&some[place], &others[place]) {
-            return false;
-        }
-    }
-    true
-}
-
-fn is_same_muted(one: &MutedAlert, other: &MutedAlert) -> bool
-    ensures { IsTrue result → one.now ≡ other.now }
-{
-    is_same_set(&one.labels, &other.labels) && is_same_cause(&one.cause, &other.cause)
-}
-
-fn is_same_set(one: &Labels, other: &Labels) -> bool
-    ensures { IsTrue result → one.now ≡ other.now }
-{
-    one == other
-}
-
-fn is_same_cause(one: &MuteCause, other: &MuteCause) -> bool
-    ensures { IsTrue result → one.now ≡ other.now }
-{
-    match one {
-        MuteCause::Silenced { id, until } => is_silenced_by(*id, *until, other),
-        MuteCause::Inhibited { rule, by } => is_inhibited_by(*rule, by, other),
-    }
-}
-
-fn is_silenced_by(id: u64, until: u64, cause: &MuteCause) -> bool
-    ensures { IsTrue result → Silenced id until ≡ cause.now }
-{
-    match cause {
-        MuteCause::Silenced {
-            id: other,
-            until: end,
-        } => id == *other && until == *end,
-        MuteCause::Inhibited { .. } => false,
-    }
-}
-
-fn is_inhibited_by(rule: usize, by: &Labels, cause: &MuteCause) -> bool
-    ensures { IsTrue result → Inhibited rule by.now ≡ cause.now }
-{
-    match cause {
-        MuteCause::Silenced { .. } => false,
-        MuteCause::Inhibited {
-            rule: other,
-            by: source,
-        } => rule == *other && is_same_set(by, source),
-    }
 }

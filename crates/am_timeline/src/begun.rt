@@ -14,10 +14,11 @@ use crate::muted::push_muted;
 use crate::playback::{Playback, notice_for, notices_at};
 use am_model::config::Config;
 use am_model::notice::Notice;
-use am_model::preview::{MutedAlert, Preview};
+use am_model::preview::MutedAlert;
 use am_model::reason::Reason;
 use am_terms::clock::TimeFormat;
 use am_terms::event::PreviewedBegin;
+use am_terms::shared_preview::SharedPreview;
 use std::alloc::AllocError;
 
 /// Adds the lines on a begin: the muted alerts, and each integration that isn't notified, with its
@@ -32,7 +33,7 @@ pub(crate) fn push_begun<C: TimeFormat>(
     ensures { OnOk result (string_bytes out.new
         ≡ string_bytes out.old ++ begun_lines playback.now (C.times clock.now) frame.now begin.now) }
 {
-    if nothing_left(begin.preview.reasons.as_slice()) {
+    if nothing_left(begin.preview.reasons()) {
         return push_left(playback.config, clock, frame, &begin.preview, out);
     }
     push_muted_line(playback.config, clock, frame, &begin.preview, out)?;
@@ -67,16 +68,16 @@ fn push_left<C: TimeFormat>(
     config: &Config,
     clock: &C,
     frame: &Frame<'_>,
-    preview: &Preview,
+    preview: &SharedPreview,
     out: &mut String,
 ) -> Result<(), AllocError>
     ensures { OnOk result (string_bytes out.new
         ≡ string_bytes out.old ++ nothing_left_line config.now (C.times clock.now) frame.now preview.now) }
 {
     push_time(clock, frame.moment, "quiet   ", out)?;
-    push_group(config, &preview.group, out)?;
+    push_group(config, preview.group(), out)?;
     out.push_str(": ")?;
-    push_muted_or_none(clock, preview.muted.as_slice(), out)?;
+    push_muted_or_none(clock, preview.muted(), out)?;
     out.push_str(frame.ending)
 }
 
@@ -99,19 +100,19 @@ fn push_muted_line<C: TimeFormat>(
     config: &Config,
     clock: &C,
     frame: &Frame<'_>,
-    preview: &Preview,
+    preview: &SharedPreview,
     out: &mut String,
 ) -> Result<(), AllocError>
     ensures { OnOk result (string_bytes out.new
         ≡ string_bytes out.old ++ muted_line config.now (C.times clock.now) frame.now preview.now) }
 {
-    if preview.muted.len() == 0 {
+    if preview.muted().len() == 0 {
         return Ok(());
     }
     push_time(clock, frame.moment, "muted   ", out)?;
-    push_group(config, &preview.group, out)?;
+    push_group(config, preview.group(), out)?;
     out.push_str(": ")?;
-    push_muted(clock, preview.muted.as_slice(), out)?;
+    push_muted(clock, preview.muted(), out)?;
     out.push_str(frame.ending)
 }
 
@@ -120,14 +121,14 @@ fn push_asked<C: TimeFormat>(
     config: &Config,
     clock: &C,
     frame: &Frame<'_>,
-    preview: &Preview,
+    preview: &SharedPreview,
     notices: &[Notice],
     out: &mut String,
 ) -> Result<(), AllocError>
     ensures { OnOk result (string_bytes out.new
         ≡ string_bytes out.old ++ asked_lines config.now (C.times clock.now) frame.now preview.now notices.now) }
 {
-    if preview.reasons.len() == 0 {
+    if preview.reasons().len() == 0 {
         return push_unasked(config, clock, frame, preview, "no integrations", out);
     }
     push_quiet_lines(config, clock, frame, preview, notices, out)
@@ -137,14 +138,14 @@ fn push_quiet_lines<C: TimeFormat>(
     config: &Config,
     clock: &C,
     frame: &Frame<'_>,
-    preview: &Preview,
+    preview: &SharedPreview,
     notices: &[Notice],
     out: &mut String,
 ) -> Result<(), AllocError>
     ensures { OnOk result (string_bytes out.new ≡ string_bytes out.old
         ++ quiet_lines config.now (C.times clock.now) frame.now preview.now notices.now 0 preview.now.reasons) }
 {
-    for (position, reason) in preview.reasons.as_slice().iter().enumerate() {
+    for (position, reason) in preview.reasons().iter().enumerate() {
         push_quiet(
             config, clock, frame, preview, notices, position, reason, out,
         )?;
@@ -157,7 +158,7 @@ fn push_quiet<C: TimeFormat>(
     config: &Config,
     clock: &C,
     frame: &Frame<'_>,
-    preview: &Preview,
+    preview: &SharedPreview,
     notices: &[Notice],
     position: usize,
     reason: &Reason,
@@ -180,7 +181,7 @@ fn push_not_asked<C: TimeFormat>(
     config: &Config,
     clock: &C,
     frame: &Frame<'_>,
-    preview: &Preview,
+    preview: &SharedPreview,
     position: usize,
     reason: &Reason,
     out: &mut String,
@@ -197,7 +198,7 @@ fn push_untold<C: TimeFormat>(
     config: &Config,
     clock: &C,
     frame: &Frame<'_>,
-    preview: &Preview,
+    preview: &SharedPreview,
     position: usize,
     why: &str,
     out: &mut String,
@@ -214,7 +215,7 @@ fn push_untold_front<C: TimeFormat>(
     config: &Config,
     clock: &C,
     frame: &Frame<'_>,
-    preview: &Preview,
+    preview: &SharedPreview,
     position: usize,
     out: &mut String,
 ) -> Result<(), AllocError>
@@ -222,7 +223,7 @@ fn push_untold_front<C: TimeFormat>(
         ++ not_sent_text config.now (C.times clock.now) frame.now preview.now position) }
 {
     push_time(clock, frame.moment, "quiet   ", out)?;
-    push_target(config, &preview.group, position, out)?;
+    push_target(config, preview.group(), position, out)?;
     out.push_str(": ")
 }
 
@@ -241,7 +242,7 @@ fn push_unasked<C: TimeFormat>(
     config: &Config,
     clock: &C,
     frame: &Frame<'_>,
-    preview: &Preview,
+    preview: &SharedPreview,
     why: &str,
     out: &mut String,
 ) -> Result<(), AllocError>
@@ -249,7 +250,7 @@ fn push_unasked<C: TimeFormat>(
         ≡ string_bytes out.old ++ no_integrations_line config.now (C.times clock.now) frame.now preview.now why.now) }
 {
     push_time(clock, frame.moment, "quiet   ", out)?;
-    push_group_receiver(config, &preview.group, out)?;
+    push_group_receiver(config, preview.group(), out)?;
     out.push_str(": ")?;
     out.push_str(why)?;
     out.push_str(frame.ending)

@@ -2,8 +2,9 @@
 ghost use Rattle.std.specs.Prelude.{◌≡◌, IfOk, filter};
 ghost use Rattle.am_timeline.specs.Changed.{begins_compared, is_change};
 
+use crate::fold_list::Folds;
 use crate::playback::Playback;
-use crate::runs::{Fold, begins_compared};
+use crate::runs::begins_compared;
 use am_terms::clock::TimeFormat;
 use am_terms::event::Event;
 use std::alloc::{AllocError, Global};
@@ -20,27 +21,27 @@ pub fn changed_events<C: TimeFormat>(
         ≡ filter (is_change (begins_compared playback.now (C.times clock.now))) playback.now.events) }
 {
     let folds = begins_compared(alloc, playback, clock)?;
-    new_events(alloc, folds.as_slice(), playback.events)
+    new_events(alloc, &folds, playback.events)
 }
 
-fn new_events(alloc: Global, folds: &[Fold], events: &[Event]) -> Result<Vec<Event>, AllocError>
+fn new_events(alloc: Global, folds: &Folds, events: &[Event]) -> Result<Vec<Event>, AllocError>
     ensures { IfOk result (λ kept. kept.items ≡ filter (is_change folds.now) events.now) }
 {
     let mut kept = Vec::new(alloc);
     for event in events {
         if is_change(folds, event) {
-            kept.push(*event)?;
+            kept.push(event.copy(alloc)?)?;
         }
     }
     Ok(kept)
 }
 
 /// Whether an event says something new, with what becomes of each begin.
-fn is_change(folds: &[Fold], event: &Event) -> bool
+fn is_change(folds: &Folds, event: &Event) -> bool
     ensures { result ≡ is_change folds.now event.now }
 {
     match event {
-        Event::Begun { begin } => match folds.get(*begin) {
+        Event::Begun { begin } => match folds.get(*begin as usize) {
             None => true,
             Some(fold) => fold.is_first,
         },

@@ -200,7 +200,7 @@ fn told_by<C: TimeFormat>(
     push_alerts("; firing ", notice.firing.as_slice(), &mut alerts)?;
     push_alerts("; resolved ", notice.resolved.as_slice(), &mut alerts)?;
     let mut reason = String::new(alloc);
-    if let Some(why) = sent.begin.preview.reasons.as_slice().get(place) {
+    if let Some(why) = sent.begin.preview.reasons().get(place) {
         push_sent_reason(clock, expiry_before(playback, sent), why, &mut reason)?;
     }
     Ok(Told {

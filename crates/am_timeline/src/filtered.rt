@@ -112,7 +112,7 @@ fn wanted_events(
     let mut kept = Vec::new(alloc);
     for event in events {
         if concerns(playback, wanted, groups, event) {
-            kept.push(*event)?;
+            kept.push(event.copy(alloc)?)?;
         }
     }
     Ok(kept)
@@ -129,8 +129,8 @@ fn concerns(
     ensures { result ≡ concerns playback.now wanted.now event.now }
 {
     match event {
-        Event::Begun { begin } => is_wanted_at(playback, wanted, groups, *begin),
-        Event::Sent { begin, .. } => is_wanted_at(playback, wanted, groups, *begin),
+        Event::Begun { begin } => is_wanted_at(playback, wanted, groups, *begin as usize),
+        Event::Sent { begin, .. } => is_wanted_at(playback, wanted, groups, *begin as usize),
     }
 }
 
@@ -146,7 +146,7 @@ fn is_wanted_at(
 {
     match playback.begins.get(position) {
         None => true,
-        Some(begin) => is_wanted(playback, wanted, groups, &begin.preview.group),
+        Some(begin) => is_wanted(playback, wanted, groups, begin.preview.group()),
     }
 }
 

@@ -18,11 +18,11 @@ use crate::playback::{Playback, notices_at};
 use crate::sent::{Sent, expiry_before, sent_of};
 use am_model::config::Config;
 use am_model::notice::Notice;
-use am_model::preview::Preview;
 use am_model::reason::Reason;
 use am_retry::Outcome;
 use am_terms::clock::TimeFormat;
 use am_terms::event::{Event, PreviewedBegin};
+use am_terms::shared_preview::SharedPreview;
 use object::{Object, muted_list, sets_of};
 use std::alloc::{AllocError, Global};
 
@@ -61,7 +61,7 @@ fn push_event<C: TimeFormat>(
         ≡ string_bytes out.old ++ json_of_event playback.now (C.times clock.now) event.now) }
 {
     match event {
-        Event::Begun { begin } => match playback.begins.get(*begin) {
+        Event::Begun { begin } => match playback.begins.get(*begin as usize) {
             None => Ok(()),
             Some(begin) => push_begun(alloc, playback, clock, begin, out),
         },
@@ -98,7 +98,7 @@ fn push_sent<C: TimeFormat>(
         ≡ string_bytes out.old ++ json_of_sent playback.now (C.times clock.now) sent.now) }
 {
     let notice = sent.notice;
-    let reasons = sent.begin.preview.reasons.as_slice();
+    let reasons = sent.begin.preview.reasons();
     match reasons.get(notice.integration as usize) {
         None => Ok(()),
         Some(reason) => push_sent_for(alloc, playback, clock, sent, reason, out),
@@ -194,7 +194,7 @@ fn put_since(sent: &Sent, object: &mut Object) -> Result<(), AllocError>
     ensures { OnOk result (members_view object.new.members.entries
         ≡ put_all (members_view object.old.members.entries) (number_at (codes "since") sent.now.begin.preview.moment ∷ [])) }
 {
-    object.put_number("since", sent.begin.preview.moment)
+    object.put_number("since", sent.begin.preview.moment())
 }
 
 /// Puts the deadline of a notice whose sending ended after it.
@@ -311,7 +311,7 @@ fn push_begun<C: TimeFormat>(
         ≡ string_bytes out.old ++ json_of_begun playback.now (C.times clock.now) begin.now) }
 {
     let preview = &begin.preview;
-    if nothing_left(preview.reasons.as_slice()) {
+    if nothing_left(preview.reasons()) {
         return push_left(alloc, playback.config, clock, preview, out);
     }
     push_muted(alloc, playback.config, clock, preview, out)?;
@@ -324,7 +324,7 @@ fn push_left<C: TimeFormat>(
     alloc: Global,
     config: &Config,
     clock: &C,
-    preview: &Preview,
+    preview: &SharedPreview,
     out: &mut String,
 ) -> Result<(), AllocError>
     ensures { OnOk result (string_bytes out.new
@@ -338,7 +338,7 @@ fn left_object<C: TimeFormat>(
     alloc: Global,
     config: &Config,
     clock: &C,
-    preview: &Preview,
+    preview: &SharedPreview,
 ) -> Result<Object, AllocError>
     ensures { IfOk result (λ o. members_view o.members.entries
         ≡ put_all no_members (left_members config.now (C.times clock.now) preview.now)) }
@@ -354,13 +354,13 @@ fn push_muted<C: TimeFormat>(
     alloc: Global,
     config: &Config,
     clock: &C,
-    preview: &Preview,
+    preview: &SharedPreview,
     out: &mut String,
 ) -> Result<(), AllocError>
     ensures { OnOk result (string_bytes out.new
         ≡ string_bytes out.old ++ json_of_muted config.now (C.times clock.now) preview.now) }
 {
-    if preview.muted.len() == 0 {
+    if preview.muted().len() == 0 {
         return Ok(());
     }
     let object = muted_object(alloc, config, clock, preview)?;
@@ -372,7 +372,7 @@ fn muted_object<C: TimeFormat>(
     alloc: Global,
     config: &Config,
     clock: &C,
-    preview: &Preview,
+    preview: &SharedPreview,
 ) -> Result<Object, AllocError>
     ensures { IfOk result (λ o. members_view o.members.entries
         ≡ put_all no_members (muted_members config.now (C.times clock.now) preview.now)) }
@@ -383,11 +383,11 @@ fn muted_object<C: TimeFormat>(
 }
 
 /// Puts the muted alerts of a begin.
-fn put_muted(alloc: Global, preview: &Preview, object: &mut Object) -> Result<(), AllocError>
+fn put_muted(alloc: Global, preview: &SharedPreview, object: &mut Object) -> Result<(), AllocError>
     ensures { OnOk result (members_view object.new.members.entries
         ≡ put_all (members_view object.old.members.entries) (muted_member preview.now ∷ [])) }
 {
-    object.put("muted", muted_list(alloc, preview.muted.as_slice())?)
+    object.put("muted", muted_list(alloc, preview.muted())?)
 }
 
 /// Adds the lines on the integrations at a begin.
@@ -395,14 +395,14 @@ fn push_asked<C: TimeFormat>(
     alloc: Global,
     config: &Config,
     clock: &C,
-    preview: &Preview,
+    preview: &SharedPreview,
     notices: &[Notice],
     out: &mut String,
 ) -> Result<(), AllocError>
     ensures { OnOk result (string_bytes out.new
         ≡ string_bytes out.old ++ json_of_asked config.now (C.times clock.now) preview.now notices.now) }
 {
-    if preview.reasons.len() == 0 {
+    if preview.reasons().len() == 0 {
         return push_unasked(alloc, config, clock, preview, out);
     }
     push_quiet_lines(alloc, config, clock, preview, notices, out)
@@ -413,7 +413,7 @@ fn push_unasked<C: TimeFormat>(
     alloc: Global,
     config: &Config,
     clock: &C,
-    preview: &Preview,
+    preview: &SharedPreview,
     out: &mut String,
 ) -> Result<(), AllocError>
     ensures { OnOk result (string_bytes out.new
@@ -428,13 +428,13 @@ fn unasked_object<C: TimeFormat>(
     alloc: Global,
     config: &Config,
     clock: &C,
-    preview: &Preview,
+    preview: &SharedPreview,
 ) -> Result<Object, AllocError>
     ensures { IfOk result (λ o. members_view o.members.entries
         ≡ put_all no_members (unasked_members config.now (C.times clock.now) preview.now)) }
 {
     let mut object = begun_object(alloc, config, clock, "quiet", preview)?;
-    object.put_receiver(config, &preview.group)?;
+    object.put_receiver(config, preview.group())?;
     object.put_text("reason", "no integrations")?;
     Ok(object)
 }
@@ -443,14 +443,14 @@ fn push_quiet_lines<C: TimeFormat>(
     alloc: Global,
     config: &Config,
     clock: &C,
-    preview: &Preview,
+    preview: &SharedPreview,
     notices: &[Notice],
     out: &mut String,
 ) -> Result<(), AllocError>
     ensures { OnOk result (string_bytes out.new ≡ string_bytes out.old
         ++ json_of_reasons config.now (C.times clock.now) preview.now notices.now 0 preview.now.reasons) }
 {
-    for (position, reason) in preview.reasons.as_slice().iter().enumerate() {
+    for (position, reason) in preview.reasons().iter().enumerate() {
         push_quiet(
             alloc, config, clock, preview, notices, position, reason, out,
         )?;
@@ -463,7 +463,7 @@ fn push_quiet<C: TimeFormat>(
     alloc: Global,
     config: &Config,
     clock: &C,
-    preview: &Preview,
+    preview: &SharedPreview,
     notices: &[Notice],
     position: usize,
     reason: &Reason,
@@ -484,7 +484,7 @@ fn quiet_object<C: TimeFormat>(
     alloc: Global,
     config: &Config,
     clock: &C,
-    preview: &Preview,
+    preview: &SharedPreview,
     position: usize,
     reason: &Reason,
 ) -> Result<Object, AllocError>
@@ -492,7 +492,7 @@ fn quiet_object<C: TimeFormat>(
         ≡ put_all no_members (quiet_members config.now (C.times clock.now) preview.now position reason.now)) }
 {
     let mut object = begun_object(alloc, config, clock, "quiet", preview)?;
-    object.put_integration(config, &preview.group, position)?;
+    object.put_integration(config, preview.group(), position)?;
     put_quiet_reason(reason, &mut object)?;
     Ok(object)
 }
@@ -513,10 +513,17 @@ fn begun_object<C: TimeFormat>(
     config: &Config,
     clock: &C,
     event: &str,
-    preview: &Preview,
+    preview: &SharedPreview,
 ) -> Result<Object, AllocError>
     ensures { IfOk result (λ o. members_view o.members.entries
         ≡ put_all no_members (begun_members config.now (C.times clock.now) event.now preview.now)) }
 {
-    Object::new(alloc, config, clock, event, preview.moment, &preview.group)
+    Object::new(
+        alloc,
+        config,
+        clock,
+        event,
+        preview.moment(),
+        preview.group(),
+    )
 }

@@ -12,7 +12,7 @@ ghost use Rattle.am_model.specs.Notice.{is_nothing};
 ghost use Rattle.am_model.specs.State.{same_name};
 ghost use Rattle.am_model.specs.declared.group.GroupName as named;
 ghost use Rattle.am_timeline.specs.Changed.{begins_compared};
-ghost use Rattle.am_timeline.specs.Runs.{HasLines, IsComparedAs, are_same_lines, begins_folded, flush_by, flushes_by, folds_of, group_of};
+ghost use Rattle.am_timeline.specs.Runs.{HasLines, IsComparedAs, are_same_lines, begins_folded, flush_by, flushes_by, folds_in, folds_of, group_of};
 ghost use Rattle.am_timeline.specs.Runs.{kept_next, kept_of, lines_by, quiet_text, run_by, runs_of, sends_nothing, start_frame};
 ghost use Rattle.am_timeline.specs.Runs.{with_runs};
 ghost use Rattle.am_terms.specs.TimeFormatData.{TimeFormatData};
@@ -20,6 +20,7 @@ ghost use Rattle.am_timeline.specs.Timeline.{begun_lines};
 
 use crate::alike::are_alike;
 use crate::begun::push_begun;
+use crate::fold_list::Folds;
 use crate::frame::Frame;
 use crate::playback::{Playback, notices_at};
 use am_model::group::GroupName;
@@ -69,8 +70,8 @@ pub(crate) fn begins_folded<C: TimeFormat>(
     alloc: Global,
     playback: &Playback,
     clock: &C,
-) -> Result<Vec<Fold>, AllocError>
-    ensures { IfOk result (λ folds. folds.items ≡ begins_folded playback.now (C.times clock.now)) }
+) -> Result<Folds, AllocError>
+    ensures { IfOk result (λ folds. folds ≡ begins_folded playback.now (C.times clock.now)) }
 {
     folded(alloc, playback, clock, false)
 }
@@ -81,8 +82,8 @@ pub(crate) fn begins_compared<C: TimeFormat>(
     alloc: Global,
     playback: &Playback,
     clock: &C,
-) -> Result<Vec<Fold>, AllocError>
-    ensures { IfOk result (λ folds. folds.items ≡ begins_compared playback.now (C.times clock.now)) }
+) -> Result<Folds, AllocError>
+    ensures { IfOk result (λ folds. folds ≡ begins_compared playback.now (C.times clock.now)) }
 {
     folded(alloc, playback, clock, true)
 }
@@ -93,12 +94,13 @@ fn folded<C: TimeFormat>(
     playback: &Playback,
     clock: &C,
     all: bool,
-) -> Result<Vec<Fold>, AllocError>
-    ensures { IfOk result (λ folds. folds.items
+) -> Result<Folds, AllocError>
+    ensures { IfOk result (λ folds. folds
         ≡ folds_of [] (flushes_by all playback.now (C.times clock.now))) }
 {
     let runs = runs_of(alloc, playback, clock, all)?;
-    with_runs(alloc, playback.begins(), runs.as_slice())
+    let firsts = firsts_of(alloc, playback.begins(), runs.as_slice())?;
+    Ok(Folds::new(firsts, runs))
 }
 
 /// Returns the run of each begin.
@@ -165,14 +167,14 @@ fn add<C: TimeFormat>(
         (kept_next (get same_name table.old begin.now.preview.group)))
         else get same_name table.old name)) }
 {
-    match table.get_mut(&begin.preview.group) {
+    match table.get_mut(begin.preview.group()) {
         Some(next) => put_before(alloc, playback, clock, all, place, begin, next),
         None => {
             let lines = lines_by(alloc, playback, clock, all, begin)?;
-            let run = alone(begin.preview.moment);
+            let run = alone(begin.preview.moment());
             insert(
                 alloc,
-                &begin.preview.group,
+                begin.preview.group(),
                 Next { place, lines, run },
                 table,
             )?;
@@ -200,7 +202,7 @@ fn put_before<C: TimeFormat>(
     ensures next { OnOk result (next.new
         ≡ kept_of place (flush_by all playback.now (C.times clock.now) begin.now) (Some next.old.1)) }
 {
-    let moment = begin.preview.moment;
+    let moment = begin.preview.moment();
     let limit = playback.begins.len();
     if is_compared_as(playback, all, begin, next.place) {
         return Ok(keep(place, moment, limit, next));
@@ -365,24 +367,24 @@ fn are_same_lines(some: &str, others: &str) -> bool
     some.len() != 0 && some == others
 }
 
-/// Returns what becomes of each of these begins, which have these runs: one begins its run if the one before it in its group has
-/// a run of one.
-fn with_runs(
+/// Returns whether each of these begins, which have these runs, begins its run: if the one before it in its group has a run of
+/// one.
+fn firsts_of(
     alloc: Global,
     begins: &[PreviewedBegin],
     runs: &[Run],
-) -> Result<Vec<Fold>, AllocError>
+) -> Result<Vec<bool>, AllocError>
     requires { length begins.now ≡ length runs.now }
-    ensures { IfOk result (λ folds. folds.items ≡ with_runs [] (map group_of begins.now) runs.now) }
+    ensures { IfOk result (λ firsts. folds_in firsts.items runs.now ≡ with_runs [] (map group_of begins.now) runs.now) }
 {
     let mut last = HashMap::new(alloc);
-    let mut folds = Vec::new(alloc);
+    let mut firsts = Vec::new(alloc);
     for place in 0..begins.len() {
-        let run = runs[place];
-        let is_first = put_last(alloc, &begins[place].preview.group, run, &mut last)?;
-        folds.push(Fold { is_first, run })?;
+        let group = begins[place].preview.group();
+        let is_first = put_last(alloc, group, runs[place], &mut last)?;
+        firsts.push(is_first)?;
     }
-    Ok(folds)
+    Ok(firsts)
 }
 
 /// Puts the run of a group's last flush into a table of those of all groups, and returns whether the flush begins its run: none

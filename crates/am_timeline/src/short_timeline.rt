@@ -5,6 +5,7 @@ ghost use Rattle.am_timeline.specs.Runs.{begins_folded, count_text, folded_begun
 ghost use Rattle.am_timeline.specs.Runs.{short_timeline_text, until_text};
 
 use crate::begun::push_begun;
+use crate::fold_list::Folds;
 use crate::frame::Frame;
 use crate::playback::Playback;
 use crate::runs::{Fold, Run, begins_folded};
@@ -26,7 +27,7 @@ pub fn short_timeline_text<C: TimeFormat>(
     ensures { IfOk result (λ text. string_bytes text ≡ short_timeline_text playback.now (C.times clock.now)) }
 {
     let folds = begins_folded(alloc, playback, clock)?;
-    folded_text(alloc, playback, clock, folds.as_slice())
+    folded_text(alloc, playback, clock, &folds)
 }
 
 /// Returns the lines on all events, with what becomes of each begin.
@@ -34,7 +35,7 @@ fn folded_text<C: TimeFormat>(
     alloc: Global,
     playback: &Playback,
     clock: &C,
-    folds: &[Fold],
+    folds: &Folds,
 ) -> Result<String, AllocError>
     ensures { IfOk result (λ text. string_bytes text
         ≡ flat_map (folded_event_lines playback.now (C.times clock.now) folds.now) playback.now.events) }
@@ -51,7 +52,7 @@ fn push_folded_event<C: TimeFormat>(
     alloc: Global,
     playback: &Playback,
     clock: &C,
-    folds: &[Fold],
+    folds: &Folds,
     event: &Event,
     out: &mut String,
 ) -> Result<(), AllocError>
@@ -59,7 +60,9 @@ fn push_folded_event<C: TimeFormat>(
         ≡ string_bytes out.old ++ folded_event_lines playback.now (C.times clock.now) folds.now event.now) }
 {
     match event {
-        Event::Begun { begin } => push_folded_begun(alloc, playback, clock, folds, *begin, out),
+        Event::Begun { begin } => {
+            push_folded_begun(alloc, playback, clock, folds, *begin as usize, out)
+        }
         Event::Sent { .. } => push_sent_by(playback, clock, event, out),
     }
 }
@@ -69,7 +72,7 @@ fn push_folded_begun<C: TimeFormat>(
     alloc: Global,
     playback: &Playback,
     clock: &C,
-    folds: &[Fold],
+    folds: &Folds,
     position: usize,
     out: &mut String,
 ) -> Result<(), AllocError>
@@ -80,7 +83,7 @@ fn push_folded_begun<C: TimeFormat>(
         None => Ok(()),
         Some(begin) => match folds.get(position) {
             None => Ok(()),
-            Some(fold) => push_folded(alloc, playback, clock, begin, fold, out),
+            Some(fold) => push_folded(alloc, playback, clock, begin, &fold, out),
         },
     }
 }
@@ -102,7 +105,7 @@ fn push_folded<C: TimeFormat>(
     }
     let ending = ending_of(alloc, clock, &fold.run)?;
     let frame = Frame {
-        moment: begin.preview.moment,
+        moment: begin.preview.moment(),
         ending: ending.as_str(),
     };
     push_begun(playback, clock, &frame, begin, out)

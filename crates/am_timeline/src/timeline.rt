@@ -49,7 +49,7 @@ fn push_event<C: TimeFormat>(
         ≡ string_bytes out.old ++ event_lines playback.now (C.times clock.now) event.now) }
 {
     match event {
-        Event::Begun { begin } => match playback.begins.get(*begin) {
+        Event::Begun { begin } => match playback.begins.get(*begin as usize) {
             None => Ok(()),
             Some(begin) => push_own(playback, clock, begin, out),
         },
@@ -68,7 +68,7 @@ fn push_own<C: TimeFormat>(
         ≡ string_bytes out.old ++ own_lines playback.now (C.times clock.now) begin.now) }
 {
     let frame = Frame {
-        moment: begin.preview.moment,
+        moment: begin.preview.moment(),
         ending: "\n",
     };
     push_begun(playback, clock, &frame, begin, out)
@@ -101,7 +101,7 @@ pub(crate) fn push_sent<C: TimeFormat>(
         ≡ string_bytes out.old ++ sent_line playback.now (C.times clock.now) sent.now) }
 {
     let notice = sent.notice;
-    let reasons = sent.begin.preview.reasons.as_slice();
+    let reasons = sent.begin.preview.reasons();
     match reasons.get(notice.integration as usize) {
         None => Ok(()),
         Some(reason) => push_line(playback, clock, sent, reason, out),
@@ -160,7 +160,12 @@ fn push_delivery<C: TimeFormat>(
     push_time(clock, sent.report.ended, "notice  ", out)?;
     push_target(config, &notice.group, notice.integration as usize, out)?;
     out.push_str(" delivered")?;
-    push_retries(clock, sent.report.attempts, sent.begin.preview.moment, out)?;
+    push_retries(
+        clock,
+        sent.report.attempts,
+        sent.begin.preview.moment(),
+        out,
+    )?;
     push_if_late(clock, sent, out)
 }
 
@@ -179,7 +184,12 @@ fn push_failure<C: TimeFormat>(
     push_time(clock, sent.report.ended, "failed  ", out)?;
     push_target(config, &notice.group, notice.integration as usize, out)?;
     out.push_str(word)?;
-    push_attempts(clock, sent.report.attempts, sent.begin.preview.moment, out)?;
+    push_attempts(
+        clock,
+        sent.report.attempts,
+        sent.begin.preview.moment(),
+        out,
+    )?;
     push_if_late(clock, sent, out)
 }
 

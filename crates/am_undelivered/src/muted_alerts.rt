@@ -55,8 +55,8 @@ impl MutedAlerts {
         let mut mutes = HashMap::new(alloc);
         let mut added = GhostList::new();
         for begin in begins {
-            let muted = begin.preview.muted.as_slice();
-            add_mutes(alloc, begin.preview.moment, muted, &mut mutes)?;
+            let muted = begin.preview.muted();
+            add_mutes(alloc, begin.preview.moment(), muted, &mut mutes)?;
         }
         added.add_all(begins);
         Ok(MutedAlerts {

@@ -11,9 +11,9 @@ use am_alerts::alert::Alert;
 use am_ghost::GhostList;
 use am_model::config::Config;
 use am_model::group::GroupName;
-use am_model::preview::Preview;
 use am_model::reason::Reason;
 use am_terms::event::PreviewedBegin;
+use am_terms::shared_preview::SharedPreview;
 use std::alloc::{AllocError, Global};
 use std::collections::HashMap;
 use std::marker::Model;
@@ -67,7 +67,7 @@ impl RouteMutes {
         ensures { OnOk result (self.new ≡ self.old ++ begin.now ∷ []) }
     {
         if let Some(mute) = route_mute_of(&begin.preview) {
-            let group = begin.preview.group.copy(self.alloc)?;
+            let group = begin.preview.group().copy(self.alloc)?;
             self.mutes.insert(group, mute)?;
         }
         self.added.add(begin);
@@ -127,13 +127,13 @@ impl RouteMutes {
 }
 
 /// Returns what a begin finds of its route, if that is muted: all reasons say the same.
-fn route_mute_of(preview: &Preview) -> Option<RouteMute>
+fn route_mute_of(preview: &SharedPreview) -> Option<RouteMute>
     ensures { result ≡ route_mute_of preview.now }
 {
-    let reason = preview.reasons.as_slice().first()?;
+    let reason = preview.reasons().first()?;
     let until = mute_end(reason)?;
     Some(RouteMute {
-        begun: preview.moment,
+        begun: preview.moment(),
         until,
     })
 }

@@ -69,7 +69,7 @@ fn add_loaded(set: &mut LabelSets, record: &Record) -> Result<(), AllocError>
         return Ok(());
     }
     match &record.call {
-        Call::Load { now: _, row } => add_row(set, row.row()),
+        Call::Load { now: _, row } => add_row(set, row.get()),
         _ => Ok(()),
     }
 }

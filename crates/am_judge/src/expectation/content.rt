@@ -120,7 +120,7 @@ fn is_sent_for(playback: &Playback, reason: SentReason, sent: &Sent) -> bool
     ensures { result ≡ is_sent_for playback.now reason sent.now }
 {
     let notice = sent.notice;
-    let reasons = sent.begin.preview.reasons.as_slice();
+    let reasons = sent.begin.preview.reasons();
     match reasons.get(notice.integration as usize) {
         None => false,
         Some(own) => sent_words(expiry_before(playback, sent), own) == reason.words(),

@@ -161,7 +161,7 @@ fn push_reason_of(playback: &Playback, sent: &Sent, out: &mut String) -> Result<
         ≡ string_bytes out.old ++ sent_reason_text playback.now sent.now) }
 {
     let notice = sent.notice;
-    let reasons = sent.begin.preview.reasons.as_slice();
+    let reasons = sent.begin.preview.reasons();
     match reasons.get(notice.integration as usize) {
         None => Ok(()),
         Some(own) => push_reason_part(sent_words(expiry_before(playback, sent), own), out),

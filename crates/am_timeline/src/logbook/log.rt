@@ -203,7 +203,7 @@ fn add_logged(
             None => Ok(()),
             Some(flush) => log_note(alloc, flush.begin, *integration as usize, moment, logged),
         },
-        Call::Load { row, .. } => log_load(alloc, row.row(), &added.reply, logged),
+        Call::Load { row, .. } => log_load(alloc, row.get(), &added.reply, logged),
         _ => Ok(()),
     }
 }
@@ -288,7 +288,7 @@ fn log_finish(
         Reply::Flush { group, notices, .. } => log_notices(
             alloc,
             group,
-            notices.as_slice(),
+            notices.get().as_slice(),
             number,
             outcomes,
             noted,

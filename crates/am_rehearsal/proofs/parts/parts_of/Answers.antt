@@ -1,8 +1,8 @@
-use Rattle.std.proofs.Common.{◌≡◌, ◌∙◌, List, [], ◌∷◌, ◌++◌, ap, sym}
+use Rattle.std.proofs.Common.{◌≡◌, ◌∙◌, [], ◌∷◌, ◌++◌, ap, sym}
 use Rattle.std.proofs.lemmas.Iterator.Adapters.{YieldsList-from_vec}
 use Rattle.std.proofs.lemmas.Iterator.Consumers.{YieldsList-end}
 use Rattle.std.proofs.lemmas.List.{append-nil, map-id}
-use Rattle.am_rehearsal.specs.Parts.{PartData, after, cut_at, parts_from, whole_part}
+use Rattle.am_rehearsal.specs.Parts.{PartData, cut_at, parts_from, whole_part}
 use Rattle.am_rehearsal.proofs.Parting.{parts_more}
 use Rattle.am_rehearsal.proofs.parts.parts_of.Goals as goal
 

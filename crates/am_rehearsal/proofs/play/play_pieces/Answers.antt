@@ -23,8 +23,8 @@ into_played-requires g c =
     let none = (next_none (setting_in c.in_ok-course.course) (scene_in last) c.in-Ok.ensures.over).0 in
     last.sendings.ok.0 ∙ ap length none
 
-pub returns-in-Ok-clause-played : goal.returns-in-Ok-clause-played
-returns-in-Ok-clause-played g c =
+pub returns-in_ok-into_played-in-Ok-clause-played : goal.returns-in_ok-into_played-in-Ok-clause-played
+returns-in_ok-into_played-in-Ok-clause-played g c =
     let config = c.args.config in
     let plans = c.args.plans.items in
     let r : Setting = setting_with c.args.until c.args.maintain c.args.outages.now c.args.span in
@@ -36,8 +36,8 @@ returns-in-Ok-clause-played g c =
       reached = subst (λ (q : Setting). Reaches q (opening_scene r config plans) last) set
           (subst (λ (s : Scene). Reaches (setting_in was) s last) c.in_ok-course.ensures.scene c.in-Ok.ensures.reached);
       over = subst (λ (q : Setting). next q last ≡ None) set c.in-Ok.ensures.over;
-      board_is = c.into_played.ensures.board;
-      events_are = c.into_played.ensures.events;
+      board_is = c.in_ok-into_played-in-Ok.ensures.board;
+      events_are = c.in_ok-into_played-in-Ok.ensures.events;
     }
 
 pub returns-in_err-course-clause-refused : goal.returns-in_err-course-clause-refused

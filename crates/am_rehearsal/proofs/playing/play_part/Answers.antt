@@ -18,7 +18,7 @@ returns-in_err-played-clause-refused g c =
     let x = c.part.inside in
     let before : Option BoardData = option_copied c.args.before in
     let p : PartData = record { config = x.config; span = x.span; until = x.until; plans = x.plans.items; keeps = x.keeps } in
-    let of_log : c.in_ok-plans.plans.items ≡ loads x.span.since (taken_over x.keeps x.config before) = c.in_ok-plans.ensures ∙ ap (λ (rows : List RowView). loads x.span.since rows) c.in_ok-log.ensures.carried in
+    let of_log : c.in_ok-plans.plans.items ≡ loads x.span.since (taken_over x.keeps x.config before) = c.in_ok-plans.ensures ∙ ap (λ (rows : List RowView). loads x.span.since rows) c.in_ok-log.ensures.found in
     let loaded : c.append.new.self.items ≡ loaded_plans before p = c.in_ok-append.ensures.items ∙ ap (λ (ps : List TimedAction). ps ++ x.plans.items) of_log in
     let why : IsWhyNotPart c.args.maintain c.args.outages.now before p c.in_err-played.field-0.0 =
     subst (λ (ps : List TimedAction). IsWhyNot (setting_of_part c.args.maintain c.args.outages.now p) x.config ps c.in_err-played.field-0.0) loaded c.in_err-played.ensures.refused in
@@ -32,7 +32,7 @@ returns-clause-played g c =
     let before : Option BoardData = option_copied c.args.before in
     let p : PartData = record { config = x.config; span = x.span; until = x.until; plans = x.plans.items; keeps = x.keeps } in
     let q : PlayedPart = record { played = c.in_ok-played.played; rows = c.in_ok-log.log.rows; taken = c.in_ok-log.log.taken } in
-    let of_log : c.in_ok-plans.plans.items ≡ loads x.span.since (taken_over x.keeps x.config before) = c.in_ok-plans.ensures ∙ ap (λ (rows : List RowView). loads x.span.since rows) c.in_ok-log.ensures.carried in
+    let of_log : c.in_ok-plans.plans.items ≡ loads x.span.since (taken_over x.keeps x.config before) = c.in_ok-plans.ensures ∙ ap (λ (rows : List RowView). loads x.span.since rows) c.in_ok-log.ensures.found in
     let loaded : c.append.new.self.items ≡ loaded_plans before p = c.in_ok-append.ensures.items ∙ ap (λ (ps : List TimedAction). ps ++ x.plans.items) of_log in
     let plays : PlaysPart c.args.maintain c.args.outages.now before p q =
     record {

@@ -1,19 +1,36 @@
-use Rattle.std.proofs.Common.{◌≡◌, ◌∙◌, ℕ, Bool, Option, IfOk, Some, ap, if◌then◌else◌, subst, sym}
-use Rattle.std.specs.List.{count_by}
+use Rattle.std.proofs.Common.{◌≡◌, ◌∙◌, ℕ, Bool, List, Option, IfOk, Some, [], ap, if◌then◌else◌, subst, sym}
+use Rattle.std.specs.List.{count_by, flat_map}
 use Rattle.std.specs.Option.{option_copied}
 use Rattle.am_board.specs.History.{BoardData, state_at}
+use Rattle.am_model.specs.Rekey.{Reload, rekeyed}
 use Rattle.am_model.specs.Views.{row_views}
-use Rattle.am_rehearsal.specs.Playing.{is_carried, taken_count}
+use Rattle.am_model.specs.declared.views.RowView.{RowView}
+use Rattle.am_rehearsal.specs.Playing.{is_taken, reload_of, taken_count, taken_over}
 use Rattle.am_rehearsal.proofs.playing.take_over.Goals as goal
+
+pub returns-then-keeps_log-clause-found : goal.returns-then-keeps_log-clause-found
+returns-then-keeps_log-clause-found c =
+    let keeps = c.args.keeps in
+    let config = c.args.config.now in
+    let b : BoardData = c.in-Some.board.now in
+    let given : Reload = record { old = c.config.result.now; new = config } in
+    let keeps_it = sym c.keeps_log.ensures ∙ c.if-keeps_log.true in
+    let rows = c.as_slice.ensures.value ∙ c.in_ok-rows-in-Some.ensures in
+    let found : flat_map (rekeyed given) c.as_slice.result.now ≡ flat_map (rekeyed (reload_of b config)) (row_views (state_at b)) = λ i. flat_map (rekeyed (record { old = c.config.ensures.config i; new = config })) (rows i) in
+    let of_board : flat_map (rekeyed (reload_of b config)) (row_views (state_at b)) ≡ taken_over keeps config (Some b) = ap (λ (k : Bool). if k then flat_map (rekeyed (reload_of b config)) (row_views (state_at b)) else []) (sym keeps_it) in
+    let of_before : taken_over keeps config (Some b) ≡ taken_over keeps config (option_copied c.args.before) = ap (λ (o : Option BoardData). taken_over keeps config o) (sym (ap option_copied c.in-Some.is)) in
+    subst (λ (rs : List RowView). IfOk c.find_all.result (λ log. log.found.items ≡ rs)) (found ∙ of_board ∙ of_before) c.find_all.ensures.found
 
 pub returns-then-keeps_log-clause-taken : goal.returns-then-keeps_log-clause-taken
 returns-then-keeps_log-clause-taken c =
     let keeps = c.args.keeps in
+    let at = c.args.at in
     let config = c.args.config.now in
     let b : BoardData = c.in-Some.board.now in
+    let given : Reload = record { old = c.config.result.now; new = config } in
     let keeps_it = sym c.keeps_log.ensures ∙ c.if-keeps_log.true in
     let rows = c.as_slice.ensures.value ∙ c.in_ok-rows-in-Some.ensures in
-    let counted : count_by (is_carried c.config.result.now config) c.as_slice.result.now ≡ count_by (is_carried b.config config) (row_views (state_at b)) = λ i. count_by (is_carried (c.config.ensures.config i) config) (rows i) in
-    let of_board : count_by (is_carried b.config config) (row_views (state_at b)) ≡ taken_count keeps config (Some b) = ap (λ (k : Bool). if k then count_by (is_carried b.config config) (row_views (state_at b)) else 0) (sym keeps_it) in
-    let of_before : taken_count keeps config (Some b) ≡ taken_count keeps config (option_copied c.args.before) = ap (λ (o : Option BoardData). taken_count keeps config o) (sym (ap option_copied c.in-Some.is)) in
-    subst (λ (n : ℕ). IfOk c.carry_all.result (λ log. log.taken ≡ n)) (counted ∙ of_board ∙ of_before) c.carry_all.ensures.taken
+    let counted : count_by (is_taken at given) c.as_slice.result.now ≡ count_by (is_taken at (reload_of b config)) (row_views (state_at b)) = λ i. count_by (is_taken at (record { old = c.config.ensures.config i; new = config })) (rows i) in
+    let of_board : count_by (is_taken at (reload_of b config)) (row_views (state_at b)) ≡ taken_count keeps at config (Some b) = ap (λ (k : Bool). if k then count_by (is_taken at (reload_of b config)) (row_views (state_at b)) else 0) (sym keeps_it) in
+    let of_before : taken_count keeps at config (Some b) ≡ taken_count keeps at config (option_copied c.args.before) = ap (λ (o : Option BoardData). taken_count keeps at config o) (sym (ap option_copied c.in-Some.is)) in
+    subst (λ (n : ℕ). IfOk c.find_all.result (λ log. log.taken ≡ n)) (counted ∙ of_board ∙ of_before) c.find_all.ensures.taken

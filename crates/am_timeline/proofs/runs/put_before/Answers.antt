@@ -15,7 +15,9 @@ returns-then-is_compared_as-clause-run g c =
     subst (λ (p : ℕ). IsComparedAs c.args.all playback begin p) place (c.is_compared_as.ensures c.if-is_compared_as.true) in
     let lines : next.1.0 ≡ lines_by c.args.all playback times begin =
     lines-kept (lines_by c.args.all playback times) (slice_get playback.begins next.0) next.1.0 _ c.requires.lines (compared times) in
-    c.keep.ensures.run ∙ ap (λ (l : List ℕ). run_by begin.preview.moment l (Some next.1)) lines
+    c.keep.ensures.run
+    ∙ ap (λ (m : ℕ). run_by m next.1.0 (Some next.1)) c.moment-moment.ensures
+    ∙ ap (λ (l : List ℕ). run_by begin.preview.moment l (Some next.1)) lines
 
 pub returns-then-is_compared_as-clause-next : goal.returns-then-is_compared_as-clause-next
 returns-then-is_compared_as-clause-next g c =
@@ -28,4 +30,6 @@ returns-then-is_compared_as-clause-next g c =
     subst (λ (p : ℕ). IsComparedAs c.args.all playback begin p) place (c.is_compared_as.ensures c.if-is_compared_as.true) in
     let lines : next.1.0 ≡ lines_by c.args.all playback times begin =
     lines-kept (lines_by c.args.all playback times) (slice_get playback.begins next.0) next.1.0 _ c.requires.lines (compared times) in
-    c.keep.ensures.next ∙ ap (λ (l : List ℕ). (c.args.place, (l, run_by begin.preview.moment l (Some next.1)))) lines
+    c.keep.ensures.next
+    ∙ ap (λ (m : ℕ). (c.args.place, (next.1.0, run_by m next.1.0 (Some next.1)))) c.moment-moment.ensures
+    ∙ ap (λ (l : List ℕ). (c.args.place, (l, run_by begin.preview.moment l (Some next.1)))) lines

@@ -26,7 +26,7 @@ invariant_of-self-2 c =
     let shown = subst (λ (front : List Record). front ++ c.history-place.result.now ≡ was.board.history) was.whole c.history-place.ensures.history in
     let previews =
     c.tell.ensures.previews
-    ∙ (ap (λ (l : List PreviewedBegin). l ++ preview_where takes (length c.history-place.result.now) is_to_do) c.reserve.ensures.items
+    ∙ (ap (λ (l : List PreviewedBegin). l ++ preview_where takes (length c.history-place.result.now) is_to_do) c.make_ready.ensures.items
     ∙ ap (λ (h : List Record). was.begins.items ++ preview_where takes (length h) is_to_do) shown) in
     let stands =
     stands_told BOARD_ID was.begins.items was.board c.begin_previewed.new.self (was.ours, was.whole, was.previews) (entry 0 (Begin c.args.now) (reply_of c.in-Ok.both.0)) is_to_do
@@ -44,9 +44,9 @@ returns-clause-taken c =
     let shown = c.in-Ok.both.1 in
     let count : ℕ = length (begin_indices was.events.items) in
     let replied : begun was.board.config was.board.id (state_at was.board) (moment (state_at was.board) c.args.now) ≡ told = cc (c.in-Ok.ensures.reply) in
-    let counted : c.reserve.new.self.len ≡ count =
-    c.reserve.new.self.ok.0 ∙ (ap (λ (l : List PreviewedBegin). length l) c.reserve.ensures.items
-    ∙ (sym was.begins.ok.0 ∙ sym (ap (λ (l : List ℕ). length l) was.begun ∙ length-range_with_len 0 was.begins.len)))
+    let counted : length c.make_ready.new.self.items ≡ count =
+    ap (λ (l : List PreviewedBegin). length l) c.make_ready.ensures.items
+    ∙ sym (ap (λ (l : List ℕ). length l) was.begun ∙ length-range_with_len 0 (length was.begins.items))
     in
     taken_by was.board c.begin_previewed.new.self was.events.items c.tell.new.events.items c.args.now c.in-Ok.both.0 c.own.result c.own.ensures c.in-Ok.ensures.fresh
     (record {
@@ -55,7 +55,7 @@ returns-clause-taken c =
       board = c.in-Ok.ensures.recorded;
       events_are =
           c.tell.ensures.events
-          ∙ (ap (λ (l : List Event). l ++ begun_where shown (takes_group told) c.reserve.new.self.len) c.reserve-2.ensures.items
+          ∙ (ap (λ (l : List Event). l ++ begun_where shown (takes_group told) (length c.make_ready.new.self.items)) c.reserve.ensures.items
           ∙ (ap (λ (n : ℕ). was.events.items ++ begun_where shown (takes_group told) n) counted
           ∙ ap (λ (l : List Event). was.events.items ++ l) (begun_shown was.board c.args.now count told shown replied c.in-Ok.ensures.previewed)));
     })

@@ -1,4 +1,4 @@
-use Rattle.std.proofs.Common.{ℕ, Some, ap, length, ◌∙◌, sym}
+use Rattle.std.proofs.Common.{List, Some, ap, length, ◌∙◌, sym}
 use Rattle.std.specs.List.{range_with_len}
 use Rattle.am_board.specs.History.{BoardData}
 use Rattle.am_board.proofs.lemmas.invariant.Staying.{no_fault, unless_fault, unless_value}
@@ -7,6 +7,7 @@ use Rattle.am_rehearsal.specs.EventOrder.{begin_indices}
 use Rattle.am_rehearsal.specs.Previews.{previews_of}
 use Rattle.am_rehearsal.specs.Planned.{input_trace}
 use Rattle.am_rehearsal.specs.declared.limits.TheConstants.{BOARD_ID}
+use Rattle.am_terms.specs.declared.event.PreviewedBegin.{PreviewedBegin}
 use Rattle.am_rehearsal.proofs.Doing.{input_trace-opening}
 use Rattle.am_rehearsal.proofs.Hindering.{handed_on, no_config_fault}
 use Rattle.am_rehearsal.proofs.previewing.PreviewingBoard.new.Goals as goal
@@ -17,8 +18,8 @@ invariant_of-result c =
     record {
       ours = ap (λ (b : BoardData). b.id) opened;
       whole = ap (λ (b : BoardData). b.handed) opened;
-      previews = c.new-2.ensures.items ∙ sym (ap (λ (b : BoardData). previews_of b.config b.history) opened);
-      begun = ap begin_indices c.new-3.ensures.items ∙ sym (ap (λ (n : ℕ). range_with_len 0 n) (c.new-2.result.ok.0 ∙ ap length c.new-2.ensures.items));
+      previews = c.new-2.ensures ∙ sym (ap (λ (b : BoardData). previews_of b.config b.history) opened);
+      begun = ap begin_indices c.new-3.ensures.items ∙ sym (ap (λ (l : List PreviewedBegin). range_with_len 0 (length l)) c.new-2.ensures);
     }
 
 pub returns-clause-input_trace : goal.returns-clause-input_trace

@@ -5,4 +5,4 @@ use Rattle.am_rehearsal.proofs.previewing.PreviewingBoard.taken.Goals as goal
 pub returns : goal.returns
 returns c =
     let was = c.args.self.now in
-    c.len.ensures ∙ sym (ap (λ (l : List ℕ). length l) was.begun ∙ length-range_with_len 0 was.begins.len)
+    c.len.ensures ∙ sym (ap (λ (l : List ℕ). length l) was.begun ∙ length-range_with_len 0 (length was.begins.items))

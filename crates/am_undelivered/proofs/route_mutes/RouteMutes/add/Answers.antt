@@ -17,7 +17,7 @@ invariant_of-self-2 c =
     elim c.match-route_mute_of.branch [
       | in-Some+in_ok-group+in_ok-insert w ↦
           let found : route_mute_of b.preview ≡ Some w.in-Some.mute = sym c.route_mute_of.ensures ∙ w.in-Some.is in
-          let key : w.in_ok-group.group ≡ b.preview.group = w.in_ok-group.ensures in
+          let key : w.in_ok-group.group ≡ b.preview.group = w.in_ok-group.ensures ∙ w.group.ensures in
           ap (λ i. get same_name i.mutes group) w.self-inside-is
           ∙ w.in_ok-insert.ensures.updates.0 group
           ∙ ap (λ (k : GroupName). cond (same_name k group) (Some w.in-Some.mute) (get same_name c.self.inside.mutes group)) key

@@ -1,6 +1,6 @@
 use Rattle.std.proofs.Common.{◌∙◌, sym}
 use Rattle.am_alerts.specs.LabelOrder.{same_label_set-decides}
-use Rattle.am_timeline.proofs.alike.is_same_set.Goals as goal
+use Rattle.am_terms.proofs.like.is_same_set.Goals as goal
 
 pub returns : goal.returns
 returns c h = (same_label_set-decides _ _).0 (sym c.eq.ensures ∙ h)

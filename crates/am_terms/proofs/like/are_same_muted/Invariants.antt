@@ -1,5 +1,5 @@
 use Rattle.std.proofs.Common.{◌≡◌, take}
-use Rattle.am_timeline.proofs.alike.are_same_muted.Given as goal
+use Rattle.am_terms.proofs.like.are_same_muted.Given as goal
 
 -- those so far are the same
 abbrev pub invariant-loop-place : goal.invariant-loop-place

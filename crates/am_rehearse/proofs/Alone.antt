@@ -1,0 +1,21 @@
+-- A rehearsal without handovers is played by one dispatcher.
+use Rattle.std.proofs.Common.{◌≡◌, ◌<◌, ◌∷◌, ◌++◌, [], ℕ, List, Option, None, ap, arith, length, subst}
+use Rattle.std.proofs.lemmas.List.{length-append}
+use Rattle.am_rehearsal.specs.Parts.{PartData}
+use Rattle.am_rehearsal.specs.Playing.{ArePlayed}
+use Rattle.am_rehearsal.specs.declared.playing.PlayedPart.{PlayedPart}
+use Rattle.am_terms.specs.declared.rehearsal.Outage.{Outage}
+
+module _ (maintain : ℕ) (outages : List Outage) (p : PartData) where
+  -- something is played
+  pub some_played : (played : List PlayedPart) → ArePlayed maintain outages None (p ∷ []) played → 0 < length played
+  some_played [] told = absurd told
+  some_played (q ∷ qs) told = omega arith
+
+  -- the last that is played is all that is played
+  pub last_played : (played rest : List PlayedPart) (q : PlayedPart) → played ≡ rest ++ q ∷ []
+      → ArePlayed maintain outages None (p ∷ []) played → ArePlayed maintain outages None (p ∷ []) (q ∷ [])
+  last_played [] rest q is told = absurd told
+  last_played (a ∷ b ∷ played) rest q is told = absurd told.1
+  last_played (a ∷ []) [] q is told = subst (λ (qs : List PlayedPart). ArePlayed maintain outages None (p ∷ []) qs) is told
+  last_played (a ∷ []) (x ∷ rest) q is told = absurd (omega (arith, ap length is, length-append rest (q ∷ [])))

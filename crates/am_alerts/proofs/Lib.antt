@@ -1,3 +1,5 @@
+-- matchers that compare texts, and those that search for a pattern
+pub mod Compared
 -- the texts that are durations are `0` and the sums of parts
 pub mod DurationTexts
 -- durations' texts: reading from the front gives the value
@@ -30,6 +32,10 @@ pub mod Pairs
 pub mod PatternLaws
 -- a regex that was built, and what the syntax of `regex` reads in its text
 pub mod Patterns
+-- what plain texts with bars between them match: one of the texts, as a whole
+pub mod PlainMatches
+-- what the syntax of `regex` reads in plain texts with bars between them
+pub mod PlainReads
 -- the positions of a label set's routes: they ascend, and each is of a route
 pub mod Positions
 -- a search among the routes of a tree, step by step

@@ -8,21 +8,12 @@ use Rattle.std.proofs.lemmas.List.{append_assoc, take-append-drop, drop_more, ge
 use Rattle.std.proofs.lemmas.List.{append-nil, get_or_push, get_or_read, set-get_or}
 use Rattle.std.proofs.lemmas.List.Elements.{filter_map-append}
 use Rattle.std.specs.List.{cons_option}
-use Rattle.am_alerts.specs.Matcher.{is_passed, match_all, matches_parts, passes, pattern_in, pattern_of}
+use Rattle.am_alerts.proofs.Compared.{passes-pattern}
+use Rattle.am_alerts.specs.Matcher.{is_passed, match_all, matches_parts, passes, pattern_of}
 use Rattle.am_alerts.specs.Pattern.{has_match}
 use Rattle.am_alerts.specs.Searchers.{patterns_of, with_pattern, with_pattern_of, AreFirstPatterns, IsAt}
 use Rattle.am_alerts.specs.declared.labels.Label.{Label}
 use Rattle.am_alerts.specs.declared.matcher.MatcherParts.{MatcherParts}
-use Rattle.am_alerts.specs.declared.matcher.Operator.{Operator}
-use Rattle.am_alerts.specs.declared.matcher.Operator.TheVariants.{Equal, NotEqual, Like, NotLike}
-
--- what a matcher with a pattern tests
-pub passes-pattern : (op : Operator) (wanted value p : List ℕ) → pattern_in op wanted ≡ Some p →
-    is_passed op (has_match p value) ≡ passes op wanted value
-passes-pattern Equal wanted value p e = cc
-passes-pattern NotEqual wanted value p e = cc
-passes-pattern Like wanted value p e = cc
-passes-pattern NotLike wanted value p e = cc
 
 -- how many patterns were reached, once a matcher's own is among them
 abbrev pub past : Option (List ℕ) → ℕ → ℕ
@@ -137,7 +128,7 @@ met_value m value p x place old new is required h put read =
     let there = put_there p place old h at in
     let within : place < length new = rw put there.0 in
     let x_is : x ≡ p = get_or_read new place x within read [] ∙ ap (λ xs. get_or xs place []) put ∙ there.1 in
-    rw x_is (passes-pattern m.op m.value value p is)
+    rw x_is (passes-pattern m value p is)
 
 -- a search leaves what searches as it was
 pub met_put : (m : MatcherParts) (p x y : List ℕ) (place : ℕ) (old new : List (List ℕ)) → pattern_of m ≡ Some p →

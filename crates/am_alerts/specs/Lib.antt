@@ -26,6 +26,8 @@ pub mod PackedLabels
 pub mod Packing
 -- patterns: regular expressions in the syntax of the crate `regex`
 pub mod Pattern
+-- patterns that are plain texts with bars between them
+pub mod Plain
 -- a routing tree as it is kept: a list of routes, and the number of those below each
 pub mod Planted
 -- a route and its options, and the group that it makes of a label set

@@ -1,5 +1,5 @@
 -- Matchers, and the lists of them.
-use Rattle.std.specs.Prelude.{◌≡◌, ℕ, Bool, true, false, not, ◌||◌, List, length, Option, Some, None, nat_lt, if◌then◌else◌}
+use Rattle.std.specs.Prelude.{◌≡◌, ℕ, Bool, true, false, not, ◌||◌, codes, List, length, Option, Some, None, nat_lt, if◌then◌else◌}
 use Rattle.std.specs.List.{list_all}
 use Rattle.std.specs.Str.{bytes_eq}
 use Rattle.am_alerts.specs.Labels.{is_label_name, value_of}
@@ -10,20 +10,33 @@ use Rattle.am_alerts.specs.declared.matcher.Operator.TheVariants.{Equal, NotEqua
 use Rattle.am_alerts.specs.declared.matcher.MatcherFault.{MatcherFault}
 use Rattle.am_alerts.specs.declared.matcher.MatcherFault.TheVariants.{BadName, TooLong, BadPattern, NoMemory}
 use Rattle.am_alerts.specs.Pattern.{anchored, is_pattern, has_match}
+use Rattle.am_alerts.specs.Plain.{bar_texts, is_one_of, is_plain_pattern}
 use Rattle.am_alerts.specs.declared.pattern.PatternFault.{PatternFault}
 use Rattle.am_alerts.specs.declared.pattern.PatternFault.TheVariants as pattern
 use Rattle.am_alerts.specs.declared.limits.TheConstants.{MAX_LABEL_BYTES}
 
--- whether an operator compares two texts byte by byte, which takes no memory
-abbrev pub compares_texts : Operator → Bool
-compares_texts Equal = true
-compares_texts NotEqual = true
-compares_texts Like = false
-compares_texts NotLike = false
+-- an operator as it is written
+abbrev pub operator_text : Operator → List ℕ
+operator_text Equal = codes "="
+operator_text NotEqual = codes "!="
+operator_text Like = codes "=~"
+operator_text NotLike = codes "!~"
 
--- whether each of these matchers compares texts, which takes no memory
+-- whether an operator takes a text, and not a pattern
+abbrev pub takes_text : Operator → Bool
+takes_text Equal = true
+takes_text NotEqual = true
+takes_text Like = false
+takes_text NotLike = false
+
+-- whether a matcher compares texts byte by byte, which takes no memory: its operator takes a text, or it looks for a pattern of plain texts
+-- with bars between them
+abbrev pub compares_texts : MatcherParts → Bool
+compares_texts m = takes_text m.op || is_plain_pattern m.value
+
+-- whether each of these matchers compares texts
 abbrev pub compare_texts : List MatcherParts → Bool
-compare_texts ms = list_all (λ m. compares_texts m.op) ms
+compare_texts ms = list_all compares_texts ms
 
 -- whether a label's value passes a matcher's test; a pattern p stands for `^(?:p)$`
 abbrev pub passes : Operator → List ℕ → List ℕ → Bool
@@ -43,19 +56,20 @@ is_passed NotLike same = not same
 abbrev pub matches_parts : MatcherParts → List Label → Bool
 matches_parts m labels = passes m.op m.value (value_of m.name labels)
 
--- the pattern that a matcher looks for, if it looks for one
-abbrev pub pattern_in : Operator → List ℕ → Option (List ℕ)
-pattern_in Equal value = None
-pattern_in NotEqual value = None
-pattern_in Like value = Some (anchored value)
-pattern_in NotLike value = Some (anchored value)
+-- whether a value is the text that a matcher compares it with, or one of its texts
+abbrev pub is_text : Operator → List ℕ → List ℕ → Bool
+is_text Equal wanted value = bytes_eq value wanted
+is_text NotEqual wanted value = bytes_eq value wanted
+is_text Like wanted value = is_one_of (bar_texts wanted) value
+is_text NotLike wanted value = is_one_of (bar_texts wanted) value
 
+-- the pattern that a matcher searches for, if it doesn't compare texts
 abbrev pub pattern_of : MatcherParts → Option (List ℕ)
-pattern_of m = pattern_in m.op m.value
+pattern_of m = if compares_texts m then None else Some (anchored m.value)
 
--- whether what a matcher looks for is a pattern
+-- whether what a matcher looks for is a pattern, where its operator takes one
 abbrev pub has_pattern : MatcherParts → Bool
-has_pattern m = compares_texts m.op || is_pattern (anchored m.value)
+has_pattern m = takes_text m.op || is_pattern (anchored m.value)
 
 -- match of a list: all its matchers match, so an empty list matches every label set
 abbrev pub match_all : List MatcherParts → List Label → Bool

@@ -44,7 +44,9 @@ fn push_label(out: &mut String, label: &(&str, &str)) -> Result<(), AllocError>
     out.push_str("\"")
 }
 
-fn push_escaped(out: &mut String, value: &str) -> Result<(), AllocError>
+/// Appends a label's value, escaped as Alertmanager writes it between quotes, or a part of it where
+/// memory is refused.
+pub fn push_escaped(out: &mut String, value: &str) -> Result<(), AllocError>
     ensures text { OnOk result (string_bytes out.new ≡ string_bytes out.old ++ escaped value.now) }
     ensures begins { BeginsWith (string_bytes out.new) (string_bytes out.old) }
 {

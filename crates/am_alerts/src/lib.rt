@@ -9,13 +9,14 @@
 pub mod alert;
 pub mod duration;
 mod label_pairs;
-mod label_text;
+pub mod label_text;
 pub mod labels;
 pub mod law;
 pub mod limits;
 pub mod matcher;
 pub mod packed_labels;
 mod pattern;
+mod plain;
 mod planting;
 pub mod route;
 mod routes;

@@ -1,18 +1,20 @@
 //! Matchers. Routes, silences and inhibition rules are made of them.
 //!
-//! A pattern is built once, by `Matcher::new`, at most 10 MiB. What searches for it isn't stored:
-//! the kit's `regex::Matcher` borrows the pattern, so no value can keep both. Each search changes
-//! it, so threads could not share it. `Matcher::matches` makes it anew and takes an allocator.
+//! A pattern of plain texts with bars between them, as `critical|warning`, isn't built: a match
+//! compares the value with each text. Any other is built once, by `Matcher::new`, at most 10 MiB. What searches for it isn't stored: the kit's `regex::Matcher` borrows the pattern, so no
+//! value can keep both. Each search changes it, so threads could not share it. `Matcher::matches`
+//! makes it anew and takes an allocator.
 //! Where one list of matchers meets many label sets, `Searchers` keeps it from one to the next.
 ghost use Rattle.std.specs.Prelude.{◌≡◌, ◌⊎◌, Err, IfErr, IfOk, IfSome, IsOk, IsTrue, None, option_copied};
 ghost use Rattle.am_alerts.specs.Labels.{value_of};
 ghost use Rattle.am_alerts.specs.Matcher.{compares_texts, compare_texts, has_pattern, is_passed, matches_parts, match_all, matcher_fault};
-ghost use Rattle.am_alerts.specs.Matcher.{pattern_of};
+ghost use Rattle.am_alerts.specs.Matcher.{is_text, operator_text, pattern_of};
 ghost use Rattle.am_alerts.specs.Pattern.{PatternRows, PatternsMatch};
 
 use crate::labels::{Labels, is_label_name};
 use crate::limits::MAX_LABEL_BYTES;
 use crate::pattern::{Pattern, PatternFault};
+use crate::plain::{is_one_of, is_plain_pattern};
 use crate::sequence::Copied;
 use crate::text::Text;
 use std::alloc::{AllocError, Global};
@@ -56,7 +58,7 @@ pub enum MatcherFault {
 #[derive(Debug, Drop)]
 pub struct Matcher {
     parts: MatcherParts,
-    /// For `Like` and `NotLike`, built once.
+    /// Made once, where the matcher doesn't compare texts.
     pattern: Option<Pattern>,
 }
 
@@ -72,6 +74,20 @@ impl Model for Matcher {
     ghost invariant = { λ m. IsMatcher m.parts m.pattern };
 }
 
+impl Operator {
+    /// The operator as it is written: `=`, `!=`, `=~` or `!~`.
+    pub fn text(self) -> &'static str
+        ensures { result.now ≡ operator_text self }
+    {
+        match self {
+            Operator::Equal => "=",
+            Operator::NotEqual => "!=",
+            Operator::Like => "=~",
+            Operator::NotLike => "!~",
+        }
+    }
+}
+
 impl MatcherParts {
     /// A copy of these parts.
     pub fn copy(&self, alloc: Global) -> Result<MatcherParts, AllocError>
@@ -82,6 +98,29 @@ impl MatcherParts {
             op: self.op,
             value: self.value.copy(alloc)?,
         })
+    }
+}
+
+impl MatcherParts {
+    /// Whether a matcher of these parts compares texts, and searches for no pattern.
+    fn compares_texts(&self) -> bool
+        ensures { result ≡ compares_texts self.now }
+    {
+        match self.op {
+            Operator::Equal | Operator::NotEqual => true,
+            Operator::Like | Operator::NotLike => is_plain_pattern(self.value.as_str()),
+        }
+    }
+
+    /// Whether a value is the text that these parts are compared with, or one of the texts.
+    fn is_text(&self, value: &str) -> bool
+        ensures { result ≡ is_text self.now.op self.now.value value.now }
+    {
+        let wanted = self.value.as_str();
+        match self.op {
+            Operator::Equal | Operator::NotEqual => value == wanted,
+            Operator::Like | Operator::NotLike => is_one_of(wanted, value),
+        }
     }
 }
 
@@ -108,14 +147,16 @@ impl From<PatternFault> for MatcherFault {
 impl Matcher {
     /// The matcher of these parts. Refused in this order: `BadName`, `TooLong` (the name or the
     /// value has more than 1,024 bytes), `BadPattern` (the operator is `Like` or `NotLike`, and
-    /// `^(?:value)$` is no pattern, or one that is too big once it is built), `NoMemory`.
+    /// `^(?:value)$` is no pattern, or one that is too big once it is built), `NoMemory`. Without a
+    /// pattern it takes no memory, and neither with one of plain texts with bars between them, as
+    /// `critical|warning`.
     pub fn new(alloc: Global, parts: MatcherParts) -> Result<Matcher, MatcherFault>
         ensures refused { IfSome (matcher_fault parts) (λ fault. result ≡ Err fault) }
         ensures value { IfOk result (λ matcher. matcher ≡ parts) }
         ensures pattern { IfOk result (λ _. IsTrue (has_pattern parts)) }
         ensures others { matcher_fault parts ≡ None → IfErr result
             (λ fault. (fault ≡ MatcherFault.BadPattern) ⊎ (fault ≡ MatcherFault.NoMemory)) }
-        ensures made { IsTrue (compares_texts parts.op) → matcher_fault parts ≡ None → IsOk result }
+        ensures made { IsTrue (compares_texts parts) → matcher_fault parts ≡ None → IsOk result }
     {
         if !is_label_name(parts.name.as_str()) {
             return Err(MatcherFault::BadName);
@@ -138,20 +179,21 @@ impl Matcher {
     }
 
     /// Whether the value that a label set has under the matcher's name passes its test. Only a
-    /// pattern takes memory.
+    /// pattern takes memory, and not if it is plain texts with bars between them.
     pub fn matches(&self, alloc: Global, labels: &Labels) -> Result<bool, AllocError>
         ensures value { IfOk result (λ matched. matched ≡ matches_parts self.now labels.now) }
-        ensures answers { IsTrue (compares_texts self.now.op) → IsOk result }
+        ensures answers { IsTrue (compares_texts self.now) → IsOk result }
     {
         let value = self.value_in(labels);
         let same = match &self.pattern {
-            None => value == self.parts.value.as_str(),
+            None => self.parts.is_text(value),
             Some(pattern) => pattern.has_match(alloc, value)?,
         };
         Ok(self.is_passed(same))
     }
 
-    /// The pattern that the value has to match, or must not match.
+    /// The pattern that the value has to match, or must not match, if the matcher doesn't compare
+    /// texts.
     pub(crate) fn pattern(&self) -> Option<&Pattern>
         ensures { option_copied result ≡ pattern_of self.now }
     {
@@ -177,18 +219,16 @@ impl Matcher {
     }
 }
 
-/// The pattern of parts whose operator takes one.
+/// The pattern that a matcher of these parts searches for.
 fn pattern_of(alloc: Global, parts: &MatcherParts) -> Result<Option<Pattern>, PatternFault>
     ensures value { IfOk result (λ pattern. pattern ≡ pattern_of parts.now) }
     ensures read { IfOk result (λ _. IsTrue (has_pattern parts.now)) }
-    ensures made { IsTrue (compares_texts parts.now.op) → IsOk result }
+    ensures made { IsTrue (compares_texts parts.now) → IsOk result }
 {
-    match parts.op {
-        Operator::Equal | Operator::NotEqual => Ok(None),
-        Operator::Like | Operator::NotLike => {
-            Ok(Some(Pattern::whole(alloc, parts.value.as_str())?))
-        }
+    if parts.compares_texts() {
+        return Ok(None);
     }
+    Ok(Some(Pattern::whole(alloc, parts.value.as_str())?))
 }
 
 /// Whether a label set matches each of these matchers. It matches an empty list.

@@ -92,7 +92,7 @@ fn matches_by<'m>(
     requires reached { place ≤ vec_len searchers.old }
     requires place { IfSome (pattern_of matcher.now) (IsAt place searchers.old.items) }
     ensures value { IfOk result (λ matched. matched ≡ matches_parts matcher.now labels.now) }
-    ensures answers { IsTrue (compares_texts matcher.now.op) → IsOk result }
+    ensures answers { IsTrue (compares_texts matcher.now) → IsOk result }
     ensures put { OnOk result (searchers.new.items
         ≡ with_pattern_of (pattern_of matcher.now) place searchers.old.items) }
     ensures unchanged { OnErr result (searchers.new.items ≡ searchers.old.items) }

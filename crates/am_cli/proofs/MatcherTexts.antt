@@ -9,7 +9,8 @@ use Rattle.std.specs.Str.{IsTrimAscii}
 use Rattle.am_alerts.specs.declared.matcher.MatcherParts.{MatcherParts}
 use Rattle.am_alerts.specs.declared.matcher.Operator.{Operator}
 use Rattle.am_alerts.specs.declared.matcher.Operator.TheVariants.{Equal, NotEqual, Like, NotLike}
-use Rattle.am_cli.specs.MatcherText.{IsMatcherText, IsUnquoted, Lacks, begins_operator, operator_text, unescaped}
+use Rattle.am_alerts.specs.Matcher.{operator_text}
+use Rattle.am_cli.specs.MatcherText.{IsMatcherText, IsUnquoted, Lacks, begins_operator, unescaped}
 
 fuse : (f g : List ℕ → List ℕ) (o : Option (List ℕ)) → option_map f (option_map g o) ≡ option_map (λ r. f (g r)) o
 fuse f g None = refl

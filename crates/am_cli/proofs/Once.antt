@@ -20,7 +20,8 @@ use Rattle.am_cli.specs.Configured.{DecodesToPairs, DecodesToMatcher, DecodesToO
 use Rattle.am_cli.specs.Configured.{DecodesToChild, DecodesToIntegration, DecodesToLimits, DecodesToReceiver, DecodesToRoot, DecodesToRule}
 use Rattle.am_cli.specs.Configured.{HasChild, HasIntegration, HasLimits, HasParts, HasReceiver, HasRoot, HasRule}
 use Rattle.am_cli.specs.Decoding.{DecodeEach, IsDuration, IsFlag, IsInterval, IsList, IsNumber, IsObject, IsText}
-use Rattle.am_cli.specs.MatcherText.{IsMatcherText, operator_text}
+use Rattle.am_alerts.specs.Matcher.{operator_text}
+use Rattle.am_cli.specs.MatcherText.{IsMatcherText}
 use Rattle.am_cli.specs.Read.{duration_in, interval_in, number_in}
 use Rattle.am_cli.specs.declared.reader.Dialect.{Dialect}
 use Rattle.am_cli.specs.declared.reader.Dialect.TheVariants.{Lenient, Strict}

@@ -6,7 +6,7 @@ use Rattle.std.specs.Str.{bytes_eq}
 use Rattle.serde_json.specs.Data.{Data, no_items, item, string, Members, no_members, member}
 use Rattle.serde_json.specs.Find.{as_array, as_object, as_str}
 use Rattle.am_alerts.specs.Labels.{IsReadOf, labels_in, read_fault}
-use Rattle.am_alerts.specs.Matcher.{compare_texts, has_pattern, matcher_fault}
+use Rattle.am_alerts.specs.Matcher.{compare_texts, has_pattern, matcher_fault, operator_text}
 use Rattle.am_alerts.specs.RoutingTree.{children_of, level_fault, tree_of}
 use Rattle.am_alerts.specs.declared.labels.Label.{Label}
 use Rattle.am_alerts.specs.declared.limits.TheConstants.{MAX_MATCHERS, MAX_NAMES}
@@ -22,7 +22,7 @@ use Rattle.am_model.specs.declared.config.Limits.{Limits}
 use Rattle.am_model.specs.declared.config.Receiver.{Receiver}
 use Rattle.am_mute.specs.Inhibit.{RuleData, rule_fault}
 use Rattle.am_cli.specs.Decoding.{IsText, IsFlag, IsNumber, IsDuration, IsInterval, IsList, IsObject, Has, HasOr}
-use Rattle.am_cli.specs.MatcherText.{IsMatcherText, operator_text}
+use Rattle.am_cli.specs.MatcherText.{IsMatcherText}
 use Rattle.am_cli.specs.Read.{has_only}
 use Rattle.am_cli.specs.declared.reader.Dialect.{Dialect}
 use Rattle.am_cli.specs.declared.reader.Dialect.TheVariants.{Lenient, Strict}
@@ -77,7 +77,7 @@ pub record HasRule (dialect : Dialect) (members : Members) (rule : RuleData) : T
 abbrev pub DecodesToRule : Dialect → Data → RuleData → Type 0
 DecodesToRule dialect value rule = IsObject (HasRule dialect) value rule
 
--- whether no matcher of a rule looks for a pattern
+-- whether no matcher of a rule needs a regex
 abbrev pub rule_compares_texts : RuleData → Bool
 rule_compares_texts rule = compare_texts rule.source && compare_texts rule.target
 
@@ -181,7 +181,7 @@ pub record DecodesToConfig (dialect : Dialect) (value : Data) (config : Config) 
   pub parts : IsObject (HasParts dialect) value config
   pub sound : config_fault config ≡ None
 
--- whether no matcher of a configuration looks for a pattern
+-- whether no matcher of a configuration needs a regex
 abbrev pub config_compares_texts : Config → Bool
 config_compares_texts config =
     list_all (λ c. compare_texts c.matchers) (children_of config.routes) && list_all rule_compares_texts config.rules

@@ -1,17 +1,11 @@
 -- MatcherText: matchers that are written as one text, as amtool does.
-use Rattle.std.specs.Prelude.{◌≡◌, ◌≢◌, ◌==◌, ◌||◌, ℕ, ◌<◌, Bool, true, false, List, [], ◌∷◌, ◌++◌, ◌⊎◌, Option, Some, None, codes}
+use Rattle.std.specs.Prelude.{◌≡◌, ◌≢◌, ◌==◌, ◌||◌, ℕ, ◌<◌, Bool, true, false, List, [], ◌∷◌, ◌++◌, ◌⊎◌, Option, Some, None}
 use Rattle.std.specs.Prelude.{length, option_map, slice_index, if◌then◌else◌}
 use Rattle.std.specs.List.{position}
 use Rattle.std.specs.Str.{IsTrimAscii}
+use Rattle.am_alerts.specs.Matcher.{operator_text}
 use Rattle.am_alerts.specs.declared.matcher.MatcherParts.{MatcherParts}
-use Rattle.am_alerts.specs.declared.matcher.Operator.{Operator}
-use Rattle.am_alerts.specs.declared.matcher.Operator.TheVariants.{Equal, NotEqual, Like, NotLike}
-
-abbrev pub operator_text : Operator → List ℕ
-operator_text Equal = codes "="
-operator_text NotEqual = codes "!="
-operator_text Like = codes "=~"
-operator_text NotLike = codes "!~"
+use Rattle.am_alerts.specs.declared.matcher.Operator.TheVariants.{Equal}
 
 -- whether a byte begins an operator: `=` or `!`
 abbrev pub begins_operator : ℕ → Bool

@@ -2,14 +2,14 @@
 ghost use Rattle.std.specs.Prelude.{◌≡◌, ◌≢◌, ◌≤◌, [], IfErr, IfOk, IsSomeAnd, IsTrue, List, MatchOption, length};
 ghost use Rattle.serde_json.specs.View.{members_view, view};
 ghost use Rattle.serde_json.specs.Find.{as_str};
-ghost use Rattle.am_alerts.specs.Matcher.{compare_texts, compares_texts};
+ghost use Rattle.am_alerts.specs.Matcher.{compare_texts, compares_texts, operator_text};
 ghost use Rattle.am_alerts.specs.declared.limits.TheConstants.{MAX_MATCHERS};
 ghost use Rattle.am_alerts.specs.declared.matcher.MatcherParts.{MatcherParts};
 ghost use Rattle.am_alerts.specs.declared.matcher.Operator.{Operator};
 ghost use Rattle.am_cli.specs.Configured.{DecodesToMatcher, IsMatcher, IsSound};
 ghost use Rattle.am_cli.specs.Decoding.{HasOr, IsList};
 ghost use Rattle.am_cli.specs.Read.{Excludes};
-ghost use Rattle.am_cli.specs.MatcherText.{IsMatcherText, operator_text};
+ghost use Rattle.am_cli.specs.MatcherText.{IsMatcherText};
 
 use crate::fault::{FaultKind, InputFault};
 use crate::matcher_text::parts_of_text;
@@ -28,14 +28,14 @@ const OPERATOR: usize = 1;
 /// Where the value stands.
 const VALUE: usize = 2;
 
-/// Three texts, or in the strict dialect also one. A pattern may be refused for its size.
+/// Three texts, or in the strict dialect also one. A pattern that needs a regex may be refused for its size.
 impl<'v> FromJson<'v> for Matcher {
     ghost use Rattle.am_alerts.specs.Matcher.{compares_texts};
     ghost use Rattle.am_cli.specs.Configured.{DecodesToMatcher};
 
     ghost decodes_to = { λ dialect value matcher. DecodesToMatcher dialect value matcher };
 
-    ghost never_refused = { λ matcher. compares_texts matcher.op };
+    ghost never_refused = { λ matcher. compares_texts matcher };
 
     fn read(reader: &Reader<'v, '_>) -> Result<Matcher, InputFault> {
         match reader.dialect() {
@@ -49,7 +49,7 @@ impl<'v> FromJson<'v> for Matcher {
 fn read_strict(reader: &Reader<'_, '_>) -> Result<Matcher, InputFault>
     ensures told { IfOk result (DecodesToMatcher Dialect.Strict (view reader.now.value)) }
     ensures refused { IfErr result (Excludes (λ m.
-        DecodesToMatcher Dialect.Strict (view reader.now.value) m × IsTrue (compares_texts m.op))) }
+        DecodesToMatcher Dialect.Strict (view reader.now.value) m × IsTrue (compares_texts m))) }
 {
     if reader.is_text() {
         return read_one_text(reader);
@@ -61,7 +61,7 @@ fn read_one_text(reader: &Reader<'_, '_>) -> Result<Matcher, InputFault>
     ensures told { IfOk result (λ matcher. IsSomeAnd (as_str (view reader.now.value)) (λ text. IsMatcherText text matcher)) }
     ensures sound { IfOk result IsSound }
     ensures refused { IfErr result (Excludes (λ m. IsSomeAnd (as_str (view reader.now.value)) (λ text. IsMatcherText text m)
-        × IsSound m × IsTrue (compares_texts m.op))) }
+        × IsSound m × IsTrue (compares_texts m))) }
 {
     let Some(parts) = parts_of_text(reader.alloc(), reader.text()?)? else {
         return Err(reader.refuse(FaultKind::BadValue));
@@ -77,7 +77,7 @@ fn read_three_texts(reader: &Reader<'_, '_>) -> Result<Matcher, InputFault>
     ensures told { IfOk result (IsMatcher (view reader.now.value)) }
     ensures sound { IfOk result IsSound }
     ensures refused { IfErr result (Excludes (λ m.
-        IsMatcher (view reader.now.value) m × IsSound m × IsTrue (compares_texts m.op))) }
+        IsMatcher (view reader.now.value) m × IsSound m × IsTrue (compares_texts m))) }
 {
     let place = reader.place();
     let (name, operator, value) = reader.three_texts()?;

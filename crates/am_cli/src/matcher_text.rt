@@ -9,7 +9,8 @@ ghost use Rattle.std.specs.Prelude.{IfOk, IfSome, MatchOption, option_map};
 ghost use Rattle.std.specs.List.{position};
 ghost use Rattle.am_alerts.specs.declared.matcher.MatcherParts.{MatcherParts};
 ghost use Rattle.am_alerts.specs.declared.matcher.Operator.{Operator};
-ghost use Rattle.am_cli.specs.MatcherText.{IsMatcherText, IsUnquoted, begins_operator, operator_text, unescaped};
+ghost use Rattle.am_alerts.specs.Matcher.{operator_text};
+ghost use Rattle.am_cli.specs.MatcherText.{IsMatcherText, IsUnquoted, begins_operator, unescaped};
 
 use am_alerts::matcher::{MatcherParts, Operator};
 use am_alerts::text::Text;

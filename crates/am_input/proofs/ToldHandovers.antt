@@ -10,8 +10,8 @@ use Rattle.am_cli.proofs.Once.{one_parts, one_there}
 use Rattle.am_cli.specs.Configured.{DecodesToConfig, config_compares_texts}
 use Rattle.am_cli.specs.Decoding.{Has, HasNone}
 use Rattle.am_cli.specs.declared.reader.Dialect.{Dialect}
-use Rattle.am_input.specs.Configured.{IsConfigIn, IsReadOfTheirs, TellsWithoutPatterns}
-use Rattle.am_input.specs.Handovers.{AreHandoversIn, AreHandoversWithoutPatterns, AreToldBy, IsConfigAt, TellsAt, is_ours, last_reload}
+use Rattle.am_input.specs.Configured.{IsConfigIn, IsReadOfTheirs, TellsWithoutRegexes}
+use Rattle.am_input.specs.Handovers.{AreHandoversIn, AreHandoversWithoutRegexes, AreToldBy, IsConfigAt, TellsAt, is_ours, last_reload}
 use Rattle.am_model.specs.declared.config.Config.{Config}
 use Rattle.am_plans.proofs.Decodings.{found_none}
 use Rattle.am_plans.proofs.Handovers.{one_items}
@@ -101,7 +101,7 @@ tells_at dialect ms None config none mine told plain = (own_in dialect ms config
 tells_at dialect ms (Some reload) config none mine told plain = by (as_object reload) mine told
   where
     by : (o : Option Members) → option_map_or (λ fields. is_none (get_member (codes "alertmanager") fields)) o true ≡ true
-        → IsSomeAnd o (λ fields. IsConfigIn dialect fields config) → IsSomeAnd o (λ fields. TellsWithoutPatterns dialect fields config)
+        → IsSomeAnd o (λ fields. IsConfigIn dialect fields config) → IsSomeAnd o (λ fields. TellsWithoutRegexes dialect fields config)
     by None mine told = told
     by (Some fields) mine told = (own_in dialect fields config (none_is (get_member (codes "alertmanager") fields) mine) told, plain)
 
@@ -144,7 +144,7 @@ one_told dialect ms before (x ∷ xs) (h ∷ hs) (k ∷ ks) none mine ours is al
 
 -- what is told of a list that has no reload of Alertmanager's configuration is the one list that is told
 pub one_list : (dialect : Dialect) (file : Option Data) (until : ℕ) (members : Members) (hs ks : List Handover) → file ≡ None
-    → get_member (codes "alertmanager") members ≡ None → AreHandoversWithoutPatterns dialect file until members hs → AreHandoversIn dialect file until members ks
+    → get_member (codes "alertmanager") members ≡ None → AreHandoversWithoutRegexes dialect file until members hs → AreHandoversIn dialect file until members ks
     → hs ≡ ks
 one_list dialect file until members hs ks own none told read =
     let same = one_items dialect until members told.told.items read.items told.told.items_are read.items_are in

@@ -59,11 +59,11 @@ IsConfigFor (Some file) _ _ config = IsConfigOf (form_in file) file config
 abbrev pub file_in : Changes → Option Data
 file_in changes = option_map (λ value. view value.now) changes.config
 
--- the configuration of `config`, whose matchers look for no pattern
-abbrev pub TellsWithoutPatterns : Dialect → Members → Config → Type 0
-TellsWithoutPatterns dialect members config =
+-- the configuration of `config`, whose matchers need no regex
+abbrev pub TellsWithoutRegexes : Dialect → Members → Config → Type 0
+TellsWithoutRegexes dialect members config =
     Has (DecodesToConfig dialect) (codes "config") members config × IsTrue (config_compares_texts config)
 
--- the configuration of a value, whose matchers look for no pattern
-abbrev pub DecodesWithoutPatterns : Dialect → Data → Config → Type 0
-DecodesWithoutPatterns dialect value config = DecodesToConfig dialect value config × IsTrue (config_compares_texts config)
+-- the configuration of a value, whose matchers need no regex
+abbrev pub DecodesWithoutRegexes : Dialect → Data → Config → Type 0
+DecodesWithoutRegexes dialect value config = DecodesToConfig dialect value config × IsTrue (config_compares_texts config)

@@ -6,7 +6,7 @@ use Rattle.serde_json.specs.Data.{Data, Members}
 use Rattle.serde_json.specs.Find.{as_object, get_member}
 use Rattle.am_cli.specs.Configured.{config_compares_texts}
 use Rattle.am_cli.specs.declared.reader.Dialect.{Dialect}
-use Rattle.am_input.specs.Configured.{IsConfigFor, IsConfigIn, TellsWithoutPatterns}
+use Rattle.am_input.specs.Configured.{IsConfigFor, IsConfigIn, TellsWithoutRegexes}
 use Rattle.am_model.specs.declared.config.Config.{Config}
 use Rattle.am_plans.specs.Handover.{AreItemsIn, ItemData}
 use Rattle.am_terms.specs.declared.handover.Handover.{Handover}
@@ -46,14 +46,14 @@ abbrev pub is_ours : Option Data → Bool
 is_ours reload =
     option_map_or (λ value. option_map_or (λ fields. is_none (get_member (codes "alertmanager") fields)) (as_object value) true) reload true
 
--- the same, where each reload has a configuration of our own, and no matcher looks for a pattern
-pub record AreHandoversWithoutPatterns (dialect : Dialect) (file : Option Data) (until : ℕ) (members : Members)
+-- the same, where each reload has a configuration of our own, and no matcher needs a regex
+pub record AreHandoversWithoutRegexes (dialect : Dialect) (file : Option Data) (until : ℕ) (members : Members)
     (handovers : List Handover) : Type 0 where
   pub told : AreHandoversIn dialect file until members handovers
   pub ours : IsTrue (list_all (λ (item : ItemData). is_ours item.reload) told.items)
   pub plain : IsTrue (list_all (λ (h : Handover). config_compares_texts h.config) handovers)
 
--- a configuration of our own without patterns, under a reload: told by `config` of the reload, or of the story
+-- a configuration of our own without a regex, under a reload: told by `config` of the reload, or of the story
 abbrev pub TellsAt : Dialect → Members → Option Data → Config → Type 0
-TellsAt dialect ms None config = TellsWithoutPatterns dialect ms config
-TellsAt dialect ms (Some reload) config = IsSomeAnd (as_object reload) (λ fields. TellsWithoutPatterns dialect fields config)
+TellsAt dialect ms None config = TellsWithoutRegexes dialect ms config
+TellsAt dialect ms (Some reload) config = IsSomeAnd (as_object reload) (λ fields. TellsWithoutRegexes dialect fields config)

@@ -15,11 +15,11 @@ use Rattle.am_terms.specs.declared.expectation.Expectation.{Expectation}
 use Rattle.am_terms.specs.UtcDates.{IsReadFrom, StartData, dated}
 use Rattle.am_terms.specs.TimeFormatData.{TimeFormatData, counted}
 use Rattle.am_input.specs.Configured.{IsConfigFor, file_in}
-use Rattle.am_input.specs.Handovers.{AreHandoversIn, AreHandoversWithoutPatterns}
+use Rattle.am_input.specs.Handovers.{AreHandoversIn, AreHandoversWithoutRegexes}
 use Rattle.am_plans.specs.Configs.{configs_of}
 use Rattle.am_plans.specs.Decoding.{DecodesToOutage, have_places}
-use Rattle.am_plans.specs.Expected.{AreExpectedIn, HaveNoPatternIn, last_end, until_in}
-use Rattle.am_plans.specs.Planned.{ArePlannedWithoutPatterns, ArePlannedIn}
+use Rattle.am_plans.specs.Expected.{AreExpectedIn, HaveNoRegexIn, last_end, until_in}
+use Rattle.am_plans.specs.Planned.{ArePlannedWithoutRegexes, ArePlannedIn}
 use Rattle.am_terms.specs.declared.handover.Handover.{Handover}
 use Rattle.am_terms.specs.declared.rehearsal.Rehearsal.{Rehearsal}
 use Rattle.am_input.specs.Zones.{AreZonesIn}
@@ -96,16 +96,16 @@ IsRequestIn changes value output start expectations handovers rehearsal =
     IsSomeAnd (as_object value) (λ members. Requests Strict changes members output start expectations handovers rehearsal)
 
 -- what is asked for isn't refused: the configuration is the story's own and stands in `config`, as that of each reload does, and no
--- matcher looks for a pattern. A story under a given file isn't among these: that a file of our own form isn't refused is said of the
+-- matcher needs a regex. A story under a given file isn't among these: that a file of our own form isn't refused is said of the
 -- file alone, by `own` of `read_configured`
-pub record IsWithoutPatterns (dialect : Dialect) (changes : Changes) (members : Members) (handovers : List Handover)
+pub record IsWithoutRegexes (dialect : Dialect) (changes : Changes) (members : Members) (handovers : List Handover)
     (rehearsal : Rehearsal) : Type 0 where
   pub own : file_in changes ≡ None
   pub ours : HasNone (codes "alertmanager") members
   pub config : IsTrue (config_compares_texts rehearsal.config)
-  pub hands_over : AreHandoversWithoutPatterns dialect (file_in changes) rehearsal.until members handovers
-  pub plans : ArePlannedWithoutPatterns dialect members rehearsal.plans.items
-  pub expects : HaveNoPatternIn dialect (get_member (codes "expect") members)
+  pub hands_over : AreHandoversWithoutRegexes dialect (file_in changes) rehearsal.until members handovers
+  pub plans : ArePlannedWithoutRegexes dialect members rehearsal.plans.items
+  pub expects : HaveNoRegexIn dialect (get_member (codes "expect") members)
 
 -- a refusal, for one fault or for many, excludes these
 abbrev pub RefusesAll : {X : Type 0} → (X → Type 0) → Refusal → Type 0
@@ -113,7 +113,7 @@ RefusesAll Tells (One fault) = Excludes Tells fault
 RefusesAll {X = X} Tells (All faults) = (x : X) → Tells x → ⊥
 
 -- a JSON value is an object whose members ask for this, which isn't refused
-abbrev pub IsRequestWithoutPatterns : Changes → Data → Output → Option StartData → List Expectation → List Handover → Rehearsal → Type 0
-IsRequestWithoutPatterns changes value output start expectations handovers rehearsal = IsSomeAnd (as_object value) (λ members.
+abbrev pub IsRequestWithoutRegexes : Changes → Data → Output → Option StartData → List Expectation → List Handover → Rehearsal → Type 0
+IsRequestWithoutRegexes changes value output start expectations handovers rehearsal = IsSomeAnd (as_object value) (λ members.
     Requests Strict changes members output start expectations handovers rehearsal
-    × IsWithoutPatterns Strict changes members handovers rehearsal)
+    × IsWithoutRegexes Strict changes members handovers rehearsal)

@@ -8,8 +8,8 @@ ghost use Rattle.am_cli.specs.Configured.{DecodesToConfig};
 ghost use Rattle.am_cli.specs.Decoding.{HasNone};
 ghost use Rattle.am_cli.specs.Read.{Excludes};
 ghost use Rattle.am_cli.specs.declared.reader.Dialect.TheVariants.{Strict};
-ghost use Rattle.am_input.specs.Configured.{DecodesWithoutPatterns, IsConfigFor, IsConfigIn, IsConfigOf};
-ghost use Rattle.am_input.specs.Configured.{IsReadOfTheirs, TellsWithoutPatterns, form_in};
+ghost use Rattle.am_input.specs.Configured.{DecodesWithoutRegexes, IsConfigFor, IsConfigIn, IsConfigOf};
+ghost use Rattle.am_input.specs.Configured.{IsReadOfTheirs, TellsWithoutRegexes, form_in};
 ghost use Rattle.am_input.specs.Handovers.{TellsAt, TellsReload, is_ours};
 ghost use Rattle.am_input.specs.Request.{RefusesAll};
 
@@ -50,9 +50,9 @@ pub fn read_configured<Z: ZoneFiles>(
     ensures timed { option_map (λ g. view g.now) given.entry ≡ None → HasNone (codes "alertmanager") (members_view top.now.members)
         → IfOk result (λ read. read.lacks_hours ≡ false) }
     ensures refused { option_map (λ g. view g.now) given.entry ≡ None → HasNone (codes "alertmanager") (members_view top.now.members)
-        → IfErr result (RefusesAll (TellsWithoutPatterns top.now.dialect (members_view top.now.members))) }
+        → IfErr result (RefusesAll (TellsWithoutRegexes top.now.dialect (members_view top.now.members))) }
     ensures own { (file : Data) → option_map (λ g. view g.now) given.entry ≡ Some file → form_in file ≡ Form.Own
-        → IfErr result (RefusesAll (DecodesWithoutPatterns Strict file)) }
+        → IfErr result (RefusesAll (DecodesWithoutRegexes Strict file)) }
 {
     let hours = read_hours_for(top, given, until, files)?;
     match given {
@@ -145,7 +145,7 @@ fn read_at<Z: ZoneFiles>(
     ensures told { IfOk result (λ read. TellsReload reload.now.dialect (view reload.now.value) read.config) }
     ensures timed { IsTrue (is_ours (Some (view reload.now.value))) → IfOk result (λ read. read.lacks_hours ≡ false) }
     ensures refused { IsTrue (is_ours (Some (view reload.now.value))) → IfErr result (RefusesAll (λ config.
-        IsSomeAnd (as_object (view reload.now.value)) (λ fields. TellsWithoutPatterns reload.now.dialect fields config))) }
+        IsSomeAnd (as_object (view reload.now.value)) (λ fields. TellsWithoutRegexes reload.now.dialect fields config))) }
 {
     let object = reload.object()?;
     let hours = read_hours_at(top, &object, until, files)?;
@@ -161,7 +161,7 @@ pub fn configured_for<Z: ZoneFiles>(
     files: &mut Z,
 ) -> Result<Configured, Refusal>
     ensures told { IfOk result (λ read. IsConfigOf (form_in (view given.now)) (view given.now) read.config) }
-    ensures own { form_in (view given.now) ≡ Form.Own → IfErr result (RefusesAll (DecodesWithoutPatterns Strict (view given.now))) }
+    ensures own { form_in (view given.now) ≡ Form.Own → IfErr result (RefusesAll (DecodesWithoutRegexes Strict (view given.now))) }
 {
     let reader = Reader::strict(alloc, story);
     let Ok(top) = reader.object() else {
@@ -173,7 +173,7 @@ pub fn configured_for<Z: ZoneFiles>(
 /// Reads the configuration of a file: one of Alertmanager, one of our own, or that of a story.
 pub fn read_file(alloc: Global, value: &Value, hours: Option<&Hours>) -> Result<Configured, Refusal>
     ensures told { IfOk result (λ read. IsConfigOf (form_in (view value.now)) (view value.now) read.config) }
-    ensures own { form_in (view value.now) ≡ Form.Own → IfErr result (RefusesAll (DecodesWithoutPatterns Strict (view value.now))) }
+    ensures own { form_in (view value.now) ≡ Form.Own → IfErr result (RefusesAll (DecodesWithoutRegexes Strict (view value.now))) }
 {
     let reader = Reader::strict(alloc, value);
     match form_of(value) {
@@ -189,7 +189,7 @@ fn read_in_story(top: &Object<'_, '_>, hours: Option<&Hours>) -> Result<Configur
     ensures told { IfOk result (λ read. IsConfigIn top.now.dialect (members_view top.now.members) read.config) }
     ensures timed { HasNone (codes "alertmanager") (members_view top.now.members) → IfOk result (λ read. read.lacks_hours ≡ false) }
     ensures refused { HasNone (codes "alertmanager") (members_view top.now.members)
-        → IfErr result (RefusesAll (TellsWithoutPatterns top.now.dialect (members_view top.now.members))) }
+        → IfErr result (RefusesAll (TellsWithoutRegexes top.now.dialect (members_view top.now.members))) }
 {
     let Some(member) = top.optional("alertmanager") else {
         return Ok(read_own(&top.required("config")?)?);
@@ -204,7 +204,7 @@ fn read_in_story(top: &Object<'_, '_>, hours: Option<&Hours>) -> Result<Configur
 fn read_own(reader: &Reader<'_, '_>) -> Result<Configured, InputFault>
     ensures told { IfOk result (λ read. DecodesToConfig reader.now.dialect (view reader.now.value) read.config) }
     ensures timed { IfOk result (λ read. read.lacks_hours ≡ false) }
-    ensures refused { IfErr result (Excludes (DecodesWithoutPatterns reader.now.dialect (view reader.now.value))) }
+    ensures refused { IfErr result (Excludes (DecodesWithoutRegexes reader.now.dialect (view reader.now.value))) }
 {
     Ok(Configured {
         config: read_config(reader)?,

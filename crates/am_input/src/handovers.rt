@@ -8,7 +8,7 @@ ghost use Rattle.am_cli.specs.Configured.{config_compares_texts};
 ghost use Rattle.am_cli.specs.Decoding.{HasNone};
 ghost use Rattle.am_cli.specs.declared.fault.InputFault.TheVariants.{NoMemory};
 ghost use Rattle.am_input.specs.Configured.{file_in};
-ghost use Rattle.am_input.specs.Handovers.{AreHandoversIn, AreHandoversWithoutPatterns, AreToldBy, IsConfigAt, TellsAt, is_ours};
+ghost use Rattle.am_input.specs.Handovers.{AreHandoversIn, AreHandoversWithoutRegexes, AreToldBy, IsConfigAt, TellsAt, is_ours};
 ghost use Rattle.am_input.specs.Request.{RefusesAll};
 ghost use Rattle.am_plans.specs.Handover.{ItemData, item_of, reload_in};
 ghost use Rattle.am_terms.specs.declared.handover.Handover.{Handover};
@@ -89,11 +89,11 @@ pub(crate) fn read_handovers<Z: ZoneFiles>(
         AreHandoversIn top.now.dialect (file_in changes.entry) until (members_view top.now.members) read.handovers.items) }
     ensures timed { file_in changes.entry ≡ None → HasNone (codes "alertmanager") (members_view top.now.members)
         → (handovers : List Handover)
-        → AreHandoversWithoutPatterns top.now.dialect (file_in changes.entry) until (members_view top.now.members) handovers
+        → AreHandoversWithoutRegexes top.now.dialect (file_in changes.entry) until (members_view top.now.members) handovers
         → IfOk result (λ read. read.lacks_hours ≡ false) }
     ensures refused { file_in changes.entry ≡ None → HasNone (codes "alertmanager") (members_view top.now.members)
         → IfErr result (RefusesAll
-        (AreHandoversWithoutPatterns top.now.dialect (file_in changes.entry) until (members_view top.now.members))) }
+        (AreHandoversWithoutRegexes top.now.dialect (file_in changes.entry) until (members_view top.now.members))) }
 {
     let items = read_items(top, until)?;
     Ok(read_configs(top, items.as_slice(), changes, files)?)

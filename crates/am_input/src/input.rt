@@ -19,13 +19,13 @@ ghost use Rattle.am_input.specs.Configured.{IsConfigFor, file_in};
 ghost use Rattle.am_input.specs.Handovers.{AreHandoversIn};
 ghost use Rattle.am_plans.specs.Configs.{configs_of};
 ghost use Rattle.am_plans.specs.Decoding.{DecodesToOutage, have_places};
-ghost use Rattle.am_plans.specs.Expected.{AreExpectedIn, HaveNoPatternIn, last_end};
-ghost use Rattle.am_plans.specs.Planned.{ArePlannedWithoutPatterns, ArePlannedIn};
+ghost use Rattle.am_plans.specs.Expected.{AreExpectedIn, HaveNoRegexIn, last_end};
+ghost use Rattle.am_plans.specs.Planned.{ArePlannedWithoutRegexes, ArePlannedIn};
 ghost use Rattle.am_terms.specs.declared.rehearsal.Outage.{Outage};
 ghost use Rattle.am_terms.specs.declared.rehearsal.Rehearsal.{Rehearsal};
 ghost use Rattle.am_input.specs.declared.input.Asked.{Asked};
 ghost use Rattle.am_input.specs.declared.input.Input.{Input};
-ghost use Rattle.am_input.specs.Request.{DecodesToStart, IsRequestIn, IsWithoutPatterns, IsRequestWithoutPatterns};
+ghost use Rattle.am_input.specs.Request.{DecodesToStart, IsRequestIn, IsWithoutRegexes, IsRequestWithoutRegexes};
 ghost use Rattle.am_input.specs.Request.{RefusesAll, Requests, end_for, maintain_in, member_names, output_for};
 
 use crate::configured::{Configured, read_configured};
@@ -140,7 +140,7 @@ pub fn read_input<Z: ZoneFiles>(
     ensures told { IfOk result (λ input. IsRequestIn changes.entry (view value.now) input.output input.start
         input.expectations.items input.handovers.items input.rehearsal) }
     ensures refused { IfErr result (RefusesAll (λ (input : Input).
-        IsRequestWithoutPatterns changes.entry (view value.now) input.output input.start
+        IsRequestWithoutRegexes changes.entry (view value.now) input.output input.start
         input.expectations.items input.handovers.items input.rehearsal)) }
 {
     let reader = Reader::strict(alloc, value);
@@ -171,7 +171,7 @@ fn read_planned(
         Requests top.now.dialect changes.entry (members_view top.now.members) input.output input.start
         input.expectations.items input.handovers.items input.rehearsal
         × (input.rehearsal.config ≡ configured.config) × (input.handovers.items ≡ handed.handovers.items)
-        × IsWithoutPatterns top.now.dialect changes.entry (members_view top.now.members) input.handovers.items input.rehearsal)) }
+        × IsWithoutRegexes top.now.dialect changes.entry (members_view top.now.members) input.handovers.items input.rehearsal)) }
 {
     let Configured {
         config,
@@ -225,7 +225,7 @@ fn read_asked(
         × AreExpectedIn top.now.dialect (configs_of rehearsal.now.config handovers.now) rehearsal.now.until
         (last_end rehearsal.now.until (members_view top.now.members)) rehearsal.now.plans.items
         (get_member (codes "expect") (members_view top.now.members)) asked.expectations.items
-        × HaveNoPatternIn top.now.dialect (get_member (codes "expect") (members_view top.now.members)))) }
+        × HaveNoRegexIn top.now.dialect (get_member (codes "expect") (members_view top.now.members)))) }
 {
     let start = moment::start(top)?;
     let output = read_output(top, output)?;
@@ -263,7 +263,7 @@ fn read_rehearsal(
         (maintain_in (get_member (codes "maintain") (members_view top.now.members)) ≡ Some r.maintain)
         × HasOr (IsList (DecodesToOutage top.now.dialect)) [] (codes "outages") (members_view top.now.members) r.outages.items
         × IsTrue (have_places (configs_of config handovers.now) r.outages.items)
-        × ArePlannedWithoutPatterns top.now.dialect (members_view top.now.members) r.plans.items)) }
+        × ArePlannedWithoutRegexes top.now.dialect (members_view top.now.members) r.plans.items)) }
 {
     let maintain = read_maintain(top)?;
     let outages = read_outages_under(top, &config, handovers)?;

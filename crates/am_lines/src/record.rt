@@ -1,7 +1,6 @@
 //! The records of a history: each accepted call as the line that asks for it, with its reply. `am_dispatch` hands them to
 //! `write_list`.
 ghost use Rattle.std.specs.Prelude.{◌≡◌, ◌++◌, OnOk};
-ghost use Rattle.am_cli.specs.MatcherText.{operator_text};
 ghost use Rattle.am_lines.specs.Record.{call_tokens, finish_tokens, insert_tokens, load_tokens, note_tokens, outcome_tokens, report_tokens};
 ghost use Rattle.am_lines.specs.Record.{silence_tokens, timed_tokens};
 
@@ -170,20 +169,9 @@ impl ToJson for MatcherParts {
     fn write(&self, _config: &Config, answer: &mut Answer) -> Result<(), AllocError> {
         answer.open_list()?;
         answer.text(self.name.as_str())?;
-        answer.text(operator_text(self.op))?;
+        answer.text(self.op.text())?;
         answer.text(self.value.as_str())?;
         answer.close_list()
-    }
-}
-
-fn operator_text(op: Operator) -> &'static str
-    ensures { result.now ≡ operator_text op }
-{
-    match op {
-        Operator::Equal => "=",
-        Operator::NotEqual => "!=",
-        Operator::Like => "=~",
-        Operator::NotLike => "!~",
     }
 }
 

@@ -9,17 +9,17 @@ use Rattle.am_cli.proofs.Once.{one_list, one_matcher}
 use Rattle.am_cli.specs.Configured.{DecodesToMatcher}
 use Rattle.am_cli.specs.Decoding.{HasNone, IsList}
 use Rattle.am_cli.specs.declared.reader.Dialect.{Dialect}
-use Rattle.am_plans.specs.Expected.{AreMatchersOf, IsEndOf, IsOwnSpan, IsSpanIn, IsSpanWithin, HasNoPatternAt}
+use Rattle.am_plans.specs.Expected.{AreMatchersOf, IsEndOf, IsOwnSpan, IsSpanIn, IsSpanWithin, HasNoRegexAt}
 use Rattle.am_terms.specs.declared.rehearsal.TimedAction.{TimedAction}
 
 -- what is never refused of a span
 abbrev pub TellsSpan : Dialect → ℕ → ℕ → List TimedAction → Members → ℕ × ℕ → Type 0
-TellsSpan dialect until last plans members span = IsSpanIn dialect until last plans members span.0 span.1 × HasNoPatternAt dialect (codes "of") members
+TellsSpan dialect until last plans members span = IsSpanIn dialect until last plans members span.0 span.1 × HasNoRegexAt dialect (codes "of") members
 
 -- the same with `within`
 abbrev pub TellsWithin : Dialect → ℕ → List TimedAction → Members → Data → ℕ × ℕ → Type 0
 TellsWithin dialect last plans members within span =
-    IsSpanWithin dialect last plans members within span.0 span.1 × HasNoPatternAt dialect (codes "of") members
+    IsSpanWithin dialect last plans members within span.0 span.1 × HasNoRegexAt dialect (codes "of") members
 
 -- what is told where `within` is there
 pub beside_within : (dialect : Dialect) (until last : ℕ) (plans : List TimedAction) (members : Members) (within : Data) (from to : ℕ)

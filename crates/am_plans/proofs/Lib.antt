@@ -14,8 +14,8 @@ pub mod Contents
 pub mod Makes
 -- spans of expectations
 pub mod ExpectedSpans
--- expectations that look for no pattern
-pub mod NoPattern
+-- expectations whose matchers need no regex
+pub mod NoRegex
 -- a JSON value tells one outage at most
 pub mod Outages
 -- what reloads and restarts may follow, what a JSON value tells of them, and their order

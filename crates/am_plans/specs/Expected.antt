@@ -335,26 +335,26 @@ AreExpectedIn dialect configs until last plans member expectations =
     MatchOption member (expectations ≡ [])
     (λ value. IsList (IsKnownIn dialect configs until last plans) value expectations × (length expectations ≤ MAX_EXPECTATIONS))
 
--- the matchers that the member of this name lists look for no pattern
-abbrev pub HasNoPatternAt : Dialect → List ℕ → Members → Type 0
-HasNoPatternAt dialect name members =
+-- the matchers that the member of this name lists need no regex
+abbrev pub HasNoRegexAt : Dialect → List ℕ → Members → Type 0
+HasNoRegexAt dialect name members =
     (matchers : List MatcherParts) → Has (IsList (DecodesToMatcher dialect)) name members matchers → IsTrue (compare_texts matchers)
 
--- no matcher of an expectation looks for a pattern
-pub record HasNoPattern (dialect : Dialect) (members : Members) : Type 0 where
-  pub of : HasNoPatternAt dialect (codes "of") members
-  pub has : HasNoPatternAt dialect (codes "has") members
-  pub has_resolved : HasNoPatternAt dialect (codes "has_resolved") members
+-- no matcher of an expectation needs a regex
+pub record HasNoRegex (dialect : Dialect) (members : Members) : Type 0 where
+  pub of : HasNoRegexAt dialect (codes "of") members
+  pub has : HasNoRegexAt dialect (codes "has") members
+  pub has_resolved : HasNoRegexAt dialect (codes "has_resolved") members
 
 -- the same of a value
-abbrev pub HasNoPatternIn : Dialect → Data → Type 0
-HasNoPatternIn dialect value = MatchOption (as_object value) ⊤ (HasNoPattern dialect)
+abbrev pub HasNoRegexIn : Dialect → Data → Type 0
+HasNoRegexIn dialect value = MatchOption (as_object value) ⊤ (HasNoRegex dialect)
 
 -- the same of each value in an array
-abbrev pub HaveNoPattern : Dialect → Items → Type 0
-HaveNoPattern dialect no_items = ⊤
-HaveNoPattern dialect (item value values) = HasNoPatternIn dialect value × HaveNoPattern dialect values
+abbrev pub HaveNoRegex : Dialect → Items → Type 0
+HaveNoRegex dialect no_items = ⊤
+HaveNoRegex dialect (item value values) = HasNoRegexIn dialect value × HaveNoRegex dialect values
 
 -- the same of what a member lists
-abbrev pub HaveNoPatternIn : Dialect → Option Data → Type 0
-HaveNoPatternIn dialect member = MatchOption member ⊤ (λ value. MatchOption (as_array value) ⊤ (HaveNoPattern dialect))
+abbrev pub HaveNoRegexIn : Dialect → Option Data → Type 0
+HaveNoRegexIn dialect member = MatchOption member ⊤ (λ value. MatchOption (as_array value) ⊤ (HaveNoRegex dialect))

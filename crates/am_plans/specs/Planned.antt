@@ -75,13 +75,13 @@ may_insert_all alert = list_all (may_insert_in alert.labels) alert.spans.items
 abbrev pub may_set : SilenceItem → Bool
 may_set s = is_none (silence_fault (silence_of 1 s.matchers.items s.from s.to))
 
--- whether no matcher of these silences looks for a pattern
-abbrev pub have_no_pattern : List SilenceItem → Bool
-have_no_pattern silences = list_all (λ s. compare_texts s.matchers.items) silences
+-- whether no matcher of these silences needs a regex
+abbrev pub have_no_regex : List SilenceItem → Bool
+have_no_regex silences = list_all (λ s. compare_texts s.matchers.items) silences
 
--- the actions are those that the members plan, whose silences look for no pattern
-abbrev pub ArePlannedWithoutPatterns : Dialect → Members → List TimedAction → Type 0
-ArePlannedWithoutPatterns dialect members plans = (planned : ArePlannedIn dialect members plans) × IsTrue (have_no_pattern planned.silences)
+-- the actions are those that the members plan, whose silences need no regex
+abbrev pub ArePlannedWithoutRegexes : Dialect → Members → List TimedAction → Type 0
+ArePlannedWithoutRegexes dialect members plans = (planned : ArePlannedIn dialect members plans) × IsTrue (have_no_regex planned.silences)
 
 -- each planned action has its place as its number
 abbrev pub IsNumbered : List Planned → Type 0

@@ -8,8 +8,8 @@ ghost use Rattle.serde_json.specs.View.{members_view, view};
 ghost use Rattle.am_cli.specs.Read.{Excludes};
 ghost use Rattle.am_plans.specs.Configs.{configs_in};
 ghost use Rattle.am_plans.specs.Decoding.{Denies};
-ghost use Rattle.am_plans.specs.Expected.{AreExpectedIn, HaveNoPatternIn, IsExpectedIn};
-ghost use Rattle.am_plans.specs.Expected.{IsExpectedOf, IsKnownIn, HasNoPattern, HasNoPatternIn};
+ghost use Rattle.am_plans.specs.Expected.{AreExpectedIn, HaveNoRegexIn, IsExpectedIn};
+ghost use Rattle.am_plans.specs.Expected.{IsExpectedOf, IsKnownIn, HasNoRegex, HasNoRegexIn};
 ghost use Rattle.am_plans.specs.Expected.{has_alerts, last_end, member_if, until_in};
 
 pub(crate) mod alerts;
@@ -80,7 +80,7 @@ pub fn read_expectations(
     ensures refused { IfErr result (Excludes (λ expectations. AreExpectedIn top.now.dialect (configs_in configs.now) until
         (last_end until (members_view top.now.members)) plans.now
         (get_member (codes "expect") (members_view top.now.members)) expectations
-        × HaveNoPatternIn top.now.dialect (get_member (codes "expect") (members_view top.now.members)))) }
+        × HaveNoRegexIn top.now.dialect (get_member (codes "expect") (members_view top.now.members)))) }
 {
     let last = last_end(top, until);
     match top.optional("expect") {
@@ -120,7 +120,7 @@ fn read_list(
         AreExpectedIn member.now.dialect (configs_in configs.now) until last plans.now (Some (view member.now.value)) expectations.items) }
     ensures refused { IfErr result (Excludes (λ expectations.
         AreExpectedIn member.now.dialect (configs_in configs.now) until last plans.now (Some (view member.now.value)) expectations
-        × HaveNoPatternIn member.now.dialect (Some (view member.now.value)))) }
+        × HaveNoRegexIn member.now.dialect (Some (view member.now.value)))) }
 {
     let mut expectations = Vec::new(member.alloc());
     let values = member.array()?;
@@ -203,7 +203,7 @@ fn read_known(
     ensures told { IfOk result (IsKnownIn reader.now.dialect (configs_in configs.now) until last plans.now (view reader.now.value)) }
     ensures refused { IfErr result (Excludes (λ x.
         IsKnownIn reader.now.dialect (configs_in configs.now) until last plans.now (view reader.now.value) x
-        × HasNoPatternIn reader.now.dialect (view reader.now.value))) }
+        × HasNoRegexIn reader.now.dialect (view reader.now.value))) }
 {
     let expectation = read_expectation(reader, until, last, plans)?;
     check_target(reader.alloc(), configs, &expectation, reader.place())?;
@@ -235,7 +235,7 @@ fn read_expectation(
 ) -> Result<Expectation, InputFault>
     ensures told { IfOk result (IsExpectedIn reader.now.dialect until last plans.now (view reader.now.value)) }
     ensures refused { IfErr result (Excludes (λ x. IsExpectedIn reader.now.dialect until last plans.now (view reader.now.value) x
-        × HasNoPatternIn reader.now.dialect (view reader.now.value))) }
+        × HasNoRegexIn reader.now.dialect (view reader.now.value))) }
 {
     let item = reader.object()?;
     item.only(&MEMBERS)?;
@@ -251,7 +251,7 @@ fn read_members(
     ensures told { IfOk result (IsExpectedOf item.now.dialect until last plans.now (members_view item.now.members)) }
     ensures refused { IfErr result (Excludes (λ x.
         IsExpectedOf item.now.dialect until last plans.now (members_view item.now.members) x
-        × HasNoPattern item.now.dialect (members_view item.now.members))) }
+        × HasNoRegex item.now.dialect (members_view item.now.members))) }
 {
     let name = read_name(item, "name")?;
     let (from, to) = read_span(item, until, last, plans)?;

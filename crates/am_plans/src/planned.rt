@@ -6,7 +6,7 @@ ghost use Rattle.std.specs.List.{flat_map, list_all};
 ghost use Rattle.serde_json.specs.View.{members_view};
 ghost use Rattle.am_cli.specs.Read.{Excludes};
 ghost use Rattle.am_plans.specs.Decoding.{Denies};
-ghost use Rattle.am_plans.specs.Planned.{AddsPlans, ArePlannedWithoutPatterns, ArePlannedIn, insert_of};
+ghost use Rattle.am_plans.specs.Planned.{AddsPlans, ArePlannedWithoutRegexes, ArePlannedIn, insert_of};
 ghost use Rattle.am_plans.specs.Planned.{inserts_in, inserts_of, plans_of, set_of, sets_from};
 ghost use Rattle.am_plans.specs.Planned.{may_insert, may_insert_all, may_insert_in, may_set};
 ghost use Rattle.am_cli.specs.declared.fault.InputFault.TheVariants.{NoMemory};
@@ -35,7 +35,7 @@ struct Planned {
 /// Reads the planned actions of a story, in the order of their times, and where each is in the input.
 pub fn read_plans(top: &Object<'_, '_>) -> Result<(Vec<TimedAction>, Vec<Origin>), InputFault>
     ensures told { IfOk result (λ read. ArePlannedIn top.now.dialect (members_view top.now.members) read.0.items) }
-    ensures refused { IfErr result (Excludes (ArePlannedWithoutPatterns top.now.dialect (members_view top.now.members))) }
+    ensures refused { IfErr result (Excludes (ArePlannedWithoutRegexes top.now.dialect (members_view top.now.members))) }
 {
     let alerts = top.list_or_none::<AlertItem>("alerts")?;
     let silences = top.list_or_none::<SilenceItem>("silences")?;

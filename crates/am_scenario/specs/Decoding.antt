@@ -102,7 +102,7 @@ pub record IsScenarioIn (input : List ℕ) (scenario : Scenario) : Type 0 where
   pub text : read input ≡ Some value
   pub told : DecodesToScenario value scenario
 
--- whether no matcher of a call looks for a pattern
+-- whether no matcher of a call needs a regex
 abbrev pub call_compares_texts : LaneCall → Bool
 call_compares_texts (Insert alert) = true
 call_compares_texts (Silence silence) = compare_texts silence.matchers

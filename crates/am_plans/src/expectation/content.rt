@@ -7,7 +7,7 @@ ghost use Rattle.am_alerts.specs.declared.matcher.MatcherParts.{MatcherParts};
 ghost use Rattle.serde_json.specs.Find.{get_member};
 ghost use Rattle.serde_json.specs.View.{members_view, view};
 ghost use Rattle.am_cli.specs.Read.{Excludes};
-ghost use Rattle.am_plans.specs.Expected.{AreFiringIn, AreMatchersIn, AreMatchersOf, AreResolvedIn, AreSetsIn, HasContentIn, HasNoPattern};
+ghost use Rattle.am_plans.specs.Expected.{AreFiringIn, AreMatchersIn, AreMatchersOf, AreResolvedIn, AreSetsIn, HasContentIn, HasNoRegex};
 ghost use Rattle.am_plans.specs.Expected.{member_if, reason_in};
 ghost use Rattle.am_plans.specs.Expected.{SaysExactly, said_or_of};
 
@@ -25,7 +25,7 @@ use am_terms::expectation::{Content, SentReason, reason_named};
 pub(crate) fn read_content(item: &Object<'_, '_>) -> Result<Content, InputFault>
     ensures told { IfOk result (HasContentIn item.now.dialect (members_view item.now.members)) }
     ensures refused { IfErr result (Excludes (λ content. HasContentIn item.now.dialect (members_view item.now.members) content
-        × HasNoPattern item.now.dialect (members_view item.now.members))) }
+        × HasNoRegex item.now.dialect (members_view item.now.members))) }
 {
     let resolves = read_when(item)?;
     let has = read_has(item, "has", !resolves)?;

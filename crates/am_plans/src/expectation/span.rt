@@ -7,7 +7,7 @@ ghost use Rattle.serde_json.specs.View.{members_view, view};
 ghost use Rattle.am_cli.specs.Decoding.{HasNone};
 ghost use Rattle.am_cli.specs.Read.{Excludes, duration_in, is_refusal};
 ghost use Rattle.am_plans.specs.Expected.{IsAt, IsEndOf, IsFromTo, IsOwnSpan, IsSpanFrom, IsSpanIn};
-ghost use Rattle.am_plans.specs.Expected.{IsSpanWithin, HasNoPatternAt, does_as_said};
+ghost use Rattle.am_plans.specs.Expected.{IsSpanWithin, HasNoRegexAt, does_as_said};
 ghost use Rattle.am_plans.specs.Expected.{first_insert, inserts, member_or, resolves_in};
 
 use crate::alert::refuse;
@@ -32,7 +32,7 @@ pub(crate) fn read_span(
         IsSpanIn item.now.dialect until last plans.now (members_view item.now.members) span.0 span.1) }
     ensures refused { IfErr result (Excludes (λ (span : ℕ × ℕ).
         IsSpanIn item.now.dialect until last plans.now (members_view item.now.members) span.0 span.1
-        × HasNoPatternAt item.now.dialect (codes "of") (members_view item.now.members))) }
+        × HasNoRegexAt item.now.dialect (codes "of") (members_view item.now.members))) }
 {
     let Some(within) = item.optional("within") else {
         return read_own_span(item, until, last);
@@ -155,7 +155,7 @@ fn read_within(
         IsSpanWithin item.now.dialect last plans.now (members_view item.now.members) (view within.now.value) span.0 span.1) }
     ensures refused { IfErr result (Excludes (λ (span : ℕ × ℕ).
         IsSpanWithin item.now.dialect last plans.now (members_view item.now.members) (view within.now.value) span.0 span.1
-        × HasNoPatternAt item.now.dialect (codes "of") (members_view item.now.members))) }
+        × HasNoRegexAt item.now.dialect (codes "of") (members_view item.now.members))) }
 {
     let resolves = read_when(item)?;
     let of = item.required("of")?;

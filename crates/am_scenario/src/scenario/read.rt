@@ -23,8 +23,8 @@ use std::alloc::Global;
 /// How many workers there are, where the scenario doesn't say.
 const USUAL_WORKERS: usize = 2;
 
-/// Reads a whole scenario. The first fault in the order of reading is answered. A matcher's pattern
-/// may be too large; else what the value tells is refused only for want of memory.
+/// Reads a whole scenario. The first fault in the order of reading is answered. A pattern
+/// that needs a regex may be too large; else what the value tells is refused only for want of memory.
 pub fn read_scenario(alloc: Global, value: &Value) -> Result<Scenario, InputFault>
     ensures told { IfOk result (DecodesToScenario (view value.now)) }
     ensures refused { IfErr result (Excludes (λ scenario.

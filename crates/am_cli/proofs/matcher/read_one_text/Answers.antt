@@ -15,7 +15,7 @@ use Rattle.am_cli.proofs.matcher.read_one_text.Goals as goal
 
 -- what is never refused
 abbrev Tells : Data → MatcherParts → Type 0
-Tells value m = IsSomeAnd (as_str value) (λ text. IsMatcherText text m) × IsSound m × IsTrue (compares_texts m.op)
+Tells value m = IsSomeAnd (as_str value) (λ text. IsMatcherText text m) × IsSound m × IsTrue (compares_texts m)
 
 -- the text of a matcher
 text_of : (found : Option (List ℕ)) (text : List ℕ) (m : MatcherParts) → Some text ≡ found → IsSomeAnd found (λ t. IsMatcherText t m) → IsMatcherText text m
@@ -56,5 +56,5 @@ returns-in-Err-clause-refused c refusal m told =
     let same : m ≡ parts =
     one_text text m parts (text_of (as_str (view c.args.reader.now.value)) text m c.in_ok-text.ensures.text told.0)
     (parts_told text c.in_ok-parts.field-0 (Some parts) c.in-Some.is c.in_ok-parts.ensures) in
-    false≢true (c.in-Err.ensures.made (subst (λ (n : MatcherParts). IsTrue (compares_texts n.op)) same told.2)
+    false≢true (c.in-Err.ensures.made (subst (λ (n : MatcherParts). IsTrue (compares_texts n)) same told.2)
     (subst (λ (n : MatcherParts). matcher_fault n ≡ None) same told.1.faultless))

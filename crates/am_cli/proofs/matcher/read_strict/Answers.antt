@@ -17,7 +17,7 @@ Text value m = IsSomeAnd (as_str value) (λ text. IsMatcherText text m)
 
 -- what is never refused
 abbrev Tells : Data → MatcherParts → Type 0
-Tells value m = DecodesToMatcher Strict value m × IsTrue (compares_texts m.op)
+Tells value m = DecodesToMatcher Strict value m × IsTrue (compares_texts m)
 
 as_text : (found : Option (List ℕ)) (three : Type 0) (m : MatcherParts) → IsSomeAnd found (λ t. IsMatcherText t m)
     → MatchOption found three (λ t. IsMatcherText t m)
@@ -58,13 +58,13 @@ returns-clause-told c =
 pub returns-then-is_text-clause-refused : goal.returns-then-is_text-clause-refused
 returns-then-is_text-clause-refused c =
     let value = view c.args.reader.now.value in
-    narrowed (λ (m : MatcherParts). Text value m × IsSound m × IsTrue (compares_texts m.op)) (Tells value)
+    narrowed (λ (m : MatcherParts). Text value m × IsSound m × IsTrue (compares_texts m)) (Tells value)
     (λ m told. (of_text (as_str value) (IsMatcher value m) m (sym c.is_text.ensures ∙ c.if-is_text.true) told.0.written, told.0.sound, told.1))
     c.read_one_text.result c.read_one_text.ensures.refused
 
 pub returns-clause-refused : goal.returns-clause-refused
 returns-clause-refused c =
     let value = view c.args.reader.now.value in
-    narrowed (λ (m : MatcherParts). IsMatcher value m × IsSound m × IsTrue (compares_texts m.op)) (Tells value)
+    narrowed (λ (m : MatcherParts). IsMatcher value m × IsSound m × IsTrue (compares_texts m)) (Tells value)
     (λ m told. (of_three (as_str value) (IsMatcher value m) m (sym c.is_text.ensures ∙ c.if-is_text.false) told.0.written, told.0.sound, told.1))
     c.read_three_texts.result c.read_three_texts.ensures.refused

@@ -4,10 +4,9 @@ use Rattle.std.specs.Prelude.{IsTrue}
 use Rattle.serde_json.specs.Data.{Data}
 use Rattle.serde_json.specs.Find.{as_array}
 use Rattle.serde_json.specs.View.{view}
-use Rattle.am_alerts.specs.Matcher.{compares_texts, matcher_fault}
+use Rattle.am_alerts.specs.Matcher.{compares_texts, matcher_fault, operator_text}
 use Rattle.am_alerts.specs.declared.matcher.MatcherParts.{MatcherParts}
 use Rattle.am_cli.specs.Configured.{IsMatcher, IsSound}
-use Rattle.am_cli.specs.MatcherText.{operator_text}
 use Rattle.am_cli.proofs.Decoding.{handed_on}
 use Rattle.am_cli.proofs.Made.{no_fault}
 use Rattle.am_cli.proofs.Once.{one_three, same_operator, written_so}
@@ -15,7 +14,7 @@ use Rattle.am_cli.proofs.matcher.read_three_texts.Goals as goal
 
 -- what is never refused
 abbrev Tells : Data → MatcherParts → Type 0
-Tells value m = IsMatcher value m × IsSound m × IsTrue (compares_texts m.op)
+Tells value m = IsMatcher value m × IsSound m × IsTrue (compares_texts m)
 
 pub returns-in_err-name-clause-refused : goal.returns-in_err-name-clause-refused
 returns-in_err-name-clause-refused c =
@@ -40,5 +39,5 @@ returns-in-Err-clause-refused c refusal m told =
     let written : IsMatcher (view c.args.reader.now.value) parts =
     written_so (as_array (view c.args.reader.now.value)) _ _ _ parts c.in_ok-name.ensures.texts c.in_ok-new.ensures c.in-Some.ensures c.in_ok-new-2.ensures in
     let same : m ≡ parts = one_three (view c.args.reader.now.value) m parts told.0 written in
-    false≢true (c.in-Err.ensures.made (subst (λ (n : MatcherParts). IsTrue (compares_texts n.op)) same told.2)
+    false≢true (c.in-Err.ensures.made (subst (λ (n : MatcherParts). IsTrue (compares_texts n)) same told.2)
     (subst (λ (n : MatcherParts). matcher_fault n ≡ None) same told.1.faultless))

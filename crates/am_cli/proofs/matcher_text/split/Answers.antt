@@ -3,7 +3,8 @@ use Rattle.std.proofs.lemmas.List.{take-append-drop}
 use Rattle.std.proofs.lemmas.List.Quantifiers.{position-Some}
 use Rattle.std.proofs.lemmas.Str.{IsCharBoundary-before_ascii}
 use Rattle.am_cli.proofs.MatcherTexts.{front_is, operator_ascii}
-use Rattle.am_cli.specs.MatcherText.{begins_operator, operator_text}
+use Rattle.am_alerts.specs.Matcher.{operator_text}
+use Rattle.am_cli.specs.MatcherText.{begins_operator}
 use Rattle.am_cli.proofs.matcher_text.split.Goals as goal
 
 pub split_at-requires : goal.split_at-requires

@@ -4,7 +4,7 @@ use Rattle.serde_json.specs.Find.{as_object}
 use Rattle.serde_json.specs.View.{view}
 use Rattle.serde_json.specs.declared.value.Value.{Value}
 use Rattle.am_cli.specs.declared.reader.Dialect.{Dialect}
-use Rattle.am_input.specs.Configured.{TellsWithoutPatterns}
+use Rattle.am_input.specs.Configured.{TellsWithoutRegexes}
 use Rattle.am_input.specs.Handovers.{is_ours}
 use Rattle.am_input.specs.Request.{RefusesAll}
 use Rattle.am_model.specs.declared.config.Config.{Config}
@@ -14,13 +14,13 @@ use Rattle.am_input.proofs.configured.read_reload.Goals as goal
 pub returns-in-None-clause-refused : goal.returns-in-None-clause-refused
 returns-in-None-clause-refused g c =
     let Refused = λ (v : Value) (e : Dialect). IsTrue (is_ours (Some (view v)))
-    → IfErr c.read_at.result (RefusesAll (λ (config : Config). IsSomeAnd (as_object (view v)) (λ fields. TellsWithoutPatterns e fields config))) in
+    → IfErr c.read_at.result (RefusesAll (λ (config : Config). IsSomeAnd (as_object (view v)) (λ fields. TellsWithoutRegexes e fields config))) in
     subst (λ (v : Value). Refused v c.args.top.now.dialect) c.member-list.ensures.value
     (subst (λ (e : Dialect). Refused c.member-list.result.value e) c.member-list.ensures.dialect c.read_at.ensures.refused)
 
 pub returns-in-Some-clause-refused : goal.returns-in-Some-clause-refused
 returns-in-Some-clause-refused g c =
     let Refused = λ (v : Value) (e : Dialect). IsTrue (is_ours (Some (view v)))
-    → IfErr c.read_at-in-Some.result (RefusesAll (λ (config : Config). IsSomeAnd (as_object (view v)) (λ fields. TellsWithoutPatterns e fields config))) in
+    → IfErr c.read_at-in-Some.result (RefusesAll (λ (config : Config). IsSomeAnd (as_object (view v)) (λ fields. TellsWithoutRegexes e fields config))) in
     subst (λ (v : Value). Refused v c.args.top.now.dialect) c.item.ensures.value
     (subst (λ (e : Dialect). Refused c.item.result.value e) (c.item.ensures.dialect ∙ c.member-list.ensures.dialect) c.read_at-in-Some.ensures.refused)

@@ -5,7 +5,7 @@ use Rattle.serde_json.specs.View.{members_view}
 use Rattle.am_cli.specs.Configured.{config_compares_texts}
 use Rattle.am_input.proofs.Refusals.{one_on, passed_on}
 use Rattle.am_input.specs.Configured.{file_in}
-use Rattle.am_input.specs.Handovers.{AreHandoversWithoutPatterns, AreToldBy, IsConfigAt, is_ours}
+use Rattle.am_input.specs.Handovers.{AreHandoversWithoutRegexes, AreToldBy, IsConfigAt, is_ours}
 use Rattle.am_plans.proofs.Handovers.{one_items}
 use Rattle.am_plans.specs.Handover.{ItemData, item_of}
 use Rattle.am_plans.specs.declared.handover.HandoverItem.{HandoverItem}
@@ -30,7 +30,7 @@ returns-clause-timed g c own ours handovers told =
 
 pub returns-in_err-items-clause-refused : goal.returns-in_err-items-clause-refused
 returns-in_err-items-clause-refused g c own ours =
-    one_on (AreHandoversWithoutPatterns c.args.top.now.dialect (file_in c.args.changes) c.args.until (members_view c.args.top.now.members)) c.from_residual.result
+    one_on (AreHandoversWithoutRegexes c.args.top.now.dialect (file_in c.args.changes) c.args.until (members_view c.args.top.now.members)) c.from_residual.result
     c.in_err-items.field-0.0 c.from_residual.ensures.1 (λ refusal handovers told. c.in_err-items.ensures.refused refusal told.told.items told.told.items_are)
 
 pub returns-in_err-read_configs-clause-refused : goal.returns-in_err-read_configs-clause-refused
@@ -40,7 +40,7 @@ returns-in_err-read_configs-clause-refused g c own ours =
     let file = file_in c.args.changes in
     let items = c.as_slice.result.now in
     passed_on (λ (hs : List Handover). AreToldBy (IsConfigAt file d members) None (map item_of items) hs × IsTrue (list_all (λ (h : Handover). config_compares_texts h.config) hs))
-    (AreHandoversWithoutPatterns d file c.args.until members) (λ hs. hs) c.from_residual-in_err-read_configs.result c.in_err-read_configs.field-0.0
+    (AreHandoversWithoutRegexes d file c.args.until members) (λ hs. hs) c.from_residual-in_err-read_configs.result c.in_err-read_configs.field-0.0
     c.from_residual-in_err-read_configs.ensures.1
     (λ hs told.
     let same = one_items d c.args.until members told.told.items (map item_of c.in_ok-items.items.items) told.told.items_are c.in_ok-items.ensures.told

@@ -10,7 +10,7 @@ use Rattle.am_input.specs.declared.input.Output.{Output}
 use Rattle.am_model.specs.declared.config.Config.{Config}
 use Rattle.am_plans.specs.Configs.{configs_of}
 use Rattle.am_plans.proofs.Decodings.{none_read}
-use Rattle.am_plans.specs.Expected.{AreExpectedIn, HaveNoPatternIn, last_end}
+use Rattle.am_plans.specs.Expected.{AreExpectedIn, HaveNoRegexIn, last_end}
 use Rattle.am_terms.specs.declared.rehearsal.TimedAction.{TimedAction}
 use Rattle.am_input.proofs.input.read_asked.Goals as goal
 
@@ -19,7 +19,7 @@ abbrev Tells : Dialect → Members → Option Output → List Config → ℕ →
 Tells d members output configs until plans asked =
     DecodesToStart (get_member (codes "start") members) asked.start × (output_for output (get_member (codes "output") members) ≡ Some asked.output)
     × AreExpectedIn d configs until (last_end until members) plans (get_member (codes "expect") members) asked.expectations.items
-    × HaveNoPatternIn d (get_member (codes "expect") members)
+    × HaveNoRegexIn d (get_member (codes "expect") members)
 
 pub returns-in_err-start-clause-refused : goal.returns-in_err-start-clause-refused
 returns-in_err-start-clause-refused c =

@@ -12,9 +12,9 @@ use Rattle.am_cli.specs.declared.reader.Dialect.{Dialect}
 use Rattle.am_cli.specs.declared.reader.Dialect.TheVariants.{Strict}
 use Rattle.am_input.proofs.Refusals.{one_on, passed_on}
 use Rattle.am_input.proofs.ToldHandovers.{one_list}
-use Rattle.am_input.specs.Configured.{IsConfigFor, IsReadOfTheirs, TellsWithoutPatterns, file_in}
-use Rattle.am_input.specs.Handovers.{AreHandoversWithoutPatterns}
-use Rattle.am_input.specs.Request.{IsWithoutPatterns, Requests, end_for}
+use Rattle.am_input.specs.Configured.{IsConfigFor, IsReadOfTheirs, TellsWithoutRegexes, file_in}
+use Rattle.am_input.specs.Handovers.{AreHandoversWithoutRegexes}
+use Rattle.am_input.specs.Request.{IsWithoutRegexes, Requests, end_for}
 use Rattle.am_input.specs.declared.input.Changes.{Changes}
 use Rattle.am_input.specs.declared.input.Input.{Input}
 use Rattle.am_model.specs.declared.config.Config.{Config}
@@ -25,7 +25,7 @@ use Rattle.am_input.proofs.input.read_input.Goals as goal
 abbrev Asks : Dialect → Changes → Input → Members → Type 0
 Asks d changes input members =
     Requests d changes members input.output input.start input.expectations.items input.handovers.items input.rehearsal
-    × IsWithoutPatterns d changes members input.handovers.items input.rehearsal
+    × IsWithoutRegexes d changes members input.handovers.items input.rehearsal
 
 abbrev Tells : Changes → Data → Input → Type 0
 Tells changes value input = IsSomeAnd (as_object value) (Asks Strict changes input)
@@ -40,7 +40,7 @@ returns-clause-told g c =
     (subst (λ (d : Dialect). Says d (members_view c.in_ok-top.top.members)) dialect c.in_ok-read_planned.ensures.told))
 
 -- the configuration that is told stands in `config`
-without_patterns : (d : Dialect) (changes : Changes) (members : Members) (input : Input) → Asks d changes input members → TellsWithoutPatterns d members input.rehearsal.config
+without_patterns : (d : Dialect) (changes : Changes) (members : Members) (input : Input) → Asks d changes input members → TellsWithoutRegexes d members input.rehearsal.config
 without_patterns d changes members input told =
     let told_of : IsConfigFor None d members input.rehearsal.config =
     subst (λ (file : Option Data). IsConfigFor file d members input.rehearsal.config) told.1.own told.0.configures in (
@@ -89,7 +89,7 @@ returns-in_err-configured-clause-refused g c =
     let members = members_view top.members in
     let is : Some members ≡ as_object value = c.in_ok-top.ensures.members ∙ ap (λ (v : Value). as_object (view v)) c.strict-reader.ensures.value in
     let strict : top.dialect ≡ Strict = c.in_ok-top.ensures.dialect ∙ c.strict-reader.ensures.dialect in
-    passed_on (TellsWithoutPatterns top.dialect members) (Tells c.args.changes value) (λ x. x.rehearsal.config) c.from_residual-in_err-configured.result c.in_err-configured.field-0.0
+    passed_on (TellsWithoutRegexes top.dialect members) (Tells c.args.changes value) (λ x. x.rehearsal.config) c.from_residual-in_err-configured.result c.in_err-configured.field-0.0
     c.from_residual-in_err-configured.ensures.1
     (λ x told.
     let asks = inside top.dialect c.args.changes members value x is strict told in
@@ -109,9 +109,9 @@ returns-in_err-until-clause-refused g c =
 
 -- the reloads and restarts that are asked for end with the story that was read
 handed_in : (d : Dialect) (changes : Changes) (members : Members) (input : Input) (until : ℕ) → Asks d changes input members
-    → end_for changes.overrides.until members ≡ Some until → AreHandoversWithoutPatterns d (file_in changes) until members input.handovers.items
+    → end_for changes.overrides.until members ≡ Some until → AreHandoversWithoutRegexes d (file_in changes) until members input.handovers.items
 handed_in d changes members input until told ends =
-    subst (λ (u : ℕ). AreHandoversWithoutPatterns d (file_in changes) u members input.handovers.items) (same_some told.0.ends ends) told.1.hands_over
+    subst (λ (u : ℕ). AreHandoversWithoutRegexes d (file_in changes) u members input.handovers.items) (same_some told.0.ends ends) told.1.hands_over
 
 pub returns-in_err-handed-clause-refused : goal.returns-in_err-handed-clause-refused
 returns-in_err-handed-clause-refused g c =
@@ -121,7 +121,7 @@ returns-in_err-handed-clause-refused g c =
     let is : Some members ≡ as_object value = c.in_ok-top.ensures.members ∙ ap (λ (v : Value). as_object (view v)) c.strict-reader.ensures.value in
     let strict : top.dialect ≡ Strict = c.in_ok-top.ensures.dialect ∙ c.strict-reader.ensures.dialect in
     let until : ℕ = c.in_ok-until.until in
-    passed_on (AreHandoversWithoutPatterns top.dialect (file_in c.args.changes) until members) (Tells c.args.changes value) (λ x. x.handovers.items)
+    passed_on (AreHandoversWithoutRegexes top.dialect (file_in c.args.changes) until members) (Tells c.args.changes value) (λ x. x.handovers.items)
     c.from_residual-in_err-handed.result c.in_err-handed.field-0.0 c.from_residual-in_err-handed.ensures.1
     (λ x told.
     let asks = inside top.dialect c.args.changes members value x is strict told in

@@ -10,7 +10,7 @@ use Rattle.am_input.specs.Configured.{IsConfigFor, file_in}
 use Rattle.am_input.specs.Handovers.{AreHandoversIn}
 use Rattle.am_plans.specs.Configs.{configs_of}
 use Rattle.am_terms.specs.declared.handover.Handover.{Handover}
-use Rattle.am_input.specs.Request.{IsWithoutPatterns, Requests}
+use Rattle.am_input.specs.Request.{IsWithoutRegexes, Requests}
 use Rattle.am_input.specs.declared.input.Asked.{Asked}
 use Rattle.am_input.specs.declared.input.Changes.{Changes}
 use Rattle.am_input.specs.declared.input.Input.{Input}
@@ -25,7 +25,7 @@ use Rattle.am_input.proofs.input.read_planned.Goals as goal
 abbrev Tells : Dialect → Changes → Members → Config → List Handover → Input → Type 0
 Tells d changes members config handovers input =
     Requests d changes members input.output input.start input.expectations.items input.handovers.items input.rehearsal × (input.rehearsal.config ≡ config)
-    × (input.handovers.items ≡ handovers) × IsWithoutPatterns d changes members input.handovers.items input.rehearsal
+    × (input.handovers.items ≡ handovers) × IsWithoutRegexes d changes members input.handovers.items input.rehearsal
 
 pub returns-clause-told : goal.returns-clause-told
 returns-clause-told c =

@@ -11,7 +11,7 @@ use Rattle.am_model.specs.declared.config.Config.{Config}
 use Rattle.am_plans.specs.Configs.{configs_of}
 use Rattle.am_plans.proofs.Decodings.{none_read}
 use Rattle.am_plans.specs.Decoding.{DecodesToOutage, have_places}
-use Rattle.am_plans.specs.Planned.{ArePlannedWithoutPatterns}
+use Rattle.am_plans.specs.Planned.{ArePlannedWithoutRegexes}
 use Rattle.am_terms.specs.declared.rehearsal.Rehearsal.{Rehearsal}
 use Rattle.am_input.proofs.input.read_rehearsal.Goals as goal
 
@@ -19,7 +19,7 @@ use Rattle.am_input.proofs.input.read_rehearsal.Goals as goal
 abbrev Tells : Dialect → Members → List Config → Rehearsal → Type 0
 Tells d members configs r =
     (maintain_in (get_member (codes "maintain") members) ≡ Some r.maintain) × HasOr (IsList (DecodesToOutage d)) [] (codes "outages") members r.outages.items
-    × IsTrue (have_places configs r.outages.items) × ArePlannedWithoutPatterns d members r.plans.items
+    × IsTrue (have_places configs r.outages.items) × ArePlannedWithoutRegexes d members r.plans.items
 
 pub returns-in_err-maintain-clause-refused : goal.returns-in_err-maintain-clause-refused
 returns-in_err-maintain-clause-refused c =

@@ -7,7 +7,7 @@ use Rattle.am_cli.proofs.Decoding.{found, handed_on, unknown}
 use Rattle.am_cli.specs.Read.{has_only}
 use Rattle.am_cli.specs.declared.reader.Dialect.{Dialect}
 use Rattle.am_plans.proofs.Decodings.{none_and, some_and}
-use Rattle.am_plans.specs.Expected.{IsExpectedIn, IsExpectedOf, HasNoPattern, HasNoPatternIn, field_names}
+use Rattle.am_plans.specs.Expected.{IsExpectedIn, IsExpectedOf, HasNoRegex, HasNoRegexIn, field_names}
 use Rattle.am_terms.specs.declared.expectation.Expectation.{Expectation}
 use Rattle.am_terms.specs.declared.rehearsal.TimedAction.{TimedAction}
 use Rattle.am_plans.proofs.expectation.read_expectation.Goals as goal
@@ -17,7 +17,7 @@ Says d until last plans x members = IsExpectedOf d until last plans members x ×
 
 -- what is never refused
 abbrev Tells : Dialect → ℕ → ℕ → List TimedAction → Data → Expectation → Type 0
-Tells d until last plans value x = IsExpectedIn d until last plans value x × HasNoPatternIn d value
+Tells d until last plans value x = IsExpectedIn d until last plans value x × HasNoRegexIn d value
 
 -- what the members tell of an object that was read
 said : (d e : Dialect) (until last : ℕ) (plans : List TimedAction) (x : Expectation) (members : Members) (value : Data) → Some members ≡ as_object value → e ≡ d
@@ -25,9 +25,9 @@ said : (d e : Dialect) (until last : ℕ) (plans : List TimedAction) (x : Expect
 said d e until last plans x members value is same told =
     subst (λ (f : Dialect). Says f until last plans x members) (sym same) (some_and (Says d until last plans x) members (as_object value) is told)
 
-without_patterns : (d e : Dialect) (members : Members) (value : Data) → Some members ≡ as_object value → e ≡ d → HasNoPatternIn d value → HasNoPattern e members
+without_patterns : (d e : Dialect) (members : Members) (value : Data) → Some members ≡ as_object value → e ≡ d → HasNoRegexIn d value → HasNoRegex e members
 without_patterns d e members value is same without =
-    subst (λ (f : Dialect). HasNoPattern f members) (sym same) (found Unit (HasNoPattern d) members (as_object value) is without)
+    subst (λ (f : Dialect). HasNoRegex f members) (sym same) (found Unit (HasNoRegex d) members (as_object value) is without)
 
 pub returns-clause-told : goal.returns-clause-told
 returns-clause-told c =

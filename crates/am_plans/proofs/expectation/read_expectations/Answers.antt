@@ -6,13 +6,13 @@ use Rattle.am_cli.proofs.Decoding.{narrowed}
 use Rattle.am_cli.specs.declared.reader.Dialect.{Dialect}
 use Rattle.am_model.specs.declared.config.Config.{Config}
 use Rattle.am_plans.specs.Configs.{configs_in}
-use Rattle.am_plans.specs.Expected.{AreExpectedIn, HaveNoPatternIn, last_end}
+use Rattle.am_plans.specs.Expected.{AreExpectedIn, HaveNoRegexIn, last_end}
 use Rattle.am_terms.specs.declared.expectation.Expectation.{Expectation}
 use Rattle.am_terms.specs.declared.rehearsal.TimedAction.{TimedAction}
 use Rattle.am_plans.proofs.expectation.read_expectations.Goals as goal
 
 abbrev Tells : Dialect → List Config → ℕ → ℕ → List TimedAction → Option Data → List Expectation → Type 0
-Tells d configs until last plans member xs = AreExpectedIn d configs until last plans member xs × HaveNoPatternIn d member
+Tells d configs until last plans member xs = AreExpectedIn d configs until last plans member xs × HaveNoRegexIn d member
 
 pub returns-in-Some-clause-refused : goal.returns-in-Some-clause-refused
 returns-in-Some-clause-refused c =

@@ -10,14 +10,14 @@ use Rattle.am_model.specs.declared.config.Config.{Config}
 use Rattle.am_plans.specs.Configs.{configs_in}
 use Rattle.am_plans.proofs.Contents.{are_alike, same_target}
 use Rattle.am_plans.proofs.Decodings.{is_there, true_false}
-use Rattle.am_plans.specs.Expected.{IsExpectedOf, IsKnownIn, HasNoPatternIn, field_names, has_alerts}
+use Rattle.am_plans.specs.Expected.{IsExpectedOf, IsKnownIn, HasNoRegexIn, field_names, has_alerts}
 use Rattle.am_terms.specs.declared.expectation.Expectation.{Expectation}
 use Rattle.am_terms.specs.declared.rehearsal.TimedAction.{TimedAction}
 use Rattle.am_plans.proofs.expectation.read_known.Goals as goal
 
 -- what is never refused
 abbrev Tells : Dialect → List Config → ℕ → ℕ → List TimedAction → Data → Expectation → Type 0
-Tells d configs until last plans value x = IsKnownIn d configs until last plans value x × HasNoPatternIn d value
+Tells d configs until last plans value x = IsKnownIn d configs until last plans value x × HasNoRegexIn d value
 
 pub returns-in_err-expectation-clause-refused : goal.returns-in_err-expectation-clause-refused
 returns-in_err-expectation-clause-refused c =

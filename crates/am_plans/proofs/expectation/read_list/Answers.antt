@@ -10,16 +10,16 @@ use Rattle.am_cli.specs.Decoding.{DecodeEach}
 use Rattle.am_cli.specs.declared.reader.Dialect.{Dialect}
 use Rattle.am_model.specs.declared.config.Config.{Config}
 use Rattle.am_plans.specs.Configs.{configs_in}
-use Rattle.am_plans.specs.Expected.{AreExpectedIn, HaveNoPatternIn, IsKnownIn, HasNoPatternIn}
+use Rattle.am_plans.specs.Expected.{AreExpectedIn, HaveNoRegexIn, IsKnownIn, HasNoRegexIn}
 use Rattle.am_plans.proofs.Lists.{decode_next}
-use Rattle.am_plans.proofs.NoPattern.{no_pattern_in, told_all}
+use Rattle.am_plans.proofs.NoRegex.{no_regex_in, told_all}
 use Rattle.am_terms.specs.declared.expectation.Expectation.{Expectation}
 use Rattle.am_terms.specs.declared.rehearsal.TimedAction.{TimedAction}
 use Rattle.am_plans.proofs.expectation.read_list.Goals as goal
 
 -- what is never refused
 abbrev Tells : Dialect → List Config → ℕ → ℕ → List TimedAction → Data → List Expectation → Type 0
-Tells d configs until last plans value xs = AreExpectedIn d configs until last plans (Some value) xs × HaveNoPatternIn d (Some value)
+Tells d configs until last plans value xs = AreExpectedIn d configs until last plans (Some value) xs × HaveNoRegexIn d (Some value)
 
 pub loop-index-preserved : goal.loop-index-preserved
 loop-index-preserved c =
@@ -75,8 +75,8 @@ returns-in_err-read_known-clause-refused c =
     let here : c.loop-index.index < length c.in_ok-values.values.now = omega arith in
     handed_on (Tells d (configs_in c.args.configs.now) c.args.until c.args.last c.args.plans.now value) c.from_residual-in_err-read_known.result c.in_err-read_known.field-0.0 c.from_residual-in_err-read_known.ensures.1
     (λ refusal xs told.
-    let at = no_pattern_in Expects d (as_array value) c.in_ok-values.values.now xs c.loop-index.index one c.in_ok-values.ensures.items here c.index-values-index.is told.0.0 told.1 in
-    let Says = λ (e : Dialect) (v : Value). IsKnownIn e (configs_in c.args.configs.now) c.args.until c.args.last c.args.plans.now (view v) at.0 × HasNoPatternIn e (view v) in
+    let at = no_regex_in Expects d (as_array value) c.in_ok-values.values.now xs c.loop-index.index one c.in_ok-values.ensures.items here c.index-values-index.is told.0.0 told.1 in
+    let Says = λ (e : Dialect) (v : Value). IsKnownIn e (configs_in c.args.configs.now) c.args.until c.args.last c.args.plans.now (view v) at.0 × HasNoRegexIn e (view v) in
     c.in_err-read_known.ensures.refused refusal at.0
     (subst (λ (e : Dialect). Says e c.item-item.result.value) (sym c.item-item.ensures.dialect)
     (subst (λ (v : Value). Says d v) (sym c.item-item.ensures.value) (at.1, at.2))))

@@ -3,14 +3,14 @@ use Rattle.serde_json.specs.Data.{Members}
 use Rattle.serde_json.specs.View.{members_view}
 use Rattle.am_cli.proofs.Decoding.{handed_on}
 use Rattle.am_cli.specs.declared.reader.Dialect.{Dialect}
-use Rattle.am_plans.specs.Expected.{IsExpectedOf, HasNoPattern}
+use Rattle.am_plans.specs.Expected.{IsExpectedOf, HasNoRegex}
 use Rattle.am_terms.specs.declared.expectation.Expectation.{Expectation}
 use Rattle.am_terms.specs.declared.rehearsal.TimedAction.{TimedAction}
 use Rattle.am_plans.proofs.expectation.read_members.Goals as goal
 
 -- what is never refused
 abbrev Tells : Dialect → ℕ → ℕ → List TimedAction → Members → Expectation → Type 0
-Tells dialect until last plans members x = IsExpectedOf dialect until last plans members x × HasNoPattern dialect members
+Tells dialect until last plans members x = IsExpectedOf dialect until last plans members x × HasNoRegex dialect members
 
 pub returns-clause-told : goal.returns-clause-told
 returns-clause-told c = record {

@@ -13,7 +13,7 @@ use Rattle.am_cli.proofs.matcher.MatcherFromJson.read.Goals as goal
 
 -- what is never refused
 abbrev Tells : Dialect → Data → MatcherParts → Type 0
-Tells dialect value m = DecodesToMatcher dialect value m × IsTrue (compares_texts m.op)
+Tells dialect value m = DecodesToMatcher dialect value m × IsTrue (compares_texts m)
 
 three_told : {T : Type 0} (value : Data) (result : Result MatcherParts T) → IfOk result (IsMatcher value) → IfOk result IsSound
     → IfOk result (DecodesToMatcher Lenient value)
@@ -32,7 +32,7 @@ returns-in-Lenient-clause-refused c =
     let value = view c.args.reader.now.value in
     let dialect : c.args.reader.now.dialect ≡ Lenient = cc in
     subst (λ (d : Dialect). IfErr c.read_three_texts.result (Excludes (Tells d value))) (sym dialect)
-    (narrowed (λ (m : MatcherParts). IsMatcher value m × IsSound m × IsTrue (compares_texts m.op)) (Tells Lenient value)
+    (narrowed (λ (m : MatcherParts). IsMatcher value m × IsSound m × IsTrue (compares_texts m)) (Tells Lenient value)
     (λ m told. (told.0.written, told.0.sound, told.1)) c.read_three_texts.result c.read_three_texts.ensures.refused)
 
 pub returns-in-Strict-clause-told : goal.returns-in-Strict-clause-told

@@ -1,6 +1,6 @@
 use Rattle.std.proofs.Common.{◌≡◌, ◌∙◌, ap, false, option_copied, sym, true}
 use Rattle.am_plans.proofs.Decodings.{denied_by, denied_on, fails_denied}
-use Rattle.am_plans.proofs.NoPattern.{fifth_fails, first_fails, fourth_fails, second_fails, third_fails}
+use Rattle.am_plans.proofs.NoRegex.{fifth_fails, first_fails, fourth_fails, second_fails, third_fails}
 use Rattle.am_plans.specs.Expected.{are_inserted, has_alerts, is_matched, wants_none}
 use Rattle.am_plans.proofs.expectation.alerts.check_alerts.Goals as goal
 

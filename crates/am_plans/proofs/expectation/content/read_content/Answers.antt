@@ -4,13 +4,13 @@ use Rattle.serde_json.specs.View.{members_view}
 use Rattle.am_cli.proofs.Decoding.{handed_on}
 use Rattle.am_cli.specs.declared.reader.Dialect.{Dialect}
 use Rattle.am_plans.proofs.Decodings.{none_read, same_some}
-use Rattle.am_plans.proofs.NoPattern.{no_pattern_said}
-use Rattle.am_plans.specs.Expected.{AreMatchersIn, HasContentIn, HasNoPattern, said_or_of}
+use Rattle.am_plans.proofs.NoRegex.{no_regex_said}
+use Rattle.am_plans.specs.Expected.{AreMatchersIn, HasContentIn, HasNoRegex, said_or_of}
 use Rattle.am_terms.specs.declared.expectation.Content.{Content}
 use Rattle.am_plans.proofs.expectation.content.read_content.Goals as goal
 
 abbrev Tells : Dialect → Members → Content → Type 0
-Tells dialect members content = HasContentIn dialect members content × HasNoPattern dialect members
+Tells dialect members content = HasContentIn dialect members content × HasNoRegex dialect members
 
 pub returns-clause-told : goal.returns-clause-told
 returns-clause-told c =
@@ -39,7 +39,7 @@ returns-in_err-has-clause-refused c =
     let when = same_some told.0.when (sym c.in_ok-resolves.ensures) in
     let has = subst (λ (r : Bool). AreMatchersIn d (said_or_of (not r) (codes "has") members) x.has) when told.0.has in
     c.in_err-has.ensures.refused refusal x.has
-    (has, no_pattern_said d (not c.in_ok-resolves.resolves) (codes "has") members x.has told.1.has told.1.of has))
+    (has, no_regex_said d (not c.in_ok-resolves.resolves) (codes "has") members x.has told.1.has told.1.of has))
 
 pub returns-in_err-has_resolved-clause-refused : goal.returns-in_err-has_resolved-clause-refused
 returns-in_err-has_resolved-clause-refused c =
@@ -50,7 +50,7 @@ returns-in_err-has_resolved-clause-refused c =
     let when = same_some told.0.when (sym c.in_ok-resolves.ensures) in
     let has = subst (λ (r : Bool). AreMatchersIn d (said_or_of r (codes "has_resolved") members) x.has_resolved) when told.0.has_resolved in
     c.in_err-has_resolved.ensures.refused refusal x.has_resolved
-    (has, no_pattern_said d c.in_ok-resolves.resolves (codes "has_resolved") members x.has_resolved told.1.has_resolved told.1.of has))
+    (has, no_regex_said d c.in_ok-resolves.resolves (codes "has_resolved") members x.has_resolved told.1.has_resolved told.1.of has))
 
 pub returns-in_err-check_exactly-clause-refused : goal.returns-in_err-check_exactly-clause-refused
 returns-in_err-check_exactly-clause-refused c =

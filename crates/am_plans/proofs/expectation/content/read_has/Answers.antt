@@ -7,7 +7,7 @@ use Rattle.am_alerts.specs.Matcher.{compare_texts}
 use Rattle.am_alerts.specs.declared.matcher.MatcherParts.{MatcherParts}
 use Rattle.am_cli.proofs.Decoding.{handed_on}
 use Rattle.am_cli.specs.declared.reader.Dialect.{Dialect}
-use Rattle.am_plans.proofs.NoPattern.{said_of, said_other, said_own}
+use Rattle.am_plans.proofs.NoRegex.{said_of, said_other, said_own}
 use Rattle.am_plans.specs.Expected.{AreMatchersIn, AreMatchersOf, said_or_of}
 use Rattle.am_plans.proofs.expectation.content.read_has.Goals as goal
 

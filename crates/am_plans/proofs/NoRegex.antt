@@ -10,24 +10,24 @@ use Rattle.am_alerts.specs.declared.matcher.MatcherParts.{MatcherParts}
 use Rattle.am_cli.specs.Configured.{DecodesToMatcher}
 use Rattle.am_cli.specs.Decoding.{DecodeEach, IsList}
 use Rattle.am_cli.specs.declared.reader.Dialect.{Dialect}
-use Rattle.am_plans.specs.Expected.{AreMatchersIn, AreMatchersOf, HaveNoPattern, HasNoPatternIn, HasNoPatternAt, said_or_of}
+use Rattle.am_plans.specs.Expected.{AreMatchersIn, AreMatchersOf, HaveNoRegex, HasNoRegexIn, HasNoRegexAt, said_or_of}
 
-no_pattern_by : (dialect : Dialect) (or_of : Bool) (found of : Option Data) (ms : Option (List MatcherParts))
+no_regex_by : (dialect : Dialect) (or_of : Bool) (found of : Option Data) (ms : Option (List MatcherParts))
     → ((m : List MatcherParts) → MatchOption found ⊥ (λ v. IsList (DecodesToMatcher dialect) v m) → compare_texts m ≡ true)
     → ((m : List MatcherParts) → MatchOption of ⊥ (λ v. IsList (DecodesToMatcher dialect) v m) → compare_texts m ≡ true)
     → AreMatchersIn dialect (option_or found (if or_of then of else None)) ms → option_map_or compare_texts ms true ≡ true
-no_pattern_by dialect or_of (Some v) of None own other told = absurd told
-no_pattern_by dialect or_of (Some v) of (Some m) own other told = own m told.listed
-no_pattern_by dialect true None (Some v) None own other told = absurd told
-no_pattern_by dialect true None (Some v) (Some m) own other told = other m told.listed
-no_pattern_by dialect true None None ms own other told = ap (λ (o : Option (List MatcherParts)). option_map_or compare_texts o true) told
-no_pattern_by dialect false None of ms own other told = ap (λ (o : Option (List MatcherParts)). option_map_or compare_texts o true) told
+no_regex_by dialect or_of (Some v) of None own other told = absurd told
+no_regex_by dialect or_of (Some v) of (Some m) own other told = own m told.listed
+no_regex_by dialect true None (Some v) None own other told = absurd told
+no_regex_by dialect true None (Some v) (Some m) own other told = other m told.listed
+no_regex_by dialect true None None ms own other told = ap (λ (o : Option (List MatcherParts)). option_map_or compare_texts o true) told
+no_regex_by dialect false None of ms own other told = ap (λ (o : Option (List MatcherParts)). option_map_or compare_texts o true) told
 
 -- matchers that are said, or that `of` says for them, look for none
-pub no_pattern_said : (dialect : Dialect) (or_of : Bool) (name : List ℕ) (members : Members) (ms : Option (List MatcherParts)) → HasNoPatternAt dialect name members
-    → HasNoPatternAt dialect (codes "of") members → AreMatchersIn dialect (said_or_of or_of name members) ms → option_map_or compare_texts ms true ≡ true
-no_pattern_said dialect or_of name members ms own other told =
-    no_pattern_by dialect or_of (get_member name members) (get_member (codes "of") members) ms own other told
+pub no_regex_said : (dialect : Dialect) (or_of : Bool) (name : List ℕ) (members : Members) (ms : Option (List MatcherParts)) → HasNoRegexAt dialect name members
+    → HasNoRegexAt dialect (codes "of") members → AreMatchersIn dialect (said_or_of or_of name members) ms → option_map_or compare_texts ms true ≡ true
+no_regex_said dialect or_of name members ms own other told =
+    no_regex_by dialect or_of (get_member name members) (get_member (codes "of") members) ms own other told
 
 -- the matchers of a member that is there
 pub said_of : (dialect : Dialect) (found : Option Data) (value : Data) (ms : Option (List MatcherParts)) → Some value ≡ found → AreMatchersIn dialect found ms
@@ -50,24 +50,24 @@ said_other or_of name members value none stands is =
 
 -- ---- lists
 
-no_pattern_at : {X : Type 0} (tells : Data → X → Type 0) (dialect : Dialect) (values : List Value) (xs : List X) (i : ℕ) (value : Value) → i < length values
-    → value ≡ get_or values i value → DecodeEach tells (items_view values) xs → HaveNoPattern dialect (items_view values)
-    → (x : X) × tells (view value) x × HasNoPatternIn dialect (view value)
-no_pattern_at tells dialect [] xs i value here is told without = absurd (omega (arith, here))
-no_pattern_at tells dialect (v ∷ vs) [] i value here is told without = absurd told
-no_pattern_at tells dialect (v ∷ vs) (x ∷ xs) zero value here is told without =
-    (x, subst (λ (w : Value). tells (view w) x) (sym is) told.0, subst (λ (w : Value). HasNoPatternIn dialect (view w)) (sym is) without.0)
-no_pattern_at tells dialect (v ∷ vs) (x ∷ xs) (suc i) value here is told without =
-    no_pattern_at tells dialect vs xs i value (omega (arith, here)) is told.1 without.1
+no_regex_at : {X : Type 0} (tells : Data → X → Type 0) (dialect : Dialect) (values : List Value) (xs : List X) (i : ℕ) (value : Value) → i < length values
+    → value ≡ get_or values i value → DecodeEach tells (items_view values) xs → HaveNoRegex dialect (items_view values)
+    → (x : X) × tells (view value) x × HasNoRegexIn dialect (view value)
+no_regex_at tells dialect [] xs i value here is told without = absurd (omega (arith, here))
+no_regex_at tells dialect (v ∷ vs) [] i value here is told without = absurd told
+no_regex_at tells dialect (v ∷ vs) (x ∷ xs) zero value here is told without =
+    (x, subst (λ (w : Value). tells (view w) x) (sym is) told.0, subst (λ (w : Value). HasNoRegexIn dialect (view w)) (sym is) without.0)
+no_regex_at tells dialect (v ∷ vs) (x ∷ xs) (suc i) value here is told without =
+    no_regex_at tells dialect vs xs i value (omega (arith, here)) is told.1 without.1
 
 -- each value of an array tells one of a list, and looks for none
-pub no_pattern_in : {X : Type 0} (tells : Data → X → Type 0) (dialect : Dialect) (array : Option Items) (values : List Value) (xs : List X) (i : ℕ) (value : Value)
+pub no_regex_in : {X : Type 0} (tells : Data → X → Type 0) (dialect : Dialect) (array : Option Items) (values : List Value) (xs : List X) (i : ℕ) (value : Value)
     → Some (items_view values) ≡ array → i < length values → value ≡ get_or values i value → MatchOption array ⊥ (λ items. DecodeEach tells items xs)
-    → MatchOption array Unit (HaveNoPattern dialect) → (x : X) × tells (view value) x × HasNoPatternIn dialect (view value)
-no_pattern_in tells dialect array values xs i value array_is here is told without =
-    no_pattern_at tells dialect values xs i value here is
+    → MatchOption array Unit (HaveNoRegex dialect) → (x : X) × tells (view value) x × HasNoRegexIn dialect (view value)
+no_regex_in tells dialect array values xs i value array_is here is told without =
+    no_regex_at tells dialect values xs i value here is
     (subst (λ (o : Option Items). MatchOption o ⊥ (λ items. DecodeEach tells items xs)) (sym array_is) told)
-    (subst (λ (o : Option Items). MatchOption o Unit (HaveNoPattern dialect)) (sym array_is) without)
+    (subst (λ (o : Option Items). MatchOption o Unit (HaveNoRegex dialect)) (sym array_is) without)
 
 -- as many items as there are values
 pub told_all : {X : Type 0} (tells : Data → X → Type 0) (array : Option Items) (values : List Value) (xs : List X) → Some (items_view values) ≡ array

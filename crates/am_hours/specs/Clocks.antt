@@ -1,5 +1,6 @@
 -- The pieces of a zone's clock, and where it has none, by what jiff says of the zone. Instants are in nanoseconds since 1970.
-use Rattle.std.specs.Prelude.{◌≡◌, ◌⊎◌, ◌<◌, ◌≤ℤ◌, ℕ, ◌+◌, ◌-◌, ◌*◌, ◌/◌, min, Bool, true, ◌&&◌, nat_lt, List, Option, Some, None, Result, Ok, Err}
+use Rattle.std.specs.Prelude.{◌≡◌, ◌⊎◌, ◌<◌, ◌≤ℤ◌, ℕ, ◌+◌, ◌-◌, ◌*◌, ◌/◌, min, Bool, true, ◌&&◌, nat_lt, List, Option, Some, None, Result}
+use Rattle.std.specs.Prelude.{Ok, Err}
 use Rattle.std.specs.Prelude.{ℤ, pos, neg_ℤ, ◌+ℤ◌, ◌-ℤ◌, ◌*ℤ◌, int_div, int_le, int_lt, unsigned_abs, MatchResult, if◌then◌else◌}
 use Rattle.std.specs.Int.{is_in_range, is_positive}
 use Rattle.std.specs.List.{All}
@@ -74,7 +75,8 @@ month_later year month day time =
 -- the second at which a zone's clock shows the first midnight of a month
 abbrev pub first_of : TimeZone → ℤ → ℕ → Result ℤ ClockFault
 first_of zone year month =
-    and_then (λ first. if is_instant (nanos_of_seconds first) then Ok first else Err OutOfRange) (and_then (second_of zone) (month_start year month))
+    and_then (λ first. if is_instant (nanos_of_seconds first) then Ok first else Err OutOfRange)
+    (and_then (second_of zone) (month_start year month))
 
 -- the whole days from one second to another
 abbrev pub days_between : ℤ → ℤ → Result ℕ ClockFault

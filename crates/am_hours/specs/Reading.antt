@@ -1,7 +1,9 @@
 -- What the texts of an interval mean, as Alertmanager reads them (the UnmarshalYAML functions of its package timeinterval):
 -- the range, or the first fault. An end of a range is read after the form of the text, the first end before the last.
-use Rattle.std.specs.Prelude.{ℕ, ◌+◌, ◌*◌, ◌^◌, Bool, ◌&&◌, ◌==◌, nat_le, nat_lt, List, [], ◌∷◌, length, take, drop, slice_index, position, codes}
-use Rattle.std.specs.Prelude.{ℤ, pos, negsuc, ◌+ℤ◌, int_lt, unsigned_abs, Option, Some, None, Result, Ok, Err, ok_or, option_and_then, option_map, if◌then◌else◌}
+use Rattle.std.specs.Prelude.{ℕ, ◌+◌, ◌*◌, ◌^◌, Bool, ◌&&◌, ◌==◌, nat_le, nat_lt, List, [], ◌∷◌, length, take, drop, slice_index, position}
+use Rattle.std.specs.Prelude.{codes}
+use Rattle.std.specs.Prelude.{ℤ, pos, negsuc, ◌+ℤ◌, int_lt, unsigned_abs, Option, Some, None, Result, Ok, Err, ok_or, option_and_then}
+use Rattle.std.specs.Prelude.{option_map, if◌then◌else◌}
 use Rattle.std.specs.Int.{is_in_range, is_negative, is_positive}
 use Rattle.std.specs.List.{slice_split}
 use Rattle.std.specs.Option.{option_or}
@@ -13,7 +15,8 @@ use Rattle.am_hours.specs.declared.interval.DayRange.{DayRange}
 use Rattle.am_hours.specs.declared.interval.InclusiveRange.{InclusiveRange}
 use Rattle.am_hours.specs.declared.interval.TimeRange.{TimeRange}
 use Rattle.am_hours.specs.declared.reading.RangeFault.{RangeFault}
-use Rattle.am_hours.specs.declared.reading.RangeFault.TheVariants.{BadForm, BadWeekday, BadDay, BadMonth, BadYear, BadTime, EndBeforeStart, EndFromStart}
+use Rattle.am_hours.specs.declared.reading.RangeFault.TheVariants.{BadForm, BadWeekday, BadDay, BadMonth, BadYear, BadTime, EndBeforeStart}
+use Rattle.am_hours.specs.declared.reading.RangeFault.TheVariants.{EndFromStart}
 
 -- a colon: what stands between the ends of a range, and between hours and minutes
 abbrev pub is_colon : ℕ → Bool
@@ -52,7 +55,8 @@ has_64_bits (negsuc n) = nat_lt n (2 ^ 63)
 -- one or more digits behind a sign or none, of a number of 64 bits
 abbrev pub is_number : List ℕ → Bool
 is_number text =
-    nat_lt 0 (length (without_leading_sign text)) && all_ascii_digits (without_leading_sign text) && has_64_bits (signed_digits_value 10 text)
+    nat_lt 0 (length (without_leading_sign text)) && all_ascii_digits (without_leading_sign text)
+    && has_64_bits (signed_digits_value 10 text)
 
 -- the whole number that a text writes (strconv.Atoi)
 abbrev pub number_in : List ℕ → Option ℤ

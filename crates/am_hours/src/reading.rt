@@ -5,7 +5,8 @@
 ghost use Rattle.std.specs.Prelude.{◌≡◌, ◌≢◌, ◌≤◌, ◌<◌, [], ◌∷◌, map, pos, neg_ℤ, length, Ok, Err, IfOk, IfSome, MatchResult};
 ghost use Rattle.jiff.specs.Words.{IsBetween};
 ghost use Rattle.am_hours.specs.Intervals.{IsGoodDayPlace, IsGoodDayRange};
-ghost use Rattle.am_hours.specs.Reading.{day_in, day_place, days_of, digits_in, ends_of, in_short_month, minute_in, month_in, months_of, number_in};
+ghost use Rattle.am_hours.specs.Reading.{day_in, day_place, days_of, digits_in, ends_of, in_short_month, minute_in, month_in, months_of};
+ghost use Rattle.am_hours.specs.Reading.{number_in};
 ghost use Rattle.am_hours.specs.Reading.{numbers_from, or_zero, place_among, places_from, times_of, weekdays_of, years_of};
 
 use crate::interval::{DayPlace, DayRange, InclusiveRange, TimeRange};
@@ -115,7 +116,7 @@ pub fn read_years(text: &str) -> Result<InclusiveRange, RangeFault>
 /// - `BadDay`: a part isn't a whole number, or is 0, below -31 or above 31.
 /// - `EndFromStart`: as in `-3:5`.
 /// - `EndBeforeStart`: the end is before the start in a month of 28 days, which is taken for each
-///   month here. So `29:-1` is refused too.
+///   month here, and where `-1` counts as the 27th. So `28:-1` is refused too.
 pub fn read_days(text: &str) -> Result<DayRange, RangeFault>
     ensures value { result ≡ days_of text.now }
     ensures good { IfOk result IsGoodDayRange }

@@ -1,5 +1,6 @@
--- Carry: which rows a log under a new configuration takes over of a log under an old one. Alertmanager's nflog finds a row again by the
--- receiver's name, the integration's kind and place, and the group's key (stateKey).
+-- Carry: which rows a log under a new configuration takes over of a log under an old one, where a group of the same labels finds them:
+-- whoever changes the matchers of a route keeps its rows. Alertmanager's nflog finds a row by the receiver's name, the integration's kind
+-- and place, and the route's key (stateKey): `Rekey` says which those are.
 use Rattle.std.specs.Prelude.{◌≡◌, true, All, ℕ, ◌+◌, ◌-◌, Bool, ◌&&◌, ◌==◌, nat_lt, List}
 use Rattle.std.specs.Prelude.{[], ◌∷◌, ◌++◌, length, map, fold, take, count_by, Option, Some, None, if◌then◌else◌}
 use Rattle.std.specs.List.{list_any}

@@ -1,6 +1,6 @@
 -- Rekey: which rows a log under a new configuration has for those of a log under an old one, as in Alertmanager, whose nflog finds a row by
 -- the receiver's name, the integration's kind and place, the route's key and the group labels (stateKey).
-use Rattle.std.specs.Prelude.{◌≡◌, ◌≤◌, ℕ, true, All, Bool, List, filter}
+use Rattle.std.specs.Prelude.{◌≡◌, ◌≤◌, ℕ, true, All, Bool, List, Option, Some, filter}
 use Rattle.std.specs.List.{Contains}
 use Rattle.std.specs.Str.{bytes_eq}
 use Rattle.am_alerts.specs.RoutingTree.{route_at}
@@ -28,21 +28,26 @@ has_receiver_at config receiver position = bytes_eq (route_at config.routes posi
 abbrev pub same_routes : Config → List ℕ → List ℕ → List ℕ
 same_routes config receiver key = filter (has_receiver_at config receiver) (positions_with config.routes key)
 
+-- where the integration of a row is among those of a receiver under the new configuration: the one of the same kind and place
+abbrev pub moved_in : Reload → List ℕ → RowView → Option ℕ
+moved_in reload receiver row =
+    moved_to (integrations_named receiver reload.old.receivers) row.integration (integrations_named receiver reload.new.receivers)
+
 -- rekeyed: the rows that a log under the new configuration has for a row of one under the old: all that it had but the route and the
 -- integration's position. There is one for each route of the row's receiver that has the key of the row's route, at the integration of the
 -- same kind and place. In Alertmanager such routes share one entry
 abbrev pub rekeyed : Reload → RowView → List RowView
 rekeyed reload row =
     let receiver = (route_of reload.old row.group).receiver in
-    rows_at row
-    (moved_to (integrations_named receiver reload.old.receivers) row.integration (integrations_named receiver reload.new.receivers))
+    rows_at row (moved_in reload receiver row)
     (same_routes reload.new receiver (key_at reload.old.routes row.group.route))
 
--- a row that is found again has an integration of the new configuration, under a route of the same receiver and the same key, and is else
--- the row that it stands for
+-- a row that is found again has an integration of the new configuration, under a route of the same receiver and the same key: the one of
+-- the same kind and place. It is else the row that it stands for
 pub record IsFoundAgain (reload : Reload) (row found : RowView) : Type 0 where
   pub there : has_integration reload.new found ≡ true
   pub receiver : (route_of reload.new found.group).receiver ≡ (route_of reload.old row.group).receiver
+  pub integration : moved_in reload (route_of reload.old row.group).receiver row ≡ Some found.integration
   pub key : key_at reload.new.routes found.group.route ≡ key_at reload.old.routes row.group.route
   pub labels : found.group.labels ≡ row.group.labels
   pub moment : found.moment ≡ row.moment
@@ -65,7 +70,8 @@ RekeyedRowsMayBeLoaded =
 abbrev pub RekeyedHandoversMayBeLoaded : Type 0
 RekeyedHandoversMayBeLoaded =
     (reload : Reload) (history : List Record) (s : State) (now : ℕ) → (replay reload.old history).clock ≤ now
-    → All (λ row. All (λ found. may_load reload.new (moment s now) found ≡ true) (rekeyed reload row)) (row_views (replay reload.old history))
+    → All (λ row. All (λ found. may_load reload.new (moment s now) found ≡ true) (rekeyed reload row))
+    (row_views (replay reload.old history))
 
 -- under the same configuration a row that has an integration is found again as it is
 abbrev pub RestartsFindRows : Type 0

@@ -1,10 +1,11 @@
--- RouteKeys: the key of each route, by which Alertmanager's log knows it again (dispatch.Route.Key): the matchers of the routes from the root
--- down to it. The sort and the texts of matchers are those of labels.Matchers and labels.Matcher.
+-- RouteKeys: the key of each route, by which Alertmanager's log knows it again (dispatch.Route.Key): the matchers of the routes from the
+-- root down to it. The sort and the texts of matchers are those of labels.Matchers and labels.Matcher.
 use Rattle.std.specs.Prelude.{ℕ, ◌+◌, codes, List, [], ◌∷◌, ◌++◌, slice_index_or, if◌then◌else◌}
 use Rattle.std.specs.List.{join_by}
 use Rattle.std.specs.Ordering.{nat_cmp, ordering_then}
 use Rattle.std.specs.Str.{bytes_eq}
 use Rattle.std.specs.declared.cmp.Ordering.{Ordering}
+use Rattle.am_alerts.specs.Matcher.{operator_text}
 use Rattle.am_alerts.specs.Forest.{Forest, bare, grow}
 use Rattle.am_alerts.specs.Labels.{text_cmp}
 use Rattle.am_alerts.specs.LabelText.{escaped}
@@ -13,13 +14,6 @@ use Rattle.am_alerts.specs.declared.matcher.MatcherParts.{MatcherParts}
 use Rattle.am_alerts.specs.declared.matcher.Operator.{Operator}
 use Rattle.am_alerts.specs.declared.matcher.Operator.TheVariants.{Equal, NotEqual, Like, NotLike}
 use Rattle.am_model.specs.Lists.{in_order}
-
--- an operator as it is written
-abbrev pub operator_text : Operator → List ℕ
-operator_text Equal = codes "="
-operator_text NotEqual = codes "!="
-operator_text Like = codes "=~"
-operator_text NotLike = codes "!~"
 
 -- the rank of an operator among all
 abbrev pub rank : Operator → ℕ

@@ -1,7 +1,8 @@
 //! The laws of histories, the limits and the faults' numbers, as calls that verifiers read. Each
 //! has an empty body: its `ensures` is the statement.
 ghost use Rattle.am_model.specs.Carry.{CarriedRowsFit, CarriedRowsMayBeLoaded, RestartsCarryRows};
-ghost use Rattle.am_model.specs.Rekey.{RekeyedRowsFit, RekeyedRowsMayBeLoaded, RekeyedHandoversMayBeLoaded, RestartsFindRows, RestartsFindShownRows};
+ghost use Rattle.am_model.specs.Rekey.{RekeyedRowsFit, RekeyedRowsMayBeLoaded, RekeyedHandoversMayBeLoaded, RestartsFindRows};
+ghost use Rattle.am_model.specs.Rekey.{RestartsFindShownRows};
 ghost use Rattle.am_model.specs.Laws.{ReplayAppends, LegalAppends, ClockIsMoment, BeginningsAreLegal};
 ghost use Rattle.am_model.specs.Laws.{ReplaysAreConsistent, ReplaysKnowMembers, LegalKeepsBegins};
 ghost use Rattle.am_model.specs.Laws.{RowsMayBeLoaded, HandoversMayBeLoaded, RowsAreLed, RestartsKeepRows};

@@ -59,7 +59,7 @@ impl<'c> Model for Rekeying<'c> {
 }
 
 impl<'c> Rekeying<'c> {
-    /// Prepares a reload from an old configuration to a new one.
+    /// Prepares a reload from an old configuration to a new one, which has no fault.
     ///
     /// # Errors
     ///
@@ -85,8 +85,9 @@ impl<'c> Rekeying<'c> {
     /// They are as the row, but for the route's position and the integration's.
     ///
     /// There is one for each new route that has the row's receiver and the key of the row's route.
-    /// So there is none if a matcher of the route changed, or of a route above it. Where
-    /// Alertmanager's routes of one key share an entry, each has a row here. The integration is the
+    /// So if a matcher of the route changed, or of a route above it, there is none, save for other
+    /// routes that have the old key now. Where Alertmanager's routes of one key share an entry,
+    /// each has a row here. The integration is the
     /// one of the same kind and the same place among the receiver's integrations of its kind. There
     /// is no row where the receiver has none.
     ///

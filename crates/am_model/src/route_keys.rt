@@ -6,17 +6,16 @@
 //! each route, times the routes below it.
 ghost use Rattle.std.specs.Prelude.{◌≡◌, ◌++◌, ◌≤◌, ℕ, List, [], ◌∷◌, ◌+◌, IfOk, OnOk, codes, if◌then◌else◌, length, string_bytes};
 ghost use Rattle.std.specs.List.{insert, join_by};
-ghost use Rattle.std.specs.Char.{encode_utf8};
 ghost use Rattle.std.specs.Str.{bytes_eq};
 ghost use Rattle.am_alerts.specs.Layout.{laid, planted};
-ghost use Rattle.am_alerts.specs.LabelText.{escaped};
 ghost use Rattle.am_alerts.specs.Planted.{IsLaid, part};
 ghost use Rattle.am_alerts.specs.RoutingTree.{last_of};
 ghost use Rattle.am_alerts.specs.declared.limits.TheConstants.{MAX_ROUTES};
 ghost use Rattle.am_model.specs.Lists.{in_order, put_in_order};
-ghost use Rattle.am_model.specs.RouteKeys.{operator_text, rank, matcher_cmp, matcher_text, matchers_text, key_below, keys_below, root_key, keys_of};
+ghost use Rattle.am_model.specs.RouteKeys.{rank, matcher_cmp, matcher_text, matchers_text, key_below, keys_below, root_key, keys_of};
 ghost use Rattle.am_model.specs.KeyIndex.{IsIndexOf, positions_at};
 
+use am_alerts::label_text::push_escaped;
 use am_alerts::matcher::{Matcher, MatcherParts, Operator};
 use am_alerts::route::Routes;
 use am_alerts::text::Text;
@@ -153,41 +152,10 @@ fn push_matcher(out: &mut String, parts: &MatcherParts) -> Result<(), AllocError
     ensures { OnOk result (string_bytes out.new ≡ string_bytes out.old ++ matcher_text parts.now) }
 {
     out.push_str(parts.name.as_str())?;
-    out.push_str(operator_text(parts.op))?;
+    out.push_str(parts.op.text())?;
     out.push_str("\"")?;
     push_escaped(out, parts.value.as_str())?;
     out.push_str("\"")
-}
-
-fn operator_text(op: Operator) -> &'static str
-    ensures { result.now ≡ operator_text op }
-{
-    match op {
-        Operator::Equal => "=",
-        Operator::NotEqual => "!=",
-        Operator::Like => "=~",
-        Operator::NotLike => "!~",
-    }
-}
-
-fn push_escaped(out: &mut String, value: &str) -> Result<(), AllocError>
-    ensures { OnOk result (string_bytes out.new ≡ string_bytes out.old ++ escaped value.now) }
-{
-    for c in value.chars() {
-        push_char(out, c)?;
-    }
-    Ok(())
-}
-
-fn push_char(out: &mut String, c: char) -> Result<(), AllocError>
-    ensures { OnOk result (string_bytes out.new ≡ string_bytes out.old ++ escaped (encode_utf8 c)) }
-{
-    match c {
-        '\\' => out.push_str("\\\\"),
-        '"' => out.push_str("\\\""),
-        '\n' => out.push_str("\\n"),
-        _ => out.push(c),
-    }
 }
 
 /// The positions of routes by their keys. `rekey` keeps one of the routes of a new configuration.

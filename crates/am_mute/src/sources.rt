@@ -18,7 +18,7 @@
 //! left to a later call, and each target walks them. Keys that were put in before do no harm: a
 //! look-up ends before the places that weren't learnt, and the later call puts them in again.
 //! Invariant: each of the first alerts that a rule's source matches has its keys.
-ghost use Rattle.std.specs.Prelude.{◌≡◌, ◌≤◌, true, List, cond, length, find, is_some, option_copied, IfOk, IsOk, IsTrue, OnOk};
+ghost use Rattle.std.specs.Prelude.{◌≡◌, ◌≤◌, true, List, cond, length, find, is_some, option_copied, IfOk, IsOk, IsTrue, OnErr, OnOk};
 ghost use Rattle.am_alerts.specs.AlertData.{AlertData};
 ghost use Rattle.am_alerts.specs.Matcher.{compare_texts, match_all};
 ghost use Rattle.am_mute.specs.Inhibit.{RuleData, inhibits, is_inhibited_by, source_for};
@@ -74,7 +74,8 @@ impl Sources {
     /// Nothing learnt yet, of whatever rules and alerts. Takes no memory. The hashes of values start
     /// from this seed.
     pub fn new(alloc: Global, seed: Seed) -> Sources
-        ensures { (rules : List RuleData) (known : List AlertData) → AreLearnt rules known result }
+        ensures nothing { (rules : List RuleData) (known : List AlertData) → AreLearnt rules known result }
+        ensures seed { result.seed ≡ seed }
     {
         Sources {
             all: BTreeSet::new(alloc),
@@ -100,6 +101,7 @@ impl Sources {
     ) -> Result<Sources, AllocError>
         ensures learnt { IfOk result (AreLearnt rules.now known.now) }
         ensures all { IfOk result (λ sources. sources.learnt ≡ length known.now) }
+        ensures seed { IfOk result (λ sources. sources.seed ≡ seed) }
     {
         let mut sources = Sources::new(alloc, seed);
         sources.learn(alloc, rules, known)?;
@@ -117,6 +119,8 @@ impl Sources {
         requires { AreLearnt rules.now known.now self.old }
         ensures learnt { AreLearnt rules.now known.now self.new }
         ensures all { OnOk result (self.new.learnt ≡ length known.now) }
+        ensures seed { self.new.seed ≡ self.old.seed }
+        ensures refused { OnErr result (self.new.learnt ≡ self.old.learnt) }
     {
         if self.learnt == known.len() {
             return Ok(());

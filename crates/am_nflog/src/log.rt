@@ -5,7 +5,8 @@
 //! look-up by hash, and `merge` two.
 //! `NfLog::new` can't fail today; it returns a `Result` as all that is made on an allocator does.
 //! Hashes start from a seed (`am_seed`), on which no row depends.
-ghost use Rattle.std.specs.Prelude.{◌≡◌, ◌<◌, ◌↔◌, ◌||◌, [], length, filter, is_some, nat_lt, IsTrue, IfOk, OnOk, OnErr, IsOk, IsOkAnd, slice_get, Some};
+ghost use Rattle.std.specs.Prelude.{◌≡◌, ◌<◌, ◌↔◌, ◌||◌, [], length, filter, is_some, nat_lt, IsTrue, IfOk, OnOk, OnErr, IsOk, IsOkAnd};
+ghost use Rattle.std.specs.Prelude.{slice_get, Some};
 ghost use Rattle.std.specs.List.{list_any};
 ghost use Rattle.std.specs.Option.{option_copied};
 ghost use Rattle.am_nflog.specs.Log.{is_known, row_of, rows_of, with_key, with_row, is_later, merged, without_unused};

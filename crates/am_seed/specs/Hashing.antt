@@ -1,9 +1,24 @@
--- What a hasher of a seed computes.
-use Rattle.std.specs.Prelude.{ℕ, zero, suc, ◌+◌, ◌-◌, ◌*◌, ◌/◌, ◌%◌, List, length, if◌then◌else◌, nat_le, bit_xor}
+-- The seed of a number, and what a hasher of a seed computes.
+use Rattle.std.specs.Prelude.{ℕ, zero, suc, ◌+◌, ◌-◌, ◌*◌, ◌/◌, ◌%◌, ◌^◌, ◌<◌, ◌≡◌, List, ◌++◌, length, if◌then◌else◌, nat_le, bit_xor}
+use Rattle.std.specs.Hash as fed
+use Rattle.std.specs.Hash.DefaultHasher as sip
 use Rattle.std.specs.Hash.FoldHasher.{folded_multiply, read_u64, read_short}
 use Rattle.std.specs.Int.{w64, rotate_left}
+use Rattle.std.specs.List.{fold}
 use Rattle.am_seed.specs.declared.hasher.SeededHasher.{SeededHasher}
 use Rattle.am_seed.specs.declared.seed.Seed.{Seed}
+
+-- one of the words of a number's seed: SipHash, with both keys 0, of the number and of the word's place
+unfoldable pub word : ℕ → ℕ → ℕ
+word number place = sip.finish (fold sip.write sip.initial (fed.u64 number ++ fed.u8 place))
+
+-- the seed of a number
+abbrev pub seed_of : ℕ → Seed
+seed_of number = record { start = word number 0; factor = word number 1 }
+
+-- a seed is that of some number of 64 bits
+abbrev pub IsOfNumber : Seed → Type 0
+IsOfNumber seed = (number : ℕ) × (number < 2 ^ 64) × (seed ≡ seed_of number)
 
 -- the hasher of a seed
 abbrev pub opening : Seed → SeededHasher

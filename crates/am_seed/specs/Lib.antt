@@ -1,2 +1,2 @@
--- what a hasher of a seed computes
+-- the seed of a number, and what a hasher of a seed computes
 pub mod Hashing

@@ -53,14 +53,22 @@ module _ (reload : Reload) (row : RowView) where
       (λ p has is. record { there = has.there; key = has.key; receiver = (bytes_eq-Decides (route_at reload.new.routes p).receiver its_receiver).0 is })
       (positions_with reload.new.routes its_key) each-has-key
 
-  found-there : (q p : ℕ) → q < length (integrations_named its_receiver reload.new.receivers) → IsSame p → IsFoundAgain reload row (moved row q p)
-  found-there q p within same =
+  abbrev olds : List Integration
+  olds = integrations_named its_receiver reload.old.receivers
+
+  abbrev news : List Integration
+  news = integrations_named its_receiver reload.new.receivers
+
+  found-there : (q p : ℕ) → moved_to olds row.integration news ≡ Some q → IsSame p → IsFoundAgain reload row (moved row q p)
+  found-there q p is same =
+      let within : q < length news = moved-within olds news row.integration q is in
       record {
         there =
             ap (λ b. b && nat_lt q (length (integrations_named (route_at reload.new.routes p).receiver reload.new.receivers))) (le-leb p (last_of reload.new.routes) same.there)
             ∙ ap (λ r. nat_lt q (length (integrations_named r reload.new.receivers))) same.receiver
             ∙ lt-ltb q (length (integrations_named its_receiver reload.new.receivers)) within;
         receiver = same.receiver;
+        integration = is;
         key = same.key;
         labels = refl;
         moment = refl;
@@ -69,18 +77,11 @@ module _ (reload : Reload) (row : RowView) where
         resolved = refl;
       }
 
-  abbrev olds : List Integration
-  olds = integrations_named its_receiver reload.old.receivers
-
-  abbrev news : List Integration
-  news = integrations_named its_receiver reload.new.receivers
-
   fit-at : (o : Option ℕ) → moved_to olds row.integration news ≡ o → AllByRecursion (IsFoundAgain reload row) (rows_at row o (same_routes reload.new its_receiver its_key))
   fit-at None e = tt
   fit-at (Some q) e =
-      let within : q < length news = moved-within olds news row.integration q e in
       all-map (moved row q) (IsFoundAgain reload row) (same_routes reload.new its_receiver its_key)
-      (all-weaker IsSame (λ p. IsFoundAgain reload row (moved row q p)) (λ p same. found-there q p within same) (same_routes reload.new its_receiver its_key) each-is-same)
+      (all-weaker IsSame (λ p. IsFoundAgain reload row (moved row q p)) (λ p same. found-there q p e same) (same_routes reload.new its_receiver its_key) each-is-same)
 
 pub rekeyed_rows_fit : RekeyedRowsFit
 rekeyed_rows_fit reload row =

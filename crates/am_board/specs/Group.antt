@@ -2,9 +2,11 @@
 use Rattle.std.specs.Prelude.{◌≡◌, ℕ, ◌+◌, ◌≤◌, ◌⊎◌, List, [], ◌∷◌, ◌++◌, map, All}
 use Rattle.std.specs.Prelude.{slice_index_or, slice_set}
 use Rattle.am_alerts.specs.RoutingTree.{RoutingTree, last_of}
+use Rattle.am_alerts.specs.declared.labels.Label.{Label}
 use Rattle.am_model.specs.declared.group.GroupName.{GroupName}
 use Rattle.am_board.specs.declared.group.Group.{Group}
 use Rattle.am_board.specs.GroupList.{GroupList}
+use Rattle.am_board.specs.Members.{labels_of}
 use Rattle.am_board.specs.Refinement.{group_state}
 use Rattle.am_model.specs.declared.config.Config.{Config}
 use Rattle.am_model.specs.Insert.{wait_of, group_with}
@@ -12,6 +14,10 @@ use Rattle.am_model.specs.State.{MemberState}
 
 abbrev pub names_of : List Group → List GroupName
 names_of groups = map (λ g. g.name) groups
+
+-- the label sets of a group's alerts
+abbrev pub label_sets : Group → List (List Label)
+label_sets g = map labels_of g.members.items
 
 -- each name's route is one of the tree
 abbrev pub AreRouted : RoutingTree → List GroupName → Type 0

@@ -1,3 +1,5 @@
+-- between the code of an insert of an alert that all its groups have and its definition
+pub mod Again
 -- between the code of a begin and its definition: what it finds in its group, and the flush that it opens
 pub mod Beginning
 -- the invariant of a board's fields

@@ -1,8 +1,10 @@
 //! One group: its name, its due time and its alerts.
-ghost use Rattle.std.specs.Prelude.{◌≡◌, ◌+◌, ◌<◌, ◌≤◌, ◌&&◌, min, nat_lt, not, true, if◌then◌else◌, OnOk};
+ghost use Rattle.std.specs.Prelude.{◌≡◌, ◌+◌, ◌<◌, ◌≤◌, ◌&&◌, min, nat_lt, not, true, if◌then◌else◌, length, OnOk, Some};
 ghost use Rattle.std.specs.List.{IsDistinct};
 ghost use Rattle.am_model.specs.Begin.{count_resolved, without_resolved};
-ghost use Rattle.am_board.specs.Group.{Fits, IsReserved};
+ghost use Rattle.am_board.specs.Group.{Fits, IsReserved, label_sets};
+ghost use Rattle.am_board.specs.Inserting.{stamped_alert};
+ghost use Rattle.am_board.specs.Members.{place_of};
 ghost use Rattle.am_model.specs.Insert.{same_member, wait_of, group_with};
 ghost use Rattle.am_board.specs.Refinement.{member_state, group_state};
 ghost use Rattle.am_model.specs.declared.config.Config.{Config};
@@ -48,6 +50,23 @@ impl Group {
     {
         let started = member.alert.starts();
         self.members.put(labels, member);
+        self.hasten(started, wait, t);
+    }
+
+    /// Writes an alert with its stamp in place of the one with its labels, which stands at a place.
+    ///
+    /// An alert whose wait is over makes the group due at `t`, if it wasn't flushed.
+    pub(crate) fn replace(&mut self, j: usize, alert: Alert, stamp: u64, wait: u64, t: u64)
+        requires place { place_of alert.labels self.old.members.items ≡ Some j }
+        requires within { j < length self.old.members.items }
+        ensures name { self.new.name ≡ self.old.name }
+        ensures room { self.new.members.room ≡ self.old.members.room }
+        ensures labels { label_sets self.new ≡ label_sets self.old }
+        ensures state { (config : Config) → wait ≡ wait_of config self.old.name
+            → group_state self.new ≡ group_with config t (stamped_alert alert stamp) (group_state self.old) }
+    {
+        let started = alert.starts();
+        self.members.replace(j, alert, stamp);
         self.hasten(started, wait, t);
     }
 

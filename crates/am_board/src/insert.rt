@@ -30,6 +30,7 @@ ghost use Rattle.am_alerts.specs.declared.limits.TheConstants.{MAX_MOMENT};
 ghost use Rattle.am_model.specs.declared.config.Config.{Config};
 ghost use Rattle.am_model.specs.declared.group.GroupName.{GroupName};
 
+use crate::again::put_again;
 use crate::config::Config;
 use crate::destinations::GroupNameCache;
 use crate::fault::Fault;
@@ -100,13 +101,50 @@ pub(crate) fn put_alert(
     ensures kept { AreKept config.now state.new.known.items destinations.new }
 {
     let place = find_place(config, state, &alert)?;
+    let alert = with_known_labels(alloc, &state.known, place, alert);
+    let kept = destinations.of(place);
+    if let Some(inserted) = put_again(alloc, config, state, place, kept, now, &alert)? {
+        state.history.push_reserved(Record {
+            pass,
+            call: Call::Insert { now, alert },
+            reply: Reply::Inserted(inserted),
+        });
+        return Ok(inserted);
+    }
+    put_routed(alloc, config, state, destinations, place, pass, now, alert)
+}
+
+/// Adds an alert to the known ones and to the groups of its routes, which are looked for first, and
+/// caches the groups' names.
+fn put_routed(
+    alloc: Global,
+    config: &Config,
+    state: &mut State,
+    destinations: &mut GroupNameCache,
+    place: Option<usize>,
+    pass: u32,
+    now: u64,
+    alert: Alert,
+) -> Result<Inserted, Fault>
+    requires good { StateInvariant config.now state.old }
+    requires kept { AreKept config.now state.old.known.items destinations.old }
+    requires place { place ≡ position (same_alert alert) state.old.known.items }
+    requires within { IfSome place (λ i. i < length state.old.known.items) }
+    requires room { is_full config.now (vec_len state.old.history) (state_of state.old) 1 ≡ false }
+    requires names { is_name_too_many config.now (state_of state.old) alert ≡ false }
+    ensures put { MatchResult result
+        (λ inserted. (insert_cause config.now (vec_len state.old.history) (state_of state.old) alert ≡ None)
+        × ((id : ℕ) → AppliesCall config.now id (entry pass (Call.Insert now alert) (Reply.Inserted inserted)) state.old state.new))
+        (λ fault. IsAnswer (insert_cause config.now (vec_len state.old.history) (state_of state.old) alert) fault
+        × LeavesUnchanged config.now state.old state.new) }
+    ensures kept { AreKept config.now state.new.known.items destinations.new }
+{
     let kept = destinations.of(place);
     let labels = alert.labels();
     let targets = find_targets(alloc, &config.routes, &state.groups, kept, labels)?;
     let names = new_names(alloc, kept, targets.as_slice());
     let number = place.unwrap_or(state.known.len());
     let found = Found { place, targets };
-    let alert = with_known_labels(alloc, &state.known, place, alert);
     let inserted = put_found(alloc, config, state, found, pass, now, alert);
     if inserted.is_ok() {
         destinations.keep(number, names);

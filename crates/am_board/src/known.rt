@@ -2,7 +2,7 @@
 //! look-up is `position` and a put is `upsert` of the definitions. `insert` and `forget` change it.
 //!
 //! Invariant: each alert is under its labels.
-ghost use Rattle.std.specs.Prelude.{◌≡◌, ◌<◌, ◌≤◌, [], count_by, length, not, position, slice_index_or, IfSome, OnOk};
+ghost use Rattle.std.specs.Prelude.{◌≡◌, ◌<◌, ◌≤◌, [], count_by, length, not, position, slice_index_or, IfSome, OnOk, Some};
 ghost use Rattle.am_alerts.specs.Labels.{same_label_set};
 ghost use Rattle.am_board.specs.Forgetting.{is_idle_but_for};
 ghost use Rattle.am_model.specs.Insert.{same_alert};
@@ -96,6 +96,15 @@ impl Known {
                 self.alerts.insert(labels, alert).unwrap();
             }
         }
+    }
+
+    /// Puts an alert in place of the one with its labels, which is known at a place.
+    pub(crate) fn replace(&mut self, i: usize, alert: Alert)
+        requires place { Some i ≡ position (same_alert alert) self.old.items }
+        requires within { i < length self.old.items }
+        ensures { self.new.items ≡ upsert same_alert alert self.old.items }
+    {
+        self.alerts[i] = alert;
     }
 
     /// Removes the alerts that are resolved at `t` and whose label set isn't one of these. Returns

@@ -21,6 +21,7 @@
 //! over each call.
 #![tactic(auto)]
 
+mod again;
 pub mod begin;
 pub mod board;
 mod dedup;

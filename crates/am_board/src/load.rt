@@ -42,7 +42,8 @@ pub(crate) fn load_row(
     ensures { MatchResult result
         (λ loaded. (load_cause config.now (vec_len state.old.history) (state_of state.old) (moment (state_of state.old) now) row ≡ None)
         × ((id : ℕ) → AppliesCall config.now id (entry pass (Call.Load now row) (Reply.Loaded loaded)) state.old state.new))
-        (λ fault. IsLoadAnswer (load_cause config.now (vec_len state.old.history) (state_of state.old) (moment (state_of state.old) now) row) fault
+        (λ fault. IsLoadAnswer
+        (load_cause config.now (vec_len state.old.history) (state_of state.old) (moment (state_of state.old) now) row) fault
         × LeavesUnchanged config.now state.old state.new) }
 {
     let t = state.moment(now);

@@ -3,7 +3,7 @@
 //! Contracts see the list in the order of arrival. Invariant (specs/MemberTable.antt): each alert
 //! is under its labels, none is marked as leaving between calls, and a stored order is that of the
 //! alerts.
-ghost use Rattle.std.specs.Prelude.{◌≡◌, ◌+◌, ◌<◌, ◌≤◌, ◌↔◌, All, IfOk, IfSome, IsTrue, OnOk, [], count_by, length, map, not};
+ghost use Rattle.std.specs.Prelude.{◌≡◌, ◌+◌, ◌<◌, ◌≤◌, ◌↔◌, All, IfOk, IfSome, IsTrue, OnOk, Some, [], count_by, length, map, not};
 ghost use Rattle.std.specs.List.{IsDistinct, list_any};
 ghost use Rattle.std.specs.Map.{values_of};
 ghost use Rattle.std.specs.Option.{option_copied};
@@ -12,9 +12,10 @@ ghost use Rattle.am_model.specs.Finish.{is_leaving};
 ghost use Rattle.am_model.specs.Insert.{same_member};
 ghost use Rattle.am_model.specs.Lists.{changed_where, upsert, without};
 ghost use Rattle.am_board.specs.Finishing.{marked, stands_as};
+ghost use Rattle.am_board.specs.Inserting.{stamped_alert};
 ghost use Rattle.am_board.specs.Keyed.{AreKeyed};
 ghost use Rattle.am_board.specs.Refinement.{member_state, stamped};
-ghost use Rattle.am_board.specs.Members.{AreMembers, labels_of};
+ghost use Rattle.am_board.specs.Members.{AreMembers, labels_of, place_of};
 ghost use Rattle.am_board.specs.Order.{places_in_order};
 
 use crate::flush::LeavingAlert;
@@ -23,6 +24,7 @@ use crate::noted::{note_members, noted_in};
 use crate::order::{forget, keep_where, renew, stored};
 use crate::silences::NotedSilences;
 use crate::unsilenced::NotedPlace;
+use am_alerts::alert::Alert;
 use am_alerts::labels::Labels;
 use am_seed::Seed;
 use indexmap::IndexMap;
@@ -153,6 +155,30 @@ impl Members {
         self.members.insert(labels, member).unwrap();
         let same = self.members.len() == before;
         keep_where(&mut self.order, same);
+    }
+
+    /// The place of the alert with these labels.
+    pub(crate) fn find(&self, labels: &Labels) -> Option<usize>
+        ensures place { result ≡ place_of labels.now self.now.items }
+        ensures within { IfSome result (λ j. j < length self.now.items) }
+    {
+        self.members.get_index_of(labels)
+    }
+
+    /// Writes an alert with its stamp in place of the one with its labels, which stands at a place.
+    ///
+    /// The label sets stay, and so do the order and what is noted.
+    pub(crate) fn replace(&mut self, j: usize, alert: Alert, stamp: u64)
+        requires place { place_of alert.labels self.old.items ≡ Some j }
+        requires within { j < length self.old.items }
+        ensures members { map member_state self.new.items
+            ≡ upsert same_member (stamped_alert alert stamp) (map member_state self.old.items) }
+        ensures labels { map labels_of self.new.items ≡ map labels_of self.old.items }
+        ensures room { self.new.room ≡ self.old.room }
+    {
+        let member = &mut self.members[j];
+        member.alert = alert;
+        member.stamp = stamp;
     }
 
     /// Takes the alerts out that are resolved at `t`, and answers how many.

@@ -1,5 +1,8 @@
+pub mod Again
 pub mod Found
 pub mod GroupRoom
+pub mod InPlace
 pub mod Inserting
 pub mod Placing
+pub mod PutAgain
 pub mod Sharing

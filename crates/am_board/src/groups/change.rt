@@ -6,8 +6,9 @@ ghost use Rattle.std.specs.List.{IsDistinct};
 ghost use Rattle.am_alerts.specs.RoutingTree.{RoutingTree};
 ghost use Rattle.am_model.specs.Begin.{count_resolved, without_resolved};
 ghost use Rattle.am_model.specs.Finish.{is_leaving};
-ghost use Rattle.am_board.specs.Group.{names_of, AreRouted, HasRoom, Fits, IsReserved, Changes, Gets};
-ghost use Rattle.am_board.specs.Inserting.{place_in};
+ghost use Rattle.am_board.specs.Again.{HasAt, IsSpot};
+ghost use Rattle.am_board.specs.Group.{names_of, AreRouted, HasRoom, Fits, IsReserved, Changes, Gets, label_sets};
+ghost use Rattle.am_board.specs.Inserting.{place_in, stamped_alert};
 ghost use Rattle.am_board.specs.Refinement.{member_state, stamped, group_state};
 ghost use Rattle.am_model.specs.Insert.{same_member};
 ghost use Rattle.am_model.specs.Lists.{without};
@@ -15,10 +16,12 @@ ghost use Rattle.am_model.specs.State.{same_name};
 ghost use Rattle.am_model.specs.Upkeep.{is_deserted};
 
 use super::Groups;
+use crate::again::Spot;
 use crate::finish::take_leaving;
 use crate::flush::LeavingAlert;
 use crate::group::{Group, GroupName, Member, mark_begun, prepare, reserve_members, take_resolved};
 use crate::silences::NotedSilences;
+use am_alerts::alert::Alert;
 use am_alerts::labels::Labels;
 use std::alloc::{AllocError, Global};
 
@@ -82,6 +85,28 @@ impl Groups {
         let group = &mut self.groups[i];
         let before = group.due;
         group.insert(labels, member, wait, t);
+        self.due.change(&group.name, before, group.due);
+    }
+
+    /// Where the alert of these labels stands in the group of this name, if it is there.
+    pub(crate) fn spot(&self, name: &GroupName, labels: &Labels) -> Option<Spot>
+        ensures { IfSome result (IsSpot self.now.items name.now labels.now) }
+    {
+        let group = self.find(name)?;
+        let member = self.at(group).members.find(labels)?;
+        Some(Spot { group, member })
+    }
+
+    /// Writes an alert with its stamp in place of the one with its labels, which stands there.
+    pub(crate) fn replace(&mut self, spot: Spot, alert: Alert, stamp: u64, wait: u64, t: u64)
+        requires place { spot.group < length self.old.items }
+        requires member { HasAt alert.labels spot self.old.items }
+        ensures group { Changes (Gets (stamped_alert alert stamp) wait t) spot.group self.old self.new }
+        ensures labels { map label_sets self.new.items ≡ map label_sets self.old.items }
+    {
+        let group = &mut self.groups[spot.group];
+        let before = group.due;
+        group.replace(spot.member, alert, stamp, wait, t);
         self.due.change(&group.name, before, group.due);
     }
 

@@ -5,7 +5,7 @@ use Rattle.am_mute.specs.Sources.{AreLearnt}
 use Rattle.am_board.proofs.forget.renew.Goals as goal
 
 pub learn-requires : goal.learn-requires
-learn-requires c = c.new.ensures c.as_slice.result.now c.args.known.now
+learn-requires c = c.new.ensures.nothing c.as_slice.result.now c.args.known.now
 
 pub returns : goal.returns
 returns c before learnt same =

@@ -6,12 +6,12 @@ use Rattle.am_board.specs.declared.insert.Target.{Target}
 use Rattle.am_board.specs.declared.group.Group.{Group}
 use Rattle.am_board.specs.declared.insert.Found.{Found}
 use Rattle.am_board.specs.Inserting.{IsFound, AreFound, IsWhereToPut, target_of}
+use Rattle.am_board.proofs.lemmas.insert.Again.{names_routed}
 use Rattle.am_board.proofs.lemmas.insert.Found.{still_found, are_apart, names_apart}
-use Rattle.am_model.proofs.lists.Distinct.{all_from, all_to, all-map, all-told}
-use Rattle.am_model.specs.Insert.{name_in, names_for, inserted}
+use Rattle.am_model.proofs.lists.Distinct.{all-told}
+use Rattle.am_model.specs.Insert.{names_for, inserted}
 use Rattle.am_model.specs.declared.group.GroupName.{GroupName}
-use Rattle.am_alerts.proofs.Positions.{routes_of-exist}
-use Rattle.am_alerts.specs.RoutingTree.{last_of, routes_of}
+use Rattle.am_alerts.specs.RoutingTree.{last_of}
 use Rattle.am_alerts.specs.declared.labels.Label.{Label}
 use Rattle.am_board.specs.Refinement.{state_of, IsPrepared}
 use Rattle.am_model.specs.declared.config.Config.{Config}
@@ -43,10 +43,7 @@ returns-then-len-made c =
 routed : (config : Config) (labels : List Label) (ts : List Target) → map (λ t. t.name) ts ≡ names_for config labels → All (λ t. t.name.route ≤ last_of config.routes) ts
 routed config labels ts names =
     all-told (λ (t : Target). t.name) (λ (n : GroupName). n.route ≤ last_of config.routes) ts
-    (subst (All (λ (n : GroupName). n.route ≤ last_of config.routes)) (sym names)
-    (all_from (λ (n : GroupName). n.route ≤ last_of config.routes) (names_for config labels)
-    (all-map (name_in config labels) (λ (n : GroupName). n.route ≤ last_of config.routes) (routes_of config.routes labels)
-    (all_to (λ (r : ℕ). r ≤ last_of config.routes) (routes_of config.routes labels) (routes_of-exist config.routes labels)))))
+    (subst (All (λ (n : GroupName). n.route ≤ last_of config.routes)) (sym names) (names_routed config labels))
 
 pub prepare_all-requires : goal.prepare_all-requires
 prepare_all-requires c = routed c.args.config.now c.args.alert.labels c.args.found.targets.items c.requires.found.names

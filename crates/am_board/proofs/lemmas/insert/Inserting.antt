@@ -86,7 +86,7 @@ module _ (config : Config) (s : State) (a : AlertData) where
       new_is place e ∙ (ap (λ b. nat_le config.limits.names (length s.known) && b) some ∙ and_right (nat_le config.limits.names (length s.known)) false refl)
 
 -- the groups that have to be made, counted in what is kept
-missing_is : (gs : List Group) (name : GroupName) → is_none (position (λ g. same_name name g.name) gs) ≡ not (has_group (map group_state gs) name)
+pub missing_is : (gs : List Group) (name : GroupName) → is_none (position (λ g. same_name name g.name) gs) ≡ not (has_group (map group_state gs) name)
 missing_is gs name = ap (λ o. is_none o) (sym (position-map group_state (is_named name) gs)) ∙ none_any (is_named name) (map group_state gs)
 
 pub made_is : (config : Config) (labels : List Label) (gs : List Group) (ts : List Target) → map (λ t. t.name) ts ≡ names_for config labels → All (IsFound gs) ts → count_by (λ t. is_none t.place) ts ≡ count_by (λ name. not (has_group (map group_state gs) name)) (names_for config labels)

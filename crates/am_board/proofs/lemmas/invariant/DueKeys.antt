@@ -157,7 +157,7 @@ names-keys (e ∷ es) h =
 -- ---- the groups and the set of their keys
 
 -- a value is written, and the keys stay
-keys_set : {K X : Type 0} (es : List (K × X)) (i : ℕ) (x : X) → keys_of (set_value_at es i x) ≡ keys_of es
+pub keys_set : {K X : Type 0} (es : List (K × X)) (i : ℕ) (x : X) → keys_of (set_value_at es i x) ≡ keys_of es
 keys_set [] i x = refl
 keys_set (e ∷ es) zero x = refl
 keys_set (e ∷ es) (suc i) x = ap (λ ks. e.0 ∷ ks) (keys_set es i x)

@@ -9,11 +9,15 @@ use Rattle.am_model.specs.declared.group.GroupName.{GroupName}
 use Rattle.std.proofs.lemmas.List.Elements.{All-append, All-cons, All-nil}
 use Rattle.am_alerts.specs.RoutingTree.{RoutingTree, last_of}
 use Rattle.am_board.specs.Refinement.{group_state}
-use Rattle.am_board.specs.Group.{names_of, AreRouted, AddsAtMost, HasRoom, Fits}
+use Rattle.am_board.specs.Group.{names_of, label_sets, AreRouted, AddsAtMost, HasRoom, Fits}
 
 -- one group is replaced by one of its name
 pub names_set : (gs : List Group) (i : ℕ) (g d : Group) → g.name ≡ (get_or gs i d).name → names_of (set gs i g) ≡ names_of gs
 names_set gs i g d h = map-set_same (λ g. g.name) gs i g d h
+
+-- one group is replaced by one with its label sets
+pub labels_set : (gs : List Group) (i : ℕ) (g d : Group) → label_sets g ≡ label_sets (get_or gs i d) → map label_sets (set gs i g) ≡ map label_sets gs
+labels_set gs i g d h = map-set_same label_sets gs i g d h
 
 -- one group is replaced by one of its state
 pub states_set : (gs : List Group) (i : ℕ) (g d : Group) → group_state g ≡ group_state (get_or gs i d) → map group_state (set gs i g) ≡ map group_state gs

@@ -87,7 +87,7 @@ module _ (test : MemberState → Bool) (es kept : List (List Label × Member)) (
 
 -- ---- the order by labels
 
-labels_keyed : (es : List (List Label × Member)) → AreKeyed labels_of es → map labels_of (values_of es) ≡ keys_of es
+pub labels_keyed : (es : List (List Label × Member)) → AreKeyed labels_of es → map labels_of (values_of es) ≡ keys_of es
 labels_keyed [] h = refl
 labels_keyed (e ∷ es) h = λ i. sym (All-head IsLabelled e es h) i ∷ labels_keyed es (All-tail IsLabelled e es h) i
 

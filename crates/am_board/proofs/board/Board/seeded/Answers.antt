@@ -28,7 +28,7 @@ returns-in-Err c =
 pub invariant_of-result : goal.invariant_of-result
 invariant_of-result c =
     let known = c.in_ok-new-in-Ok.field-0.known.items in
-    new_sound _ (c.new-in-Ok.ensures c.args.config.rules known)
+    new_sound _ (c.new-in-Ok.ensures.nothing c.args.config.rules known)
     (subst (AreKept c.args.config known) (sym c.new-in-Ok-2.ensures) (kept_none c.args.config known))
     (no_fault (config_fault c.args.config) tt tt c.in-Ok.ensures.fault) c.in-Ok.ensures.few c.in-Ok.ensures.limits
     c.in_ok-new-in-Ok.ensures refl c.new-in-Ok-3.ensures

@@ -1,0 +1,93 @@
+use Rattle.std.proofs.Common.{◌≡◌, ◌∙◌, ℕ, ◌<◌, Option, Some, None, List, Result, Ok, Err, true, length, map, sym, ap, subst, vec_len}
+use Rattle.std.specs.Prelude.{IfSome, MatchResult, is_ok, unwrap_or}
+use Rattle.std.specs.List.{position}
+use Rattle.am_alerts.specs.AlertData.{AlertData}
+use Rattle.am_mute.specs.Sources.{IsAt}
+use Rattle.am_model.specs.declared.config.Config.{Config}
+use Rattle.am_model.specs.declared.fault.Fault.{Fault}
+use Rattle.am_model.specs.declared.group.GroupName.{GroupName}
+use Rattle.am_model.specs.declared.record.Inserted.{Inserted}
+use Rattle.am_model.specs.declared.record.Call.TheVariants as call
+use Rattle.am_model.specs.declared.record.Reply.TheVariants as reply
+use Rattle.am_model.specs.Insert.{names_for, same_alert}
+use Rattle.am_model.specs.Lists.{upsert}
+use Rattle.am_model.specs.Records.{entry}
+use Rattle.am_board.specs.GroupNameCache.{AreKept}
+use Rattle.am_model.specs.Causes.{insert_cause}
+use Rattle.am_board.specs.Refinement.{state_of}
+use Rattle.am_board.specs.Step.{AppliesCall, LeavesUnchanged, IsAnswer}
+use Rattle.am_board.specs.declared.insert.Target.{Target}
+use Rattle.am_board.specs.declared.state.State as kept
+use Rattle.am_board.proofs.lemmas.invariant.GroupNameCache.{kept_put, known_then, known_still, put_at, put_within}
+use Rattle.am_board.proofs.insert.put_routed.Goals as goal
+use Rattle.am_board.proofs.insert.put_routed.Goals.{then-is_ok, else-is_ok}
+
+module _ (config : Config) (old new : kept.State) (alert : AlertData) (pass now : ℕ) (names : List (Option (List GroupName))) where
+  abbrev Was : Result Inserted Fault → (Inserted → Type 0) → (Fault → Type 0) → Type 0
+  Was r P Q =
+      MatchResult r
+      (λ told. P told × ((id : ℕ) → AppliesCall config id (entry pass (call.Insert now alert) (reply.Inserted told)) old new))
+      (λ fault. Q fault × LeavesUnchanged config old new)
+
+  -- the names that are kept are of the known alerts after the call too
+  still : (P : Inserted → Type 0) (Q : Fault → Type 0) (r : Result Inserted Fault) → Was r P Q → AreKept config old.known.items names → AreKept config new.known.items names
+  still P Q (Ok told) h are =
+      subst (λ known. AreKept config known names) (sym (known_then config 0 pass now alert (reply.Inserted told) old new (h.1 0))) (kept_put config alert old.known.items names are)
+  still P Q (Err fault) h are = subst (λ known. AreKept config known names) (sym (known_still config old new h.1)) are
+
+  -- an alert that was put is known
+  put_there : (P : Inserted → Type 0) (Q : Fault → Type 0) (r : Result Inserted Fault) → is_ok r ≡ true → Was r P Q → new.known.items ≡ upsert same_alert alert old.known.items
+  put_there P Q (Ok told) e h = known_then config 0 pass now alert (reply.Inserted told) old new (h.1 0)
+  put_there P Q (Err fault) e h = absurd (cc)
+
+-- the names that were found are those of the alert's groups
+new_are : (config : Config) (alert a : AlertData) (found : List GroupName) (o : Option (List GroupName)) → IfSome o (λ names. names ≡ found) → found ≡ names_for config alert.labels → a ≡ alert → IfSome o (λ names. names ≡ names_for config a.labels)
+new_are config alert a found None are is same = tt
+new_are config alert a found (Some names) are is same = are ∙ is ∙ sym (ap (λ (b : AlertData). names_for config b.labels) same)
+
+pub find_targets-requires : goal.find_targets-requires
+find_targets-requires c =
+    let config : Config = c.args.config.now in
+    let kept = c.of-kept.ensures config c.args.state.now.known.items c.args.alert.labels c.requires.kept c.requires.place in
+    record { kept = subst (λ labels. IfSome c.of-kept.result (λ names. names.now ≡ names_for config labels)) (sym c.labels-labels.ensures.labels) kept }
+
+pub put_found-inserted-requires : goal.put_found-inserted-requires
+put_found-inserted-requires c =
+    let config : Config = c.args.config.now in
+    record {
+      good = c.requires.good;
+      found = record {
+        room = c.requires.room;
+        few = c.requires.names;
+        place = c.requires.place;
+        within = c.requires.within;
+        names = c.in_ok-targets.ensures.names ∙ ap (names_for config) c.labels-labels.ensures.labels;
+        targets = c.in_ok-targets.ensures.found;
+      };
+    }
+
+pub returns-clause-kept : goal.returns-clause-kept
+returns-clause-kept c =
+    let config : Config = c.args.config.now in
+    let old : kept.State = c.args.state.now in
+    let new : kept.State = c.put_found-inserted.new.state in
+    let alert : AlertData = c.args.alert in
+    let cause = insert_cause config (vec_len old.history) (state_of old) alert in
+    let P : Inserted → Type 0 = λ told. cause ≡ None in
+    let Q : Fault → Type 0 = λ fault. IsAnswer cause fault in
+    let put = c.put_found-inserted.ensures in
+    let are = still config old new alert c.args.pass c.args.now c.args.destinations.now P Q c.put_found-inserted.result put c.requires.kept in
+    elim c.if-is_ok.branch [
+      | then-is_ok w ↦
+          let place : Option ℕ = c.args.place in
+          let n : ℕ = c.unwrap_or-number.result in
+          let found : place ≡ position (same_alert alert) old.known.items = c.requires.place in
+          let at : n ≡ unwrap_or place (length old.known.items) = c.unwrap_or-number.ensures ∙ ap (unwrap_or place) c.len.ensures in
+          let there = put_there config old new alert c.args.pass c.args.now c.args.destinations.now P Q c.put_found-inserted.result (sym c.is_ok.ensures.value ∙ w.if-is_ok.true) put in
+          let within : n < length new.known.items = subst (λ (xs : List AlertData). n < length xs) (sym there) (put_within alert old.known.items place n found at) in
+          let names = ap (map (λ (t : Target). t.name)) c.as_slice.ensures.value ∙ (c.in_ok-targets.ensures.names ∙ ap (names_for config) c.labels-labels.ensures.labels) in
+          subst (AreKept config new.known.items) (sym w.destinations-is)
+          (w.keep.ensures config new.known.items are within
+          (λ a is. new_are config alert a (map (λ (t : Target). t.name) c.as_slice.result.now) c.new_names-names.result c.new_names-names.ensures names (put_at alert old.known.items place n a found at (subst (λ (xs : List AlertData). IsAt xs n a) there is))))
+      | else-is_ok w ↦ subst (AreKept config new.known.items) (sym w.destinations-is) are
+    ]

@@ -79,7 +79,7 @@ fn time_of(call: &Call) -> u64 {
 fn ended_by(event: &Event) -> u64 {
     match event {
         Event::Begun { begin: _ } => 0,
-        Event::Sent { begin: _, report } => report.report().ended,
+        Event::Sent { begin: _, report } => report.get().ended,
     }
 }
 

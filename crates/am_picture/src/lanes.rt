@@ -14,6 +14,7 @@ use am_model::config::Config;
 use am_model::group::GroupName;
 use am_model::notice::Report;
 use am_model::record::Call;
+use am_seed::Seed;
 use am_terms::clock::TimeFormat;
 use am_terms::event::{Event, PreviewedBegin};
 use std::alloc::{AllocError, Global};
@@ -25,9 +26,9 @@ pub(crate) struct Lanes {
     alloc: Global,
     lanes: Vec<Lane>,
     /// The lane of each group.
-    by_group: HashMap<GroupName, usize>,
+    by_group: HashMap<GroupName, usize, Seed>,
     /// The places of each alert.
-    by_alert: HashMap<Labels, Vec<Place>>,
+    by_alert: HashMap<Labels, Vec<Place>, Seed>,
 }
 
 /// The place of an alert: a lane, and its row there, if it has one of its own.
@@ -55,11 +56,12 @@ impl Lanes {
         scene: &Scene,
         clock: &C,
     ) -> Result<Lanes, AllocError> {
+        let seed = scene.log.seed();
         let mut lanes = Lanes {
             alloc,
             lanes: Vec::new(alloc),
-            by_group: HashMap::new(alloc),
-            by_alert: HashMap::new(alloc),
+            by_group: HashMap::with_hasher(alloc, seed),
+            by_alert: HashMap::with_hasher(alloc, seed),
         };
         lanes.add_inserts(scene)?;
         lanes.add_events(scene, clock)?;
@@ -196,7 +198,7 @@ impl Lanes {
             },
             Event::Sent { begin, report } => match scene.begins().get(*begin as usize) {
                 None => Ok(()),
-                Some(begin) => self.add_sent(scene, clock, place, begin, report.report()),
+                Some(begin) => self.add_sent(scene, clock, place, begin, report.get()),
             },
         }
     }

@@ -1,19 +1,12 @@
 -- Lists are the same where their elements are, by a test.
-use Rattle.std.proofs.Common.{◌≡◌, ◌∙◌, ◌∷◌, [], Bool, List, true, refl, sym}
-use Rattle.std.specs.Cmp.Lexicographic.{pointwise}
-use Rattle.std.proofs.lemmas.Bool.{and_parts}
+use Rattle.std.proofs.Common.{◌≡◌, ◌∙◌, Bool, List, true, sym, subst}
+use Rattle.std.specs.Prelude.{◌↔◌}
+use Rattle.std.specs.Cmp.Lexicographic.{pointwise, pointwise_decides}
 
--- lists are the same by a test that tells of elements that they are
-same_from : {X : Type 0} {E : X → X → Bool} → ((a b : X) → E a b ≡ true → a ≡ b) → (xs ys : List X) → pointwise E xs ys ≡ true → xs ≡ ys
-same_from each [] [] h = refl
-same_from each [] (y ∷ ys) h = cc
-same_from each (x ∷ xs) [] h = cc
-same_from each (x ∷ xs) (y ∷ ys) h =
-    let parts = and_parts _ _ h in
-    let first = each x y parts.0 in
-    let rest = same_from each xs ys parts.1 in
-    λ i. first i ∷ rest i
-
--- the same, by the answer of the test
-pub same_by : {X : Type 0} {E : X → X → Bool} → ((a b : X) → E a b ≡ true → a ≡ b) → (xs ys : List X) (r : Bool) → r ≡ pointwise E xs ys → r ≡ true → xs ≡ ys
-same_by each xs ys r is h = same_from each xs ys (sym is ∙ h)
+module _ {X : Type 0} {E : X → X → Bool} where
+  -- lists are the same where a test says so and only there, if it tells of elements that they are and holds of each with itself
+  pub tells_same : ((a : X) → E a a ≡ true) → ((a b : X) → E a b ≡ true → a ≡ b) → (xs ys : List X) (r : Bool)
+      → r ≡ pointwise E xs ys → (r ≡ true) ↔ (xs ≡ ys)
+  tells_same own each xs ys r is =
+      let same = pointwise_decides (λ a b. (each a b, λ e. subst (λ c. E a c ≡ true) e (own a))) xs ys in
+      (λ h. same.0 (sym is ∙ h), λ e. is ∙ same.1 e)

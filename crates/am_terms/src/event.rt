@@ -4,9 +4,9 @@
 ghost use Rattle.std.specs.Prelude.{◌≡◌, IfOk};
 
 use crate::shared_preview::SharedPreview;
+use am_model::boxed::Boxed;
 use am_model::notice::Report;
 use std::alloc::{AllocError, Global};
-use std::marker::Model;
 
 /// A begin that took a group, with its preview.
 #[derive(Debug, Drop)]
@@ -23,41 +23,7 @@ pub enum Event {
     /// The begin at this position among the previewed begins took a group.
     Begun { begin: u32 },
     /// The sending of a notice ended. The begin at this position opened its flush.
-    Sent { begin: u32, report: ReportBox },
-}
-
-/// A report as an event keeps it: boxed, so that other events stay small.
-///
-/// Contracts see it as the report.
-#[derive(Debug, Drop)]
-pub struct ReportBox {
-    report: Box<Report>,
-}
-
-impl Model for ReportBox {
-    ghost use Rattle.am_model.specs.declared.notice.Report.{Report};
-
-    ghost Value = { Report };
-
-    ghost view = { λ b. b.report.value };
-}
-
-impl ReportBox {
-    /// Boxes a report.
-    pub fn new(alloc: Global, report: Report) -> Result<ReportBox, AllocError>
-        ensures { IfOk result (λ boxed. boxed ≡ report) }
-    {
-        Ok(ReportBox {
-            report: Box::new(alloc, report)?,
-        })
-    }
-
-    /// Returns the report.
-    pub fn report(&self) -> &Report
-        ensures { result.now ≡ self.now }
-    {
-        &self.report
-    }
+    Sent { begin: u32, report: Boxed<Report> },
 }
 
 impl Event {
@@ -69,7 +35,7 @@ impl Event {
             Event::Begun { begin } => Ok(Event::Begun { begin: *begin }),
             Event::Sent { begin, report } => Ok(Event::Sent {
                 begin: *begin,
-                report: ReportBox::new(alloc, *report.report())?,
+                report: Boxed::new(alloc, *report.get())?,
             }),
         }
     }

@@ -1,5 +1,5 @@
 //! Whether two previews differ in their times at most. `SharedPreview` then keeps the rest once.
-ghost use Rattle.std.specs.Prelude.{◌≡◌, IsTrue};
+ghost use Rattle.std.specs.Prelude.{◌≡◌, ◌↔◌, IsTrue};
 ghost use Rattle.am_mute.specs.declared.mute.MuteCause.TheVariants.{Inhibited, Silenced};
 ghost use Rattle.am_terms.specs.Like.{IsLike};
 
@@ -11,7 +11,7 @@ use am_mute::mute::MuteCause;
 
 /// Returns whether two previews are of one group, with the same muted alerts and the same reasons.
 pub(crate) fn are_like(one: &Preview, other: &Preview) -> bool
-    ensures { IsTrue result → IsLike one.now other.now }
+    ensures { IsTrue result ↔ IsLike one.now other.now }
 {
     are_same_reasons(one.reasons.as_slice(), other.reasons.as_slice())
         && are_same_muted(one.muted.as_slice(), other.muted.as_slice())
@@ -19,19 +19,19 @@ pub(crate) fn are_like(one: &Preview, other: &Preview) -> bool
 }
 
 fn are_same_reasons(some: &[Reason], others: &[Reason]) -> bool
-    ensures { IsTrue result → some.now ≡ others.now }
+    ensures { IsTrue result ↔ (some.now ≡ others.now) }
 {
     some == others
 }
 
 fn is_same_group(one: &GroupName, other: &GroupName) -> bool
-    ensures { IsTrue result → one.now ≡ other.now }
+    ensures { IsTrue result ↔ (one.now ≡ other.now) }
 {
     one == other
 }
 
 fn are_same_muted(some: &[MutedAlert], others: &[MutedAlert]) -> bool
-    ensures { IsTrue result → some.now ≡ others.now }
+    ensures { IsTrue result ↔ (some.now ≡ others.now) }
 {
     if some.len() != others.len() {
         return false;
@@ -45,19 +45,19 @@ fn are_same_muted(some: &[MutedAlert], others: &[MutedAlert]) -> bool
 }
 
 fn is_same_muted(one: &MutedAlert, other: &MutedAlert) -> bool
-    ensures { IsTrue result → one.now ≡ other.now }
+    ensures { IsTrue result ↔ (one.now ≡ other.now) }
 {
     is_same_set(&one.labels, &other.labels) && is_same_cause(&one.cause, &other.cause)
 }
 
 fn is_same_set(one: &Labels, other: &Labels) -> bool
-    ensures { IsTrue result → one.now ≡ other.now }
+    ensures { IsTrue result ↔ (one.now ≡ other.now) }
 {
     one == other
 }
 
 fn is_same_cause(one: &MuteCause, other: &MuteCause) -> bool
-    ensures { IsTrue result → one.now ≡ other.now }
+    ensures { IsTrue result ↔ (one.now ≡ other.now) }
 {
     match one {
         MuteCause::Silenced { id, until } => is_silenced_by(*id, *until, other),
@@ -66,7 +66,7 @@ fn is_same_cause(one: &MuteCause, other: &MuteCause) -> bool
 }
 
 fn is_silenced_by(id: u64, until: u64, cause: &MuteCause) -> bool
-    ensures { IsTrue result → Silenced id until ≡ cause.now }
+    ensures { IsTrue result ↔ (Silenced id until ≡ cause.now) }
 {
     match cause {
         MuteCause::Silenced {
@@ -78,7 +78,7 @@ fn is_silenced_by(id: u64, until: u64, cause: &MuteCause) -> bool
 }
 
 fn is_inhibited_by(rule: usize, by: &Labels, cause: &MuteCause) -> bool
-    ensures { IsTrue result → Inhibited rule by.now ≡ cause.now }
+    ensures { IsTrue result ↔ (Inhibited rule by.now ≡ cause.now) }
 {
     match cause {
         MuteCause::Silenced { .. } => false,

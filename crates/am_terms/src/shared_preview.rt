@@ -1,7 +1,7 @@
 //! `SharedPreview`: a preview that shares all but its time with other previews of its group.
 //!
 //! Most flushes of a group are quiet, with the muted alerts and the reasons of the flush before. Then their previews share these.
-ghost use Rattle.std.specs.Prelude.{◌≡◌, IfSome, IsTrue, MatchResult};
+ghost use Rattle.std.specs.Prelude.{◌≡◌, ◌↔◌, IfOk, IsTrue, MatchResult, SomeIff};
 ghost use Rattle.std.specs.Arc.{arc_value};
 ghost use Rattle.am_terms.specs.Like.{IsLike};
 
@@ -9,7 +9,7 @@ use crate::like::are_like;
 use am_model::group::GroupName;
 use am_model::preview::{MutedAlert, Preview};
 use am_model::reason::Reason;
-use std::alloc::Global;
+use std::alloc::{AllocError, Global};
 use std::marker::Model;
 use std::sync::Arc;
 
@@ -49,24 +49,26 @@ impl SharedPreview {
     }
 
     /// Returns a preview with all that this one has but the time, if that is the given one. It takes no memory.
-    pub fn again(&self, preview: &Preview) -> Option<SharedPreview>
-        ensures { IfSome result (λ shared. shared ≡ preview.now) }
+    ///
+    /// # Errors
+    ///
+    /// So many previews have these muted alerts and reasons in common that no further one can.
+    pub fn again(&self, preview: &Preview) -> Result<Option<SharedPreview>, AllocError>
+        ensures { IfOk result (λ shared. SomeIff shared (IsLike self.now preview.now) preview.now) }
     {
         if !are_like(&self.like, preview) {
-            return None;
+            return Ok(None);
         }
-        match Arc::try_clone(&self.like) {
-            Ok(like) => Some(SharedPreview {
-                moment: preview.moment,
-                like,
-            }),
-            Err(_) => None,
-        }
+        let like = Arc::try_clone(&self.like)?;
+        Ok(Some(SharedPreview {
+            moment: preview.moment,
+            like,
+        }))
     }
 
     /// Returns whether two previews have all but their times in common.
     pub fn is_like(&self, other: &SharedPreview) -> bool
-        ensures { IsTrue result → IsLike self.now other.now }
+        ensures { IsTrue result ↔ IsLike self.now other.now }
     {
         are_like(&self.like, &other.like)
     }

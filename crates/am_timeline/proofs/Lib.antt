@@ -16,8 +16,10 @@ pub mod Rows
 pub mod Reversed
 -- previews of two flushes that are alike have the same lines
 pub mod Likeness
--- runs of like flushes, by a table of the next flush of each group
+-- runs of like flushes, by a table of the last flush of each group
 pub mod Folds
+-- where runs begin, in order, and the run that begins at a place
+pub mod Starts
 -- the groups of the alerts that matchers match, found one alert and one route at a time
 pub mod Filters
 -- a filter that names nothing leaves all events

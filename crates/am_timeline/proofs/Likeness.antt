@@ -72,8 +72,8 @@ shown-timeless config times frame t u g m rs some others h =
 shown-alike : (config : Config) (times : TimeFormatData) (frame : FrameData) (o p : Preview) (some others : List NoticeData) → AreAlike o p
     → shown config times frame o some ≡ shown config times frame p others
 shown-alike config times frame o p some others alike =
-    shown-timeless config times frame o.moment p.moment o.group o.muted o.reasons some others alike.3
-    ∙ (λ i. shown config times frame (preview_of p.moment (alike.0 i) (alike.1 i) (alike.2 i)) others)
+    shown-timeless config times frame o.moment p.moment o.group o.muted o.reasons some others alike.1
+    ∙ (λ i. shown config times frame (preview_of p.moment (alike.0.0 i) (alike.0.1 i) (alike.0.2 i)) others)
 
 -- begins with previews that are alike are compared by the same lines, where neither sends anything or all have lines
 pub lines_by-alike : (all : Bool) (playback : PlaybackData) (times : TimeFormatData) (b c : PreviewedBegin) → AreAlike b.preview c.preview

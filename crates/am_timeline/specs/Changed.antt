@@ -1,11 +1,11 @@
 -- Changed: the events of a rehearsal, without the flushes that say the same as the flush before of their group.
-use Rattle.std.specs.Prelude.{Bool, true, List, [], filter, slice_get}
+use Rattle.std.specs.Prelude.{ℕ, Bool, true, not, ◌||◌, List, [], filter, is_some, nat_lt, slice_get}
 use Rattle.std.specs.Option.{option_map_or}
 use Rattle.am_terms.specs.declared.event.Event.{Event}
 use Rattle.am_terms.specs.declared.event.Event.TheVariants.{Begun, Sent}
-use Rattle.am_timeline.specs.declared.runs.Fold.{Fold}
+use Rattle.am_timeline.specs.declared.runs.Run.{Run}
 use Rattle.am_timeline.specs.Playback.{PlaybackData}
-use Rattle.am_timeline.specs.Runs.{flushes_by, folds_of}
+use Rattle.am_timeline.specs.Runs.{Fold, flushes_by, folds_of, run_at}
 use Rattle.am_terms.specs.TimeFormatData.{TimeFormatData}
 
 -- what becomes of each begin, where flushes of one group that follow each other with the same lines are a run
@@ -20,3 +20,8 @@ is_change folds (Sent begin report) = true
 -- changed: the rehearsal with the events that say something new
 abbrev pub changed : PlaybackData → TimeFormatData → PlaybackData
 changed playback times = record playback { events = filter (is_change (begins_compared playback times)) playback.events }
+
+-- the same, by where the runs of so many flushes begin, and the runs
+abbrev pub is_new : ℕ → List ℕ × List Run → Event → Bool
+is_new count folds (Begun begin) = not (nat_lt begin count) || is_some (run_at begin folds.0 folds.1)
+is_new count folds (Sent begin report) = true

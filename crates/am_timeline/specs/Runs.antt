@@ -1,6 +1,6 @@
 -- Runs: flushes of one group that follow each other, send nothing and have the same lines. The timeline has one line for all of them.
-use Rattle.std.specs.Prelude.{ℕ, ◌+◌, Bool, true, false, not, ◌&&◌, ◌==◌, List, [], ◌∷◌, ◌++◌, length, codes, decimal, map}
-use Rattle.std.specs.Prelude.{Option, Some, None}
+use Rattle.std.specs.Prelude.{ℕ, ◌+◌, ◌≤◌, Bool, false, not, ◌&&◌, ◌==◌, List, [], ◌∷◌, ◌++◌, length, codes, decimal, map}
+use Rattle.std.specs.Prelude.{Option, Some, None, get_or, set}
 use Rattle.std.specs.Prelude.{◌≡◌, IfSome, slice_get, if◌then◌else◌}
 use Rattle.std.specs.List.{flat_map, list_all}
 use Rattle.std.specs.Option.{IsSomeAnd, option_map, option_map_or}
@@ -12,7 +12,6 @@ use Rattle.am_model.specs.State.{same_name}
 use Rattle.am_terms.specs.declared.event.Event.{Event}
 use Rattle.am_terms.specs.declared.event.Event.TheVariants.{Begun, Sent}
 use Rattle.am_terms.specs.declared.event.PreviewedBegin.{PreviewedBegin}
-use Rattle.am_timeline.specs.declared.runs.Fold.{Fold}
 use Rattle.am_timeline.specs.declared.runs.Run.{Run}
 use Rattle.am_timeline.specs.Playback.{PlaybackData, notices_at, sent_of}
 use Rattle.am_timeline.specs.Timeline.{FrameData, begun_lines, sent_line}
@@ -75,6 +74,11 @@ run_with f more = record { count = length more + 1; until = last_moment f.moment
 abbrev pub run_of : FlushData → List FlushData → Run
 run_of f later = run_with f (likes f.group f.lines later)
 
+-- what becomes of a flush: whether it begins its run, and the run, from this flush on
+pub record Fold : Type 0 where
+  pub is_first : Bool
+  pub run : Run
+
 -- what becomes of a flush between those before it, the last of them first, and those after it: its run, and whether it begins it, as
 -- none right before it in its group is like it
 abbrev pub fold_of : List FlushData → FlushData → List FlushData → Fold
@@ -84,12 +88,6 @@ fold_of before f later = record { is_first = (run_of f before).count == 1; run =
 abbrev pub folds_of : List FlushData → List FlushData → List Fold
 folds_of before [] = []
 folds_of before (f ∷ later) = fold_of before f later ∷ folds_of (f ∷ before) later
-
--- what becomes of flushes which begin their runs or don't, and have these runs
-abbrev pub folds_in : List Bool → List Run → List Fold
-folds_in [] runs = []
-folds_in (first ∷ firsts) [] = []
-folds_in (first ∷ firsts) (r ∷ runs) = record { is_first = first; run = r } ∷ folds_in firsts runs
 
 -- when the last flush of a run begins
 abbrev pub until_text : TimeFormatData → ℕ → List ℕ
@@ -135,28 +133,83 @@ begins_folded playback times = folds_of [] (flushes_by false playback times)
 abbrev pub short_timeline_text : PlaybackData → TimeFormatData → List ℕ
 short_timeline_text playback times = flat_map (folded_event_lines playback times (begins_folded playback times)) playback.events
 
--- of the first of these flushes that is of a group the lines, and the run that it begins
-abbrev pub next_of : GroupName → List FlushData → Option (List ℕ × Run)
-next_of group [] = None
-next_of group (f ∷ later) = if same_name f.group group then Some (f.lines, run_of f later) else next_of group later
+-- the places of those that begin their runs, if these are from this place on
+abbrev pub starts_from : ℕ → List Fold → List ℕ
+starts_from place [] = []
+starts_from place (f ∷ folds) = if f.is_first then place ∷ starts_from (place + 1) folds else starts_from (place + 1) folds
 
--- the run of a flush at a moment with these lines, by those of the next flush of its group and its run
-abbrev pub run_by : ℕ → List ℕ → Option (List ℕ × Run) → Run
-run_by moment lines None = record { count = 1; until = moment }
-run_by moment lines (Some next) =
-    if are_same_lines lines next.0 then record { count = next.1.count + 1; until = next.1.until }
-    else record { count = 1; until = moment }
+-- the runs that these begin
+abbrev pub runs_begun : List Fold → List Run
+runs_begun [] = []
+runs_begun (f ∷ folds) = if f.is_first then f.run ∷ runs_begun folds else runs_begun folds
 
--- what is kept of a flush at a place: its lines, and its run by those of the next one of its group and its run
-abbrev pub kept_of : ℕ → FlushData → Option (List ℕ × Run) → ℕ × (List ℕ × Run)
-kept_of place f next = (place, (f.lines, run_by f.moment f.lines next))
+-- the places of those that begin their runs, and the runs
+abbrev pub first_runs : List Fold → List ℕ × List Run
+first_runs folds = (starts_from 0 folds, runs_begun folds)
 
--- what is kept of the next flush of a group, save its place
-abbrev pub kept_next : Option (ℕ × (List ℕ × Run)) → Option (List ℕ × Run)
-kept_next next = option_map (λ n. n.1) next
+-- the run that begins at a place, if one does
+abbrev pub run_at : ℕ → List ℕ → List Run → Option Run
+run_at place [] runs = None
+run_at place (start ∷ starts) [] = None
+run_at place (start ∷ starts) (r ∷ runs) = if start == place then Some r else run_at place starts runs
+
+-- places in order, each one once, from this one on
+abbrev pub IsRising : ℕ → List ℕ → Type 0
+IsRising low [] = Unit {0}
+IsRising low (p ∷ places) = (low ≤ p) × IsRising (p + 1) places
+
+-- the lines on a begin that begins a run
+abbrev pub run_lines : PlaybackData → TimeFormatData → PreviewedBegin → Run → List ℕ
+run_lines playback times begin run = begun_lines playback times (run_frame times run begin) begin
+
+-- the lines on a begin, which is at this place: those of the run that begins there, if one does
+abbrev pub lines_by_runs : PlaybackData → TimeFormatData → List ℕ × List Run → ℕ → PreviewedBegin → List ℕ
+lines_by_runs playback times folds place begin = option_map_or (run_lines playback times begin) (run_at place folds.0 folds.1) []
+
+-- the lines on an event, with these runs
+abbrev pub event_lines_by_runs : PlaybackData → TimeFormatData → List ℕ × List Run → Event → List ℕ
+event_lines_by_runs playback times folds (Begun begin) =
+    option_map_or (lines_by_runs playback times folds begin) (slice_get playback.begins begin) []
+event_lines_by_runs playback times folds (Sent begin report) =
+    option_map_or (sent_line playback times) (sent_of playback (Sent begin report)) []
+
+-- a run of one flush that began at this moment
+abbrev pub single : ℕ → Run
+single moment = record { count = 1; until = moment }
+
+-- these runs, where the one of a number has one more flush, which began at this moment
+abbrev pub grown : ℕ → ℕ → List Run → List Run
+grown number moment runs = set runs number (record { count = (get_or runs number (single moment)).count + 1; until = moment })
+
+-- what is kept of the last flush of a group, save its place: its lines, and the number of its run
+abbrev pub kept_run : Option (ℕ × (List ℕ × ℕ)) → Option (List ℕ × ℕ)
+kept_run last = option_map (λ l. l.1) last
+
+-- whether a flush with these lines is in the run of the last flush of its group
+abbrev pub is_like_last : List ℕ → Option (List ℕ × ℕ) → Bool
+is_like_last lines None = false
+is_like_last lines (Some last) = are_same_lines last.0 lines
+
+-- the number of the run of a flush with these lines, if there are so many runs so far
+abbrev pub number_with : List ℕ → ℕ → Option (List ℕ × ℕ) → ℕ
+number_with lines size None = size
+number_with lines size (Some last) = if are_same_lines last.0 lines then last.1 else size
+
+-- what is kept of a flush at a place with these lines
+abbrev pub kept_of : ℕ → List ℕ → ℕ → Option (List ℕ × ℕ) → ℕ × (List ℕ × ℕ)
+kept_of place lines size last = (place, (lines, number_with lines size last))
+
+-- the runs so far, with a flush at a moment with these lines
+abbrev pub runs_with : ℕ → List ℕ → Option (List ℕ × ℕ) → List Run → List Run
+runs_with moment lines None runs = runs ++ single moment ∷ []
+runs_with moment lines (Some last) runs = if are_same_lines last.0 lines then grown last.1 moment runs else runs ++ single moment ∷ []
+
+-- the places of the first flushes of the runs so far, with a flush at a place with these lines
+abbrev pub starts_with : ℕ → List ℕ → Option (List ℕ × ℕ) → List ℕ → List ℕ
+starts_with place lines last starts = if is_like_last lines last then starts else starts ++ place ∷ []
 
 -- what is kept has the lines of the begin at its place
-abbrev pub HasLines : Bool → PlaybackData → TimeFormatData → ℕ × (List ℕ × Run) → Type 0
+abbrev pub HasLines : Bool → PlaybackData → TimeFormatData → ℕ × (List ℕ × ℕ) → Type 0
 HasLines all playback times n = IfSome (slice_get playback.begins n.0) (λ b. n.1.0 ≡ lines_by all playback times b)
 
 -- the begin at a place is compared by the same lines as this one
@@ -164,26 +217,3 @@ abbrev pub IsComparedAs : Bool → PlaybackData → PreviewedBegin → ℕ → T
 IsComparedAs all playback begin place =
     (times : TimeFormatData)
     → IsSomeAnd (slice_get playback.begins place) (λ b. lines_by all playback times b ≡ lines_by all playback times begin)
-
--- the run of each of these flushes
-abbrev pub runs_of : List FlushData → List Run
-runs_of [] = []
-runs_of (f ∷ later) = run_of f later ∷ runs_of later
-
--- the group of a begin
-abbrev pub group_of : PreviewedBegin → GroupName
-group_of begin = begin.preview.group
-
--- of flushes, the last of them first, the run of the first that is of a group
-abbrev pub run_before : GroupName → List (GroupName × Run) → Option Run
-run_before group [] = None
-run_before group (b ∷ before) = if same_name b.0 group then Some b.1 else run_before group before
-
--- what becomes of flushes of these groups with these runs, if those are before them, the last of them first: one begins its run if the run
--- of the one before it in its group has no more than that one
-abbrev pub with_runs : List (GroupName × Run) → List GroupName → List Run → List Fold
-with_runs before [] runs = []
-with_runs before (g ∷ groups) [] = []
-with_runs before (g ∷ groups) (r ∷ runs) =
-    record { is_first = option_map_or (λ b. b.count == 1) (run_before g before) true; run = r }
-    ∷ with_runs ((g, r) ∷ before) groups runs

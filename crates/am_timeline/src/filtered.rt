@@ -22,6 +22,7 @@ use am_alerts::text::Text;
 use am_model::config::Config;
 use am_model::group::GroupName;
 use am_model::record::{Call, Record};
+use am_seed::Seed;
 use am_terms::event::Event;
 use std::alloc::{AllocError, Global};
 use std::collections::HashSet;
@@ -103,7 +104,7 @@ fn wanted_events(
     alloc: Global,
     playback: &Playback<'_>,
     wanted: &Filter,
-    groups: &HashSet<GroupName>,
+    groups: &HashSet<GroupName, Seed>,
     events: &[Event],
 ) -> Result<Vec<Event>, AllocError>
     requires { FindsMatches playback.now.config (inserted_in playback.now.history) wanted.now.matchers (contains same_name groups.now) }
@@ -122,7 +123,7 @@ fn wanted_events(
 fn concerns(
     playback: &Playback<'_>,
     wanted: &Filter,
-    groups: &HashSet<GroupName>,
+    groups: &HashSet<GroupName, Seed>,
     event: &Event,
 ) -> bool
     requires { FindsMatches playback.now.config (inserted_in playback.now.history) wanted.now.matchers (contains same_name groups.now) }
@@ -138,7 +139,7 @@ fn concerns(
 fn is_wanted_at(
     playback: &Playback<'_>,
     wanted: &Filter,
-    groups: &HashSet<GroupName>,
+    groups: &HashSet<GroupName, Seed>,
     position: usize,
 ) -> bool
     requires { FindsMatches playback.now.config (inserted_in playback.now.history) wanted.now.matchers (contains same_name groups.now) }
@@ -153,7 +154,7 @@ fn is_wanted_at(
 fn is_wanted(
     playback: &Playback<'_>,
     wanted: &Filter,
-    groups: &HashSet<GroupName>,
+    groups: &HashSet<GroupName, Seed>,
     name: &GroupName,
 ) -> bool
     requires { FindsMatches playback.now.config (inserted_in playback.now.history) wanted.now.matchers (contains same_name groups.now) }
@@ -199,7 +200,7 @@ fn is_on_route(wanted: &Filter, route: &Route) -> bool
 }
 
 /// Whether a group is one of these, if a filter has matchers.
-fn is_found(wanted: &Filter, groups: &HashSet<GroupName>, name: &GroupName) -> bool
+fn is_found(wanted: &Filter, groups: &HashSet<GroupName, Seed>, name: &GroupName) -> bool
     ensures { result ≡ ((length wanted.now.matchers == 0) || contains same_name groups.now name.now) }
 {
     wanted.matchers.len() == 0 || groups.contains(name)
@@ -210,27 +211,29 @@ fn groups_of_matches(
     alloc: Global,
     playback: &Playback<'_>,
     matchers: &[Matcher],
-) -> Result<HashSet<GroupName>, AllocError>
+) -> Result<HashSet<GroupName, Seed>, AllocError>
     ensures { IfOk result (λ groups. FindsMatches playback.now.config (inserted_in playback.now.history) matchers.now
         (contains same_name groups)) }
 {
+    let seed = playback.logbook().seed();
     if matchers.len() == 0 {
-        return Ok(HashSet::new(alloc));
+        return Ok(HashSet::with_hasher(alloc, seed));
     }
-    all_groups(alloc, playback.config, playback.history, matchers)
+    all_groups(alloc, seed, playback.config, playback.history, matchers)
 }
 
 fn all_groups(
     alloc: Global,
+    seed: Seed,
     config: &Config,
     history: &[Record],
     matchers: &[Matcher],
-) -> Result<HashSet<GroupName>, AllocError>
+) -> Result<HashSet<GroupName, Seed>, AllocError>
     ensures { IfOk result (λ groups. (name : named.GroupName)
         → contains same_name groups name ≡ has_match config.now (inserted_in history.now) matchers.now name) }
 {
     let mut searchers = Searchers::new(alloc, matchers);
-    let mut groups = HashSet::new(alloc);
+    let mut groups = HashSet::with_hasher(alloc, seed);
     for record in history {
         add_insert(alloc, config, &mut searchers, &record.call, &mut groups)?;
     }
@@ -243,7 +246,7 @@ fn add_insert(
     config: &Config,
     searchers: &mut Searchers<'_>,
     call: &Call,
-    groups: &mut HashSet<GroupName>,
+    groups: &mut HashSet<GroupName, Seed>,
 ) -> Result<(), AllocError>
     ensures kept { searchers.new ≡ searchers.old }
     ensures groups { OnOk result ((name : named.GroupName) → contains same_name groups.new name
@@ -261,7 +264,7 @@ fn add_match(
     config: &Config,
     searchers: &mut Searchers<'_>,
     alert: &Alert,
-    groups: &mut HashSet<GroupName>,
+    groups: &mut HashSet<GroupName, Seed>,
 ) -> Result<(), AllocError>
     ensures kept { searchers.new ≡ searchers.old }
     ensures groups { OnOk result ((name : named.GroupName) → contains same_name groups.new name
@@ -278,7 +281,7 @@ fn add_groups(
     alloc: Global,
     config: &Config,
     labels: &Labels,
-    groups: &mut HashSet<GroupName>,
+    groups: &mut HashSet<GroupName, Seed>,
 ) -> Result<(), AllocError>
     ensures { OnOk result ((name : named.GroupName) → contains same_name groups.new name
         ≡ (contains same_name groups.old name || goes_to config.now name labels.now)) }
@@ -296,7 +299,7 @@ fn add_group(
     config: &Config,
     labels: &Labels,
     position: u32,
-    groups: &mut HashSet<GroupName>,
+    groups: &mut HashSet<GroupName, Seed>,
 ) -> Result<(), AllocError>
     requires { position ≤ last_of config.now.routes }
     ensures { OnOk result ((name : named.GroupName) → contains same_name groups.new name

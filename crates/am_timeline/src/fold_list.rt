@@ -1,57 +1,56 @@
-//! What becomes of each flush, in 17 bytes a flush. `runs` makes it.
-ghost use Rattle.std.specs.Prelude.{◌≡◌, slice_get};
-ghost use Rattle.am_timeline.specs.Runs.{folds_in};
+//! What becomes of flushes: where runs begin, and the runs. It takes 24 bytes a run. `runs` makes it.
+ghost use Rattle.std.specs.Prelude.{◌≡◌, length};
+ghost use Rattle.am_timeline.specs.Runs.{IsRising, run_at};
 
-use crate::runs::{Fold, Run};
+use crate::runs::Run;
 use std::marker::Model;
 
-/// What becomes of each flush. Contracts see it as the list of folds.
+/// Where runs begin, and the runs. Contracts see it as the list of the places of their first flushes, and the list of the runs.
 #[derive(Drop)]
 pub(crate) struct Folds {
-    /// Whether each flush begins its run.
-    firsts: Vec<bool>,
-    /// The run of each flush.
+    /// The places of the first flushes, in order.
+    starts: Vec<usize>,
     runs: Vec<Run>,
 }
 
 impl Model for Folds {
-    ghost use Rattle.std.specs.Prelude.{List};
-    ghost use Rattle.am_timeline.specs.declared.runs.Fold.{Fold};
-    ghost use Rattle.am_timeline.specs.Runs.{folds_in};
+    ghost use Rattle.std.specs.Prelude.{◌≡◌, ℕ, List, length};
+    ghost use Rattle.am_timeline.specs.declared.runs.Run as begun;
+    ghost use Rattle.am_timeline.specs.Runs.{IsRising};
 
-    ghost Value = { List Fold };
+    ghost Value = { List ℕ × List begun.Run };
 
-    ghost view = { λ f. folds_in f.firsts.items f.runs.items };
+    ghost view = { λ f. (f.starts.items, f.runs.items) };
+
+    ghost invariant = { λ f. IsRising 0 f.starts.items × (length f.starts.items ≡ length f.runs.items) };
 }
 
 impl Folds {
-    /// Returns what becomes of flushes which begin their runs or don't, and have these runs.
-    pub(crate) fn new(firsts: Vec<bool>, runs: Vec<Run>) -> Folds
-        ensures { result ≡ folds_in firsts.items runs.items }
+    /// Returns these runs, whose first flushes are at these places.
+    pub(crate) fn new(starts: Vec<usize>, runs: Vec<Run>) -> Folds
+        requires rising { IsRising 0 starts.items }
+        requires same { length starts.items ≡ length runs.items }
+        ensures { result ≡ (starts.items, runs.items) }
     {
-        Folds { firsts, runs }
+        Folds { starts, runs }
     }
 
-    /// Returns what becomes of the flush at a position, if there is one.
-    pub(crate) fn get(&self, position: usize) -> Option<Fold>
-        ensures { result ≡ slice_get self.now position }
+    /// Returns the run that the flush at a place begins, if it begins one.
+    pub(crate) fn run_at(&self, place: usize) -> Option<Run>
+        ensures { result ≡ run_at place self.now.0 self.now.1 }
     {
-        fold_at(self.firsts.as_slice(), self.runs.as_slice(), position)
+        run_in(self.starts.as_slice(), self.runs.as_slice(), place)
     }
 }
 
-/// Returns what becomes of the flush at a position, if there is one.
-fn fold_at(firsts: &[bool], runs: &[Run], position: usize) -> Option<Fold>
-    ensures { result ≡ slice_get (folds_in firsts.now runs.now) position }
+/// Returns the run that begins at a place, of these runs, whose first flushes are at those places.
+fn run_in(starts: &[usize], runs: &[Run], place: usize) -> Option<Run>
+    requires rising { IsRising 0 starts.now }
+    requires same { length starts.now ≡ length runs.now }
+    ensures { result ≡ run_at place starts.now runs.now }
 {
-    match firsts.get(position) {
-        None => None,
-        Some(is_first) => match runs.get(position) {
-            None => None,
-            Some(run) => Some(Fold {
-                is_first: *is_first,
-                run: *run,
-            }),
-        },
+    match starts.binary_search(&place) {
+        Ok(number) => Some(runs[number]),
+        Err(_) => None,
     }
 }

@@ -8,6 +8,7 @@ mod log;
 
 use am_model::config::Config;
 use am_model::record::Record;
+use am_seed::Seed;
 use am_terms::event::PreviewedBegin;
 use entries::{FlushKey, expired_entries};
 use std::alloc::{AllocError, Global};
@@ -21,7 +22,8 @@ pub struct Logbook<'s> {
     history: &'s [Record],
     begins: &'s [PreviewedBegin],
     /// When the entries expired whose lack flushes found.
-    expiries: HashMap<FlushKey, u64>,
+    expiries: HashMap<FlushKey, u64, Seed>,
+    seed: Seed,
 }
 
 impl<'s> Model for Logbook<'s> {
@@ -52,20 +54,24 @@ impl<'s> Model for Logbook<'s> {
 impl<'s> Logbook<'s> {
     /// Returns the logbook of this configuration, this history and the previews of its begins. Its expired entries are those of logged
     /// successes and of loaded rows. Cost: the history.
+    ///
+    /// The hashes of all texts on the rehearsal start from the seed: whoever writes labels and knows it can make them collide.
     pub fn new(
         alloc: Global,
+        seed: Seed,
         config: &'s Config,
         history: &'s [Record],
         begins: &'s [PreviewedBegin],
     ) -> Result<Logbook<'s>, AllocError>
         ensures { IfOk result (λ log. log ≡ record { config = config.now; history = history.now; begins = begins.now }) }
     {
-        let expiries = expired_entries(alloc, config, history)?;
+        let expiries = expired_entries(alloc, seed, config, history)?;
         Ok(Logbook {
             config,
             history,
             begins,
             expiries,
+            seed,
         })
     }
 
@@ -85,6 +91,11 @@ impl<'s> Logbook<'s> {
         ensures { result.now ≡ self.now.begins }
     {
         self.begins
+    }
+
+    /// Returns the seed from which hashes start.
+    pub fn seed(&self) -> Seed {
+        self.seed
     }
 
     /// Returns when the log entry of an integration expired whose lack the flush that began at a place found, in milliseconds,

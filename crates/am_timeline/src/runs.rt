@@ -1,20 +1,19 @@
 //! Runs: flushes of one group that follow each other, send nothing and have the same lines. `short_timeline` prints one
 //! line for all of them.
 //!
-//! Begins are looked at from the last one back. A table has the next flush of each group, so that the lines of no more than one
-//! flush of each group are in memory. Cost: the lines of each begin whose preview isn't like the next one of its group.
-ghost use Rattle.std.specs.Prelude.{◌≡◌, ◌+◌, ◌<◌, ◌&&◌, ◌==◌, [], true, IfOk, IfSome, IsTrue, OnOk, Some, if◌then◌else◌};
-ghost use Rattle.std.specs.Prelude.{length, map, reverse, string_bytes};
+//! Begins are looked at once, from the first one on. A table has the last flush of each group so far, so that the lines of no more
+//! than one flush of each group are in memory. Cost: the lines of each begin whose preview isn't like the last one of its group.
+ghost use Rattle.std.specs.Prelude.{◌≡◌, ◌+◌, ◌<◌, ◌&&◌, ◌++◌, ◌∷◌, [], IfOk, IfSome, IsTrue, OnOk, Some, if◌then◌else◌};
+ghost use Rattle.std.specs.Prelude.{length, string_bytes};
 ghost use Rattle.std.specs.HashMap.{get};
-ghost use Rattle.std.specs.List.{list_all};
-ghost use Rattle.std.specs.Option.{option_map_or};
+ghost use Rattle.std.specs.List.{All, list_all};
 ghost use Rattle.am_model.specs.Notice.{is_nothing};
 ghost use Rattle.am_model.specs.State.{same_name};
 ghost use Rattle.am_model.specs.declared.group.GroupName as named;
 ghost use Rattle.am_timeline.specs.Changed.{begins_compared};
-ghost use Rattle.am_timeline.specs.Runs.{HasLines, IsComparedAs, are_same_lines, begins_folded, flush_by, flushes_by, folds_in, folds_of, group_of};
-ghost use Rattle.am_timeline.specs.Runs.{kept_next, kept_of, lines_by, quiet_text, run_by, runs_of, sends_nothing, start_frame};
-ghost use Rattle.am_timeline.specs.Runs.{with_runs};
+ghost use Rattle.am_timeline.specs.Runs.{HasLines, IsComparedAs, are_same_lines, begins_folded, first_runs, flushes_by, folds_of, grown};
+ghost use Rattle.am_timeline.specs.Runs.{kept_of, kept_run, lines_by, quiet_text, runs_with, sends_nothing, single, start_frame};
+ghost use Rattle.am_timeline.specs.Runs.{starts_with};
 ghost use Rattle.am_terms.specs.TimeFormatData.{TimeFormatData};
 ghost use Rattle.am_timeline.specs.Timeline.{begun_lines};
 
@@ -26,6 +25,7 @@ use crate::playback::{Playback, notices_at};
 use am_model::group::GroupName;
 use am_model::notice::Notice;
 use am_model::record::Record;
+use am_seed::Seed;
 use am_terms::clock::TimeFormat;
 use am_terms::event::PreviewedBegin;
 use std::alloc::{AllocError, Global};
@@ -39,56 +39,53 @@ pub(crate) struct Run {
     pub(crate) until: u64,
 }
 
-/// What becomes of a flush.
-#[derive(Clone, Copy)]
-pub(crate) struct Fold {
-    /// Whether it begins its run.
-    pub(crate) is_first: bool,
-    /// The run, from this flush on.
-    pub(crate) run: Run,
+/// Runs, and the places of their first flushes among the begins.
+#[derive(Drop)]
+struct Runs {
+    starts: Vec<usize>,
+    runs: Vec<Run>,
 }
 
-/// Of the next flush of a group its place among the begins, the lines by which it is compared, and its run.
+/// Of the last flush of a group so far its place among the begins, the lines by which it is compared, and the number of its run.
 #[derive(Drop)]
-struct Next {
+struct Last {
     place: usize,
     lines: String,
-    run: Run,
+    run: usize,
 }
 
-impl Model for Next {
+impl Model for Last {
     ghost use Rattle.std.specs.Prelude.{ℕ, List, string_bytes};
-    ghost use Rattle.am_timeline.specs.declared.runs.Run as runs;
 
-    ghost Value = { ℕ × (List ℕ × runs.Run) };
+    ghost Value = { ℕ × (List ℕ × ℕ) };
 
-    ghost view = { λ n. (n.place, (string_bytes n.lines, n.run)) };
+    ghost view = { λ l. (l.place, (string_bytes l.lines, l.run)) };
 }
 
-/// Returns what becomes of each begin.
+/// Returns the runs of the begins.
 pub(crate) fn begins_folded<C: TimeFormat>(
     alloc: Global,
     playback: &Playback,
     clock: &C,
 ) -> Result<Folds, AllocError>
-    ensures { IfOk result (λ folds. folds ≡ begins_folded playback.now (C.times clock.now)) }
+    ensures { IfOk result (λ folds. folds ≡ first_runs (begins_folded playback.now (C.times clock.now))) }
 {
     folded(alloc, playback, clock, false)
 }
 
-/// Returns what becomes of each begin, whatever it sends: it begins its run if it has other lines than the flush before of its
+/// Returns the runs of the begins, whatever they send: a begin begins a run if it has other lines than the flush before of its
 /// group.
 pub(crate) fn begins_compared<C: TimeFormat>(
     alloc: Global,
     playback: &Playback,
     clock: &C,
 ) -> Result<Folds, AllocError>
-    ensures { IfOk result (λ folds. folds ≡ begins_compared playback.now (C.times clock.now)) }
+    ensures { IfOk result (λ folds. folds ≡ first_runs (begins_compared playback.now (C.times clock.now))) }
 {
     folded(alloc, playback, clock, true)
 }
 
-/// Returns what becomes of each begin, by the lines that it has; of one that sends something, only if `all` have lines.
+/// Returns the runs of the begins, by the lines that they have; those that send something have some only if `all` do.
 fn folded<C: TimeFormat>(
     alloc: Global,
     playback: &Playback,
@@ -96,43 +93,16 @@ fn folded<C: TimeFormat>(
     all: bool,
 ) -> Result<Folds, AllocError>
     ensures { IfOk result (λ folds. folds
-        ≡ folds_of [] (flushes_by all playback.now (C.times clock.now))) }
-{
-    let runs = runs_of(alloc, playback, clock, all)?;
-    let firsts = firsts_of(alloc, playback.begins(), runs.as_slice())?;
-    Ok(Folds::new(firsts, runs))
-}
-
-/// Returns the run of each begin.
-fn runs_of<C: TimeFormat>(
-    alloc: Global,
-    playback: &Playback,
-    clock: &C,
-    all: bool,
-) -> Result<Vec<Run>, AllocError>
-    ensures { IfOk result (λ runs. runs.items
-        ≡ runs_of (flushes_by all playback.now (C.times clock.now))) }
-{
-    let mut runs = last_first(alloc, playback, clock, all)?;
-    runs.reverse();
-    Ok(runs)
-}
-
-/// Returns the run of each begin, that of the last one first.
-fn last_first<C: TimeFormat>(
-    alloc: Global,
-    playback: &Playback,
-    clock: &C,
-    all: bool,
-) -> Result<Vec<Run>, AllocError>
-    ensures { IfOk result (λ runs. runs.items
-        ≡ reverse (runs_of (flushes_by all playback.now (C.times clock.now)))) }
+        ≡ first_runs (folds_of [] (flushes_by all playback.now (C.times clock.now)))) }
 {
     let begins = playback.begins();
-    let mut table = HashMap::new(alloc);
-    let mut runs = Vec::new(alloc);
-    for place in (0..begins.len()).rev() {
-        let run = add(
+    let mut table = HashMap::with_hasher(alloc, playback.logbook().seed());
+    let mut found = Runs {
+        starts: Vec::new(alloc),
+        runs: Vec::new(alloc),
+    };
+    for place in 0..begins.len() {
+        add(
             alloc,
             playback,
             clock,
@@ -140,13 +110,14 @@ fn last_first<C: TimeFormat>(
             place,
             &begins[place],
             &mut table,
+            &mut found,
         )?;
-        runs.push(run)?;
     }
-    Ok(runs)
+    let Runs { starts, runs } = found;
+    Ok(Folds::new(starts, runs))
 }
 
-/// Adds the begin at a place to a table of the next flush of each group, and returns its run.
+/// Adds the begin at a place to a table of the last flush of each group, and to the runs so far.
 fn add<C: TimeFormat>(
     alloc: Global,
     playback: &Playback,
@@ -154,75 +125,139 @@ fn add<C: TimeFormat>(
     all: bool,
     place: usize,
     begin: &PreviewedBegin,
-    table: &mut HashMap<GroupName, Next>,
-) -> Result<Run, AllocError>
-    requires fits { option_map_or (λ n. n.1.count) (kept_next (get same_name table.old begin.now.preview.group)) 0
-        < length playback.now.begins }
+    table: &mut HashMap<GroupName, Last, Seed>,
+    found: &mut Runs,
+) -> Result<(), AllocError>
+    requires fits { All (λ r. r.count < length playback.now.begins) found.old.runs.items }
+    requires inside { IfSome (get same_name table.old begin.now.preview.group) (λ l. l.1.1 < length found.old.runs.items) }
     requires lines { IfSome (get same_name table.old begin.now.preview.group) (HasLines all playback.now (C.times clock.now)) }
-    ensures run { IfOk result (λ run. run ≡ (kept_of place (flush_by all playback.now (C.times clock.now) begin.now)
-        (kept_next (get same_name table.old begin.now.preview.group))).1.1) }
     ensures table { OnOk result ((name : named.GroupName) → get same_name table.new name
         ≡ (if same_name begin.now.preview.group name
-        then Some (kept_of place (flush_by all playback.now (C.times clock.now) begin.now)
-        (kept_next (get same_name table.old begin.now.preview.group)))
+        then Some (kept_of place (lines_by all playback.now (C.times clock.now) begin.now) (length found.old.runs.items)
+        (kept_run (get same_name table.old begin.now.preview.group)))
         else get same_name table.old name)) }
+    ensures runs { OnOk result (found.new.runs.items ≡ runs_with begin.now.preview.moment
+        (lines_by all playback.now (C.times clock.now) begin.now) (kept_run (get same_name table.old begin.now.preview.group))
+        found.old.runs.items) }
+    ensures starts { OnOk result (found.new.starts.items ≡ starts_with place
+        (lines_by all playback.now (C.times clock.now) begin.now) (kept_run (get same_name table.old begin.now.preview.group))
+        found.old.starts.items) }
 {
     match table.get_mut(begin.preview.group()) {
-        Some(next) => put_before(alloc, playback, clock, all, place, begin, next),
+        Some(last) => add_after(alloc, playback, clock, all, place, begin, last, found),
         None => {
             let lines = lines_by(alloc, playback, clock, all, begin)?;
-            let run = alone(begin.preview.moment());
+            let run = found.runs.len();
             insert(
                 alloc,
                 begin.preview.group(),
-                Next { place, lines, run },
+                Last { place, lines, run },
                 table,
             )?;
-            Ok(run)
+            push(place, begin.preview.moment(), found)
         }
     }
 }
 
-/// Puts the begin at a place in the place of the next flush of its group, and returns its run.
-///
-/// Its lines are made only where the previews don't tell that they are those of the next flush.
-fn put_before<C: TimeFormat>(
+/// Puts the begin at a place in the place of the last flush of its group, and adds it to the runs so far.
+fn add_after<C: TimeFormat>(
     alloc: Global,
     playback: &Playback,
     clock: &C,
     all: bool,
     place: usize,
     begin: &PreviewedBegin,
-    next: &mut Next,
-) -> Result<Run, AllocError>
-    requires fits { next.old.1.1.count < length playback.now.begins }
-    requires lines { HasLines all playback.now (C.times clock.now) next.old }
-    ensures run { IfOk result (λ run. run
-        ≡ (kept_of place (flush_by all playback.now (C.times clock.now) begin.now) (Some next.old.1)).1.1) }
-    ensures next { OnOk result (next.new
-        ≡ kept_of place (flush_by all playback.now (C.times clock.now) begin.now) (Some next.old.1)) }
+    last: &mut Last,
+    found: &mut Runs,
+) -> Result<(), AllocError>
+    requires fits { All (λ r. r.count < length playback.now.begins) found.old.runs.items }
+    requires inside { last.old.1.1 < length found.old.runs.items }
+    requires lines { HasLines all playback.now (C.times clock.now) last.old }
+    ensures last { OnOk result (last.new ≡ kept_of place (lines_by all playback.now (C.times clock.now) begin.now)
+        (length found.old.runs.items) (Some last.old.1)) }
+    ensures runs { OnOk result (found.new.runs.items ≡ runs_with begin.now.preview.moment
+        (lines_by all playback.now (C.times clock.now) begin.now) (Some last.old.1) found.old.runs.items) }
+    ensures starts { OnOk result (found.new.starts.items ≡ starts_with place
+        (lines_by all playback.now (C.times clock.now) begin.now) (Some last.old.1) found.old.starts.items) }
 {
     let moment = begin.preview.moment();
-    let limit = playback.begins.len();
-    if is_compared_as(playback, all, begin, next.place) {
-        return Ok(keep(place, moment, limit, next));
+    if follow(alloc, playback, clock, all, place, begin, last)? {
+        grow(last.run, moment, playback.begins.len(), found);
+        return Ok(());
     }
-    let lines = lines_by(alloc, playback, clock, all, begin)?;
-    let run = run_by(moment, lines.as_str(), limit, next);
-    *next = Next { place, lines, run };
-    Ok(run)
+    last.run = found.runs.len();
+    push(place, moment, found)
 }
 
-/// Puts a flush with the same lines in the place of the next one of its group, and returns its run.
-fn keep(place: usize, moment: u64, limit: usize, next: &mut Next) -> Run
-    requires { next.old.1.1.count < limit }
-    ensures run { result ≡ run_by moment next.old.1.0 (Some next.old.1) }
-    ensures next { next.new ≡ (place, (next.old.1.0, run_by moment next.old.1.0 (Some next.old.1))) }
+/// Puts the begin at a place in the place of the last flush of its group, as if it were in that one's run, and returns whether it is.
+///
+/// Its lines are made only where the previews don't tell that they are those of the last flush.
+fn follow<C: TimeFormat>(
+    alloc: Global,
+    playback: &Playback,
+    clock: &C,
+    all: bool,
+    place: usize,
+    begin: &PreviewedBegin,
+    last: &mut Last,
+) -> Result<bool, AllocError>
+    requires { HasLines all playback.now (C.times clock.now) last.old }
+    ensures like { IfOk result (λ like. like
+        ≡ are_same_lines last.old.1.0 (lines_by all playback.now (C.times clock.now) begin.now)) }
+    ensures last { OnOk result (last.new ≡ (place, (lines_by all playback.now (C.times clock.now) begin.now, last.old.1.1))) }
 {
-    let run = run_if(has_lines(next), moment, limit, next.run);
-    next.place = place;
-    next.run = run;
-    run
+    if is_compared_as(playback, all, begin, last.place) {
+        return Ok(follow_alike(place, last));
+    }
+    let lines = lines_by(alloc, playback, clock, all, begin)?;
+    let like = are_same_lines(last.lines.as_str(), lines.as_str());
+    let run = last.run;
+    *last = Last { place, lines, run };
+    Ok(like)
+}
+
+/// The same of a begin with the last flush's lines.
+fn follow_alike(place: usize, last: &mut Last) -> bool
+    ensures like { result ≡ are_same_lines last.old.1.0 last.old.1.0 }
+    ensures last { last.new ≡ (place, last.old.1) }
+{
+    last.place = place;
+    last.lines.len() != 0
+}
+
+/// Begins a run with the flush at a place, which began at this moment.
+fn push(place: usize, moment: u64, found: &mut Runs) -> Result<(), AllocError>
+    ensures runs { OnOk result (found.new.runs.items ≡ found.old.runs.items ++ single moment ∷ []) }
+    ensures starts { OnOk result (found.new.starts.items ≡ found.old.starts.items ++ place ∷ []) }
+{
+    found.starts.push(place)?;
+    found.runs.push(Run {
+        count: 1,
+        until: moment,
+    })?;
+    Ok(())
+}
+
+/// Adds a flush, which began at this moment, to the run of a number. There are at most `limit` flushes in all.
+fn grow(number: usize, moment: u64, limit: usize, found: &mut Runs)
+    requires inside { number < length found.old.runs.items }
+    requires fits { All (λ r. r.count < limit) found.old.runs.items }
+    ensures runs { found.new.runs.items ≡ grown number moment found.old.runs.items }
+    ensures starts { found.new.starts.items ≡ found.old.starts.items }
+{
+    let count = found.runs[number].count;
+    found.runs[number] = one_more(count, moment, limit);
+}
+
+/// Returns a run of one flush more than so many, the last of which began at this moment.
+fn one_more(count: usize, moment: u64, limit: usize) -> Run
+    requires { count < limit }
+    ensures { result ≡ record { count = count + 1; until = moment } }
+{
+    Run {
+        count: count + 1,
+        until: moment,
+    }
 }
 
 /// Returns whether the begin at a place is compared by the same lines as this one, as far as their previews tell.
@@ -313,53 +348,6 @@ fn sends_nothing(notices: &[Notice]) -> bool
     notices.iter().all(|notice| notice.nothing())
 }
 
-/// Returns the run of a flush that no flush of its group follows.
-fn alone(moment: u64) -> Run
-    ensures { result ≡ record { count = 1; until = moment } }
-{
-    Run {
-        count: 1,
-        until: moment,
-    }
-}
-
-/// Returns the run of a flush at a time, in milliseconds, with these lines, by the next one of its group. There are at most
-/// `limit` flushes in all.
-fn run_by(moment: u64, lines: &str, limit: usize, next: &Next) -> Run
-    requires { next.now.1.1.count < limit }
-    ensures { result ≡ run_by moment lines.now (Some next.now.1) }
-{
-    run_if(
-        are_same_lines(lines, next.lines.as_str()),
-        moment,
-        limit,
-        next.run,
-    )
-}
-
-/// Returns the run of a flush at a time, in milliseconds, that is like the next one of its group or not, by that one's run.
-fn run_if(is_like: bool, moment: u64, limit: usize, next: Run) -> Run
-    requires { next.count < limit }
-    ensures { result ≡ (if is_like then record { count = next.count + 1; until = next.until }
-        else record { count = 1; until = moment }) }
-{
-    if is_like {
-        Run {
-            count: next.count + 1,
-            until: next.until,
-        }
-    } else {
-        alone(moment)
-    }
-}
-
-/// Returns whether there are lines. They are then the same as themselves.
-fn has_lines(next: &Next) -> bool
-    ensures { result ≡ are_same_lines next.now.1.0 next.now.1.0 }
-{
-    next.lines.len() != 0
-}
-
 /// Returns whether there are lines, and those are the same.
 fn are_same_lines(some: &str, others: &str) -> bool
     ensures { result ≡ are_same_lines some.now others.now }
@@ -367,61 +355,16 @@ fn are_same_lines(some: &str, others: &str) -> bool
     some.len() != 0 && some == others
 }
 
-/// Returns whether each of these begins, which have these runs, begins its run: if the one before it in its group has a run of
-/// one.
-fn firsts_of(
-    alloc: Global,
-    begins: &[PreviewedBegin],
-    runs: &[Run],
-) -> Result<Vec<bool>, AllocError>
-    requires { length begins.now ≡ length runs.now }
-    ensures { IfOk result (λ firsts. folds_in firsts.items runs.now ≡ with_runs [] (map group_of begins.now) runs.now) }
-{
-    let mut last = HashMap::new(alloc);
-    let mut firsts = Vec::new(alloc);
-    for place in 0..begins.len() {
-        let group = begins[place].preview.group();
-        let is_first = put_last(alloc, group, runs[place], &mut last)?;
-        firsts.push(is_first)?;
-    }
-    Ok(firsts)
-}
-
-/// Puts the run of a group's last flush into a table of those of all groups, and returns whether the flush begins its run: none
-/// is before it in its group, or the one before it has a run of one.
-fn put_last(
+/// Puts the last flush of a group into a table, under a copy of the group's name.
+fn insert(
     alloc: Global,
     group: &GroupName,
-    run: Run,
-    last: &mut HashMap<GroupName, Run>,
-) -> Result<bool, AllocError>
-    ensures first { IfOk result (λ first. first ≡ option_map_or (λ r. r.count == 1) (get same_name last.old group.now) true) }
-    ensures last { OnOk result ((name : named.GroupName) → get same_name last.new name
-        ≡ (if same_name group.now name then Some run else get same_name last.old name)) }
-{
-    match last.get_mut(group) {
-        Some(before) => {
-            let is_first = before.count == 1;
-            *before = run;
-            Ok(is_first)
-        }
-        None => {
-            insert(alloc, group, run, last)?;
-            Ok(true)
-        }
-    }
-}
-
-/// Puts what a group has into a table, under a copy of its name.
-fn insert<V: Drop>(
-    alloc: Global,
-    group: &GroupName,
-    value: V,
-    table: &mut HashMap<GroupName, V>,
+    last: Last,
+    table: &mut HashMap<GroupName, Last, Seed>,
 ) -> Result<(), AllocError>
     ensures { OnOk result ((name : named.GroupName) → get same_name table.new name
-        ≡ (if same_name group.now name then Some value else get same_name table.old name)) }
+        ≡ (if same_name group.now name then Some last else get same_name table.old name)) }
 {
-    table.insert(group.copy(alloc)?, value)?;
+    table.insert(group.copy(alloc)?, last)?;
     Ok(())
 }

@@ -57,7 +57,7 @@ pub fn sent_of<'s>(playback: &Playback<'s>, event: &Event) -> Option<Sent<'s>>
         Event::Begun { begin: _ } => None,
         Event::Sent { begin, report } => match playback.begins.get(*begin as usize) {
             None => None,
-            Some(begin) => sent_by(playback.history, *report.report(), begin),
+            Some(begin) => sent_by(playback.history, *report.get(), begin),
         },
     }
 }

@@ -1,14 +1,15 @@
 //! The short timeline: a line for each event of a rehearsal, but one for a run of like flushes. `am_rehearse` prints it.
-ghost use Rattle.std.specs.Prelude.{◌≡◌, ◌++◌, IfOk, OnOk, codes, string_bytes};
+ghost use Rattle.std.specs.Prelude.{◌≡◌, ◌++◌, [], IfOk, OnOk, codes, slice_get, string_bytes};
 ghost use Rattle.std.specs.List.{flat_map};
-ghost use Rattle.am_timeline.specs.Runs.{begins_folded, count_text, folded_begun, folded_event_lines, folded_lines, run_text};
+ghost use Rattle.std.specs.Option.{option_map_or};
+ghost use Rattle.am_timeline.specs.Runs.{begins_folded, count_text, event_lines_by_runs, lines_by_runs, run_lines, run_text};
 ghost use Rattle.am_timeline.specs.Runs.{short_timeline_text, until_text};
 
 use crate::begun::push_begun;
 use crate::fold_list::Folds;
 use crate::frame::Frame;
 use crate::playback::Playback;
-use crate::runs::{Fold, Run, begins_folded};
+use crate::runs::{Run, begins_folded};
 use crate::timeline::push_sent_by;
 use am_terms::clock::{TimeFormat, push_number};
 use am_terms::event::{Event, PreviewedBegin};
@@ -18,7 +19,7 @@ use std::alloc::{AllocError, Global};
 ///
 /// A run is flushes of one group that follow each other, send nothing and have the same lines. Its lines have the time of
 /// its first flush, and at their end how many flushes it has, and the time of its last one. Cost: that of the timeline, and
-/// the lines of each begin whose preview isn't like the next one of its group.
+/// the lines of each begin whose preview isn't like the last one of its group.
 pub fn short_timeline_text<C: TimeFormat>(
     alloc: Global,
     playback: &Playback,
@@ -30,7 +31,7 @@ pub fn short_timeline_text<C: TimeFormat>(
     folded_text(alloc, playback, clock, &folds)
 }
 
-/// Returns the lines on all events, with what becomes of each begin.
+/// Returns the lines on all events, with these runs.
 fn folded_text<C: TimeFormat>(
     alloc: Global,
     playback: &Playback,
@@ -38,7 +39,7 @@ fn folded_text<C: TimeFormat>(
     folds: &Folds,
 ) -> Result<String, AllocError>
     ensures { IfOk result (λ text. string_bytes text
-        ≡ flat_map (folded_event_lines playback.now (C.times clock.now) folds.now) playback.now.events) }
+        ≡ flat_map (event_lines_by_runs playback.now (C.times clock.now) folds.now) playback.now.events) }
 {
     let mut out = String::new(alloc);
     for event in playback.events {
@@ -47,7 +48,7 @@ fn folded_text<C: TimeFormat>(
     Ok(out)
 }
 
-/// Adds the lines on an event, with what becomes of each begin.
+/// Adds the lines on an event, with these runs.
 fn push_folded_event<C: TimeFormat>(
     alloc: Global,
     playback: &Playback,
@@ -57,7 +58,7 @@ fn push_folded_event<C: TimeFormat>(
     out: &mut String,
 ) -> Result<(), AllocError>
     ensures { OnOk result (string_bytes out.new
-        ≡ string_bytes out.old ++ folded_event_lines playback.now (C.times clock.now) folds.now event.now) }
+        ≡ string_bytes out.old ++ event_lines_by_runs playback.now (C.times clock.now) folds.now event.now) }
 {
     match event {
         Event::Begun { begin } => {
@@ -67,7 +68,7 @@ fn push_folded_event<C: TimeFormat>(
     }
 }
 
-/// Adds the lines on the begin at a position, with what becomes of each begin.
+/// Adds the lines on the begin at a position, with these runs.
 fn push_folded_begun<C: TimeFormat>(
     alloc: Global,
     playback: &Playback,
@@ -76,34 +77,31 @@ fn push_folded_begun<C: TimeFormat>(
     position: usize,
     out: &mut String,
 ) -> Result<(), AllocError>
-    ensures { OnOk result (string_bytes out.new
-        ≡ string_bytes out.old ++ folded_begun playback.now (C.times clock.now) folds.now position) }
+    ensures { OnOk result (string_bytes out.new ≡ string_bytes out.old
+        ++ option_map_or (lines_by_runs playback.now (C.times clock.now) folds.now position) (slice_get playback.now.begins position) []) }
 {
     match playback.begins.get(position) {
         None => Ok(()),
-        Some(begin) => match folds.get(position) {
+        Some(begin) => match folds.run_at(position) {
             None => Ok(()),
-            Some(fold) => push_folded(alloc, playback, clock, begin, &fold, out),
+            Some(run) => push_run_lines(alloc, playback, clock, begin, &run, out),
         },
     }
 }
 
-/// Adds the lines of a begin's run, if it begins it.
-fn push_folded<C: TimeFormat>(
+/// Adds the lines of the run that a begin begins.
+fn push_run_lines<C: TimeFormat>(
     alloc: Global,
     playback: &Playback,
     clock: &C,
     begin: &PreviewedBegin,
-    fold: &Fold,
+    run: &Run,
     out: &mut String,
 ) -> Result<(), AllocError>
     ensures { OnOk result (string_bytes out.new
-        ≡ string_bytes out.old ++ folded_lines playback.now (C.times clock.now) begin.now fold.now) }
+        ≡ string_bytes out.old ++ run_lines playback.now (C.times clock.now) begin.now run.now) }
 {
-    if !fold.is_first {
-        return Ok(());
-    }
-    let ending = ending_of(alloc, clock, &fold.run)?;
+    let ending = ending_of(alloc, clock, run)?;
     let frame = Frame {
         moment: begin.preview.moment(),
         ending: ending.as_str(),

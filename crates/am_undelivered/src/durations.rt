@@ -12,6 +12,7 @@ use am_alerts::labels::Labels;
 use am_alerts::limits::MAX_MOMENT;
 use am_ghost::GhostList;
 use am_model::record::{Call, Record};
+use am_seed::Seed;
 use std::alloc::{AllocError, Global};
 use std::collections::HashMap;
 use std::marker::Model;
@@ -20,7 +21,7 @@ use std::marker::Model;
 #[derive(Drop)]
 pub(crate) struct Durations {
     alloc: Global,
-    totals: HashMap<Labels, u64>,
+    totals: HashMap<Labels, u64, Seed>,
     added: GhostList<Alert>,
 }
 
@@ -41,12 +42,12 @@ impl Model for Durations {
 
 impl Durations {
     /// Of no inserts.
-    pub(crate) fn new(alloc: Global) -> Durations
+    pub(crate) fn new(alloc: Global, seed: Seed) -> Durations
         ensures { result ≡ [] }
     {
         Durations {
             alloc,
-            totals: HashMap::new(alloc),
+            totals: HashMap::with_hasher(alloc, seed),
             added: GhostList::new(),
         }
     }

@@ -39,11 +39,12 @@ impl Findings {
     pub(crate) fn of(alloc: Global, playback: &Playback) -> Result<Findings, AllocError>
         ensures { IfOk result (λ found. found ≡ findings_of playback.now) }
     {
-        let sent = sent_sets(alloc, playback.history())?;
-        let muted = MutedAlerts::of(alloc, playback.begins())?;
-        let mut begins = RouteMutes::new(alloc);
+        let seed = playback.logbook().seed();
+        let sent = sent_sets(alloc, seed, playback.history())?;
+        let muted = MutedAlerts::of(alloc, seed, playback.begins())?;
+        let mut begins = RouteMutes::new(alloc, seed);
         begins.add_all(playback.begins())?;
-        let mut inserted = Durations::new(alloc);
+        let mut inserted = Durations::new(alloc, seed);
         inserted.add_all(playback.history())?;
         Ok(Findings {
             sent,

@@ -8,22 +8,27 @@ ghost use Rattle.am_undelivered.specs.Undelivered.{with_first};
 use crate::label_sets::LabelSets;
 use am_alerts::alert::Alert;
 use am_model::record::{Call, Record};
+use am_seed::Seed;
 use std::alloc::{AllocError, Global};
 
 /// Returns the alerts of a history, the one that was inserted last at the end.
-pub(crate) fn known_alerts(alloc: Global, history: &[Record]) -> Result<Vec<Alert>, AllocError>
+pub(crate) fn known_alerts(
+    alloc: Global,
+    seed: Seed,
+    history: &[Record],
+) -> Result<Vec<Alert>, AllocError>
     ensures { IfOk result (λ alerts. alerts.items ≡ reverse (known_in (past_of history.now))) }
 {
-    let mut alerts = latest_alerts(alloc, history)?;
+    let mut alerts = latest_alerts(alloc, seed, history)?;
     alerts.reverse();
     Ok(alerts)
 }
 
 /// The alerts of a history, the one that was inserted last first.
-fn latest_alerts(alloc: Global, history: &[Record]) -> Result<Vec<Alert>, AllocError>
+fn latest_alerts(alloc: Global, seed: Seed, history: &[Record]) -> Result<Vec<Alert>, AllocError>
     ensures { IfOk result (λ alerts. alerts.items ≡ known_in (past_of history.now)) }
 {
-    let mut seen = LabelSets::new(alloc);
+    let mut seen = LabelSets::new(alloc, seed);
     let mut alerts = Vec::new(alloc);
     for place in (0..history.len()).rev() {
         add_first(alloc, &history[place].call, &mut seen, &mut alerts)?;

@@ -8,6 +8,7 @@ ghost use Rattle.am_undelivered.specs.Undelivered.{is_among};
 use am_alerts::alert::Alert;
 use am_alerts::labels::Labels;
 use am_ghost::GhostList;
+use am_seed::Seed;
 use std::alloc::{AllocError, Global};
 use std::collections::HashSet;
 use std::marker::Model;
@@ -16,7 +17,7 @@ use std::marker::Model;
 #[derive(Drop)]
 pub(crate) struct LabelSets {
     alloc: Global,
-    sets: HashSet<Labels>,
+    sets: HashSet<Labels, Seed>,
     added: GhostList<Labels>,
 }
 
@@ -36,12 +37,12 @@ impl Model for LabelSets {
 
 impl LabelSets {
     /// Of none.
-    pub(crate) fn new(alloc: Global) -> LabelSets
+    pub(crate) fn new(alloc: Global, seed: Seed) -> LabelSets
         ensures { result ≡ [] }
     {
         LabelSets {
             alloc,
-            sets: HashSet::new(alloc),
+            sets: HashSet::with_hasher(alloc, seed),
             added: GhostList::new(),
         }
     }

@@ -12,6 +12,7 @@ use am_alerts::labels::Labels;
 use am_ghost::GhostList;
 use am_model::preview::MutedAlert;
 use am_mute::mute::MuteCause;
+use am_seed::Seed;
 use am_terms::event::PreviewedBegin;
 use std::alloc::{AllocError, Global};
 use std::collections::HashMap;
@@ -28,7 +29,7 @@ pub struct Mute {
 /// When alerts were muted last, and why.
 #[derive(Drop)]
 pub(crate) struct MutedAlerts {
-    mutes: HashMap<Labels, Mute>,
+    mutes: HashMap<Labels, Mute, Seed>,
     begins: GhostList<PreviewedBegin>,
 }
 
@@ -49,10 +50,14 @@ impl Model for MutedAlerts {
 
 impl MutedAlerts {
     /// Returns when alerts were muted last in these begins.
-    pub(crate) fn of(alloc: Global, begins: &[PreviewedBegin]) -> Result<MutedAlerts, AllocError>
+    pub(crate) fn of(
+        alloc: Global,
+        seed: Seed,
+        begins: &[PreviewedBegin],
+    ) -> Result<MutedAlerts, AllocError>
         ensures { IfOk result (λ muted. muted ≡ begins.now) }
     {
-        let mut mutes = HashMap::new(alloc);
+        let mut mutes = HashMap::with_hasher(alloc, seed);
         let mut added = GhostList::new();
         for begin in begins {
             let muted = begin.preview.muted();
@@ -78,7 +83,7 @@ fn add_mutes(
     alloc: Global,
     begun: u64,
     muted: &[MutedAlert],
-    mutes: &mut HashMap<Labels, Mute>,
+    mutes: &mut HashMap<Labels, Mute, Seed>,
 ) -> Result<(), AllocError>
     ensures { OnOk result ((labels : List Label) → get same_label_set mutes.new labels
         ≡ option_or (mute_in labels begun muted.now) (get same_label_set mutes.old labels)) }
@@ -94,7 +99,7 @@ fn add_mute(
     alloc: Global,
     begun: u64,
     alert: &MutedAlert,
-    mutes: &mut HashMap<Labels, Mute>,
+    mutes: &mut HashMap<Labels, Mute, Seed>,
 ) -> Result<(), AllocError>
     ensures { OnOk result ((labels : List Label) → get same_label_set mutes.new labels
         ≡ (if same_label_set alert.now.labels labels then Some (record { begun = begun; cause = alert.now.cause })

@@ -23,6 +23,7 @@ use am_model::config::Config;
 use am_model::group::GroupName;
 use am_model::record::Record;
 use am_mute::mute::MuteCause;
+use am_seed::Seed;
 use am_terms::clock::{TimeFormat, push_counted};
 use am_timeline::muted::push_cause;
 use am_timeline::playback::Playback;
@@ -33,12 +34,16 @@ use std::alloc::{AllocError, Global};
 ///
 /// A notice counts if the finish of its flush says that it was delivered. It has the alerts that it
 /// lists as firing and those that it lists as resolved. So does a row that was loaded and put into
-/// the log: the dispatcher before notified of its alerts.
-pub fn undelivered_alerts(alloc: Global, history: &[Record]) -> Result<Vec<Alert>, AllocError>
+/// the log: the dispatcher before notified of its alerts. Hashes start from the seed.
+pub fn undelivered_alerts(
+    alloc: Global,
+    seed: Seed,
+    history: &[Record],
+) -> Result<Vec<Alert>, AllocError>
     ensures { IfOk result (λ alerts. alerts.items ≡ undelivered_in history.now) }
 {
-    let told = told_sets(alloc, history)?;
-    let known = known_alerts(alloc, history)?;
+    let told = told_sets(alloc, seed, history)?;
+    let known = known_alerts(alloc, seed, history)?;
     without_told(alloc, &told, known.as_slice())
 }
 
@@ -65,7 +70,7 @@ pub fn undelivered_text<C: TimeFormat>(
     ensures { IfOk result (λ text. string_bytes text ≡ undelivered_text playback.now (C.times clock.now)) }
 {
     let found = Findings::of(alloc, playback)?;
-    let alerts = undelivered_alerts(alloc, playback.history())?;
+    let alerts = undelivered_alerts(alloc, playback.logbook().seed(), playback.history())?;
     let lines = lines_of(alloc, playback.config(), clock, &found, alerts.as_slice())?;
     behind_empty_line(alloc, lines)
 }

@@ -12,6 +12,7 @@ use am_ghost::GhostList;
 use am_model::config::Config;
 use am_model::group::GroupName;
 use am_model::reason::Reason;
+use am_seed::Seed;
 use am_terms::event::PreviewedBegin;
 use am_terms::shared_preview::SharedPreview;
 use std::alloc::{AllocError, Global};
@@ -31,7 +32,7 @@ pub struct RouteMute {
 #[derive(Drop)]
 pub(crate) struct RouteMutes {
     alloc: Global,
-    mutes: HashMap<GroupName, RouteMute>,
+    mutes: HashMap<GroupName, RouteMute, Seed>,
     added: GhostList<PreviewedBegin>,
 }
 
@@ -52,12 +53,12 @@ impl Model for RouteMutes {
 
 impl RouteMutes {
     /// Of no begins.
-    pub(crate) fn new(alloc: Global) -> RouteMutes
+    pub(crate) fn new(alloc: Global, seed: Seed) -> RouteMutes
         ensures { result ≡ [] }
     {
         RouteMutes {
             alloc,
-            mutes: HashMap::new(alloc),
+            mutes: HashMap::with_hasher(alloc, seed),
             added: GhostList::new(),
         }
     }

@@ -11,14 +11,19 @@ use am_model::outcome::{outcome_of, outcomes_in};
 use am_model::record::{Call, Record};
 use am_model::views::RowView;
 use am_retry::Outcome;
+use am_seed::Seed;
 use am_timeline::playback::{is_put, notices_in};
 use std::alloc::{AllocError, Global};
 
 /// Returns the label sets in the notices of a history.
-pub(crate) fn sent_sets(alloc: Global, history: &[Record]) -> Result<LabelSets, AllocError>
+pub(crate) fn sent_sets(
+    alloc: Global,
+    seed: Seed,
+    history: &[Record],
+) -> Result<LabelSets, AllocError>
     ensures { IfOk result (λ set. set ≡ sent_in history.now) }
 {
-    let mut set = LabelSets::new(alloc);
+    let mut set = LabelSets::new(alloc, seed);
     for record in history {
         add_notices(&mut set, notices_in(&record.reply))?;
     }
@@ -43,10 +48,14 @@ fn add_notice(set: &mut LabelSets, notice: &Notice) -> Result<(), AllocError>
 
 /// Returns the label sets that a receiver was notified of: those in the delivered notices of a history, and those of the rows
 /// that were loaded and put into the log. The dispatcher before notified of these.
-pub(crate) fn told_sets(alloc: Global, history: &[Record]) -> Result<LabelSets, AllocError>
+pub(crate) fn told_sets(
+    alloc: Global,
+    seed: Seed,
+    history: &[Record],
+) -> Result<LabelSets, AllocError>
     ensures { IfOk result (λ set. set ≡ told_in history.now) }
 {
-    let mut set = LabelSets::new(alloc);
+    let mut set = LabelSets::new(alloc, seed);
     for (place, record) in history.iter().enumerate() {
         add_told(&mut set, &history[place + 1..], record)?;
     }

@@ -14,6 +14,7 @@ use crate::logbook::log::{LastEntry, Log, LogKey, add_record, empty_log, next_mo
 use am_model::config::Config;
 use am_model::group::GroupName;
 use am_model::record::{Record, Reply};
+use am_seed::Seed;
 use std::alloc::{AllocError, Global};
 use std::collections::HashMap;
 
@@ -28,15 +29,16 @@ pub struct FlushKey {
 /// that had expired when the flush began.
 pub fn expired_entries(
     alloc: Global,
+    seed: Seed,
     config: &Config,
     history: &[Record],
-) -> Result<HashMap<FlushKey, u64>, AllocError>
+) -> Result<HashMap<FlushKey, u64, Seed>, AllocError>
     ensures { IfOk result (λ table. (place integration : ℕ)
         → get same_flush_key table (record { place = place; integration = integration })
         ≡ expired config.now history.now place integration) }
 {
-    let mut log = empty_log(alloc);
-    let mut table = HashMap::new(alloc);
+    let mut log = empty_log(alloc, seed);
+    let mut table = HashMap::with_hasher(alloc, seed);
     for (place, added) in history.iter().enumerate() {
         add_expired(alloc, config, &log, place, added, &mut table)?;
         add_record(alloc, added, &mut log)?;
@@ -51,7 +53,7 @@ fn add_expired(
     log: &Log<'_>,
     place: usize,
     added: &Record,
-    table: &mut HashMap<FlushKey, u64>,
+    table: &mut HashMap<FlushKey, u64, Seed>,
 ) -> Result<(), AllocError>
     ensures { OnOk result ((past : Past) → Follows log.now past → (p i : ℕ)
         → get same_flush_key table.new (record { place = p; integration = i })
@@ -83,9 +85,9 @@ fn add_each(
     config: &Config,
     group: &GroupName,
     t: u64,
-    logged: &HashMap<LogKey, LastEntry>,
+    logged: &HashMap<LogKey, LastEntry, Seed>,
     place: usize,
-    table: &mut HashMap<FlushKey, u64>,
+    table: &mut HashMap<FlushKey, u64, Seed>,
 ) -> Result<(), AllocError>
     ensures { OnOk result ((p i : ℕ) → get same_flush_key table.new (record { place = p; integration = i })
         ≡ option_or (if (place == p) && nat_lt i (count_integrations config.now group.now)
@@ -105,7 +107,7 @@ fn add_entry(
     place: usize,
     integration: usize,
     expiry: Option<u64>,
-    table: &mut HashMap<FlushKey, u64>,
+    table: &mut HashMap<FlushKey, u64, Seed>,
 ) -> Result<(), AllocError>
     ensures { OnOk result ((p i : ℕ) → get same_flush_key table.new (record { place = p; integration = i })
         ≡ option_or (if (place == p) && (integration == i) then expiry else None)
@@ -124,7 +126,7 @@ fn expiry_of(
     group: &GroupName,
     integration: usize,
     t: u64,
-    logged: &HashMap<LogKey, LastEntry>,
+    logged: &HashMap<LogKey, LastEntry, Seed>,
 ) -> Result<Option<u64>, AllocError>
     ensures { IfOk result (λ expiry. expiry
         ≡ expiry_of config.now group.now t (get same_log_key logged.now (record { group = group.now; integration = integration }))) }

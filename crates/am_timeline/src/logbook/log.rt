@@ -23,6 +23,7 @@ use am_model::outcome::outcome_of;
 use am_model::record::{Call, Record, Reply};
 use am_model::views::RowView;
 use am_retry::Outcome;
+use am_seed::Seed;
 use std::alloc::{AllocError, Global};
 use std::collections::{HashMap, HashSet};
 use std::marker::Model;
@@ -68,22 +69,22 @@ impl<'h> Model for Begun<'h> {
 #[derive(Drop)]
 pub struct Log<'h> {
     /// The last flush of each number.
-    pub begun: HashMap<u64, Begun<'h>>,
-    pub noted: HashSet<NoteKey>,
+    pub begun: HashMap<u64, Begun<'h>, Seed>,
+    pub noted: HashSet<NoteKey, Seed>,
     /// The last entry of each group and integration.
-    pub logged: HashMap<LogKey, LastEntry>,
+    pub logged: HashMap<LogKey, LastEntry, Seed>,
     /// The time of the last record, in milliseconds.
     pub clock: u64,
 }
 
 /// Of no records.
-pub fn empty_log<'h>(alloc: Global) -> Log<'h>
+pub fn empty_log<'h>(alloc: Global, seed: Seed) -> Log<'h>
     ensures { Follows result [] }
 {
     Log {
-        begun: HashMap::new(alloc),
-        noted: HashSet::new(alloc),
-        logged: HashMap::new(alloc),
+        begun: HashMap::with_hasher(alloc, seed),
+        noted: HashSet::with_hasher(alloc, seed),
+        logged: HashMap::with_hasher(alloc, seed),
         clock: 0,
     }
 }
@@ -131,7 +132,10 @@ fn now_of(call: &Call) -> u64
 }
 
 /// Adds the flush that a record begins, if it does.
-fn add_begun<'h>(added: &'h Record, begun: &mut HashMap<u64, Begun<'h>>) -> Result<(), AllocError>
+fn add_begun<'h>(
+    added: &'h Record,
+    begun: &mut HashMap<u64, Begun<'h>, Seed>,
+) -> Result<(), AllocError>
     ensures { OnOk result ((number : ℕ) → get nat_eq begun.new number
         ≡ (if is_flush number added.now.reply then Some added.now else get nat_eq begun.old number)) }
 {
@@ -142,7 +146,7 @@ fn add_begun<'h>(added: &'h Record, begun: &mut HashMap<u64, Begun<'h>>) -> Resu
 }
 
 /// Adds what a call notes, if it does.
-fn add_noted(call: &Call, noted: &mut HashSet<NoteKey>) -> Result<(), AllocError>
+fn add_noted(call: &Call, noted: &mut HashSet<NoteKey, Seed>) -> Result<(), AllocError>
     ensures { OnOk result ((number integration : ℕ)
         → contains same_note_key noted.new (record { number = number; integration = integration })
         ≡ (is_note number integration call.now
@@ -165,11 +169,11 @@ fn add_noted(call: &Call, noted: &mut HashSet<NoteKey>) -> Result<(), AllocError
 /// Adds the entries that a record gives: by the successes that its call logs, or by the row that it loads.
 fn add_logged(
     alloc: Global,
-    begun: &HashMap<u64, Begun<'_>>,
-    noted: &HashSet<NoteKey>,
+    begun: &HashMap<u64, Begun<'_>, Seed>,
+    noted: &HashSet<NoteKey, Seed>,
     added: &Record,
     moment: u64,
-    logged: &mut HashMap<LogKey, LastEntry>,
+    logged: &mut HashMap<LogKey, LastEntry, Seed>,
 ) -> Result<(), AllocError>
     ensures { OnOk result ((name : named.GroupName) (integration : ℕ)
         → get same_log_key logged.new (record { group = name; integration = integration })
@@ -213,7 +217,7 @@ fn log_load(
     alloc: Global,
     row: &RowView,
     reply: &Reply,
-    logged: &mut HashMap<LogKey, LastEntry>,
+    logged: &mut HashMap<LogKey, LastEntry, Seed>,
 ) -> Result<(), AllocError>
     ensures { OnOk result ((name : named.GroupName) (i : ℕ)
         → get same_log_key logged.new (record { group = name; integration = i })
@@ -233,7 +237,7 @@ fn log_note(
     flush: &Record,
     integration: usize,
     moment: u64,
-    logged: &mut HashMap<LogKey, LastEntry>,
+    logged: &mut HashMap<LogKey, LastEntry, Seed>,
 ) -> Result<(), AllocError>
     ensures { OnOk result ((name : named.GroupName) (i : ℕ)
         → get same_log_key logged.new (record { group = name; integration = i })
@@ -254,7 +258,7 @@ fn add_entry(
     group: &GroupName,
     integration: usize,
     entry: LastEntry,
-    logged: &mut HashMap<LogKey, LastEntry>,
+    logged: &mut HashMap<LogKey, LastEntry, Seed>,
 ) -> Result<(), AllocError>
     ensures { OnOk result ((name : named.GroupName) (i : ℕ)
         → get same_log_key logged.new (record { group = name; integration = i })
@@ -275,9 +279,9 @@ fn log_finish(
     flush: &Record,
     number: u64,
     outcomes: &[(u32, Outcome)],
-    noted: &HashSet<NoteKey>,
+    noted: &HashSet<NoteKey, Seed>,
     moment: u64,
-    logged: &mut HashMap<LogKey, LastEntry>,
+    logged: &mut HashMap<LogKey, LastEntry, Seed>,
 ) -> Result<(), AllocError>
     ensures { OnOk result ((name : named.GroupName) (i : ℕ)
         → get same_log_key logged.new (record { group = name; integration = i })
@@ -306,9 +310,9 @@ fn log_notices(
     notices: &[Notice],
     number: u64,
     outcomes: &[(u32, Outcome)],
-    noted: &HashSet<NoteKey>,
+    noted: &HashSet<NoteKey, Seed>,
     moment: u64,
-    logged: &mut HashMap<LogKey, LastEntry>,
+    logged: &mut HashMap<LogKey, LastEntry, Seed>,
 ) -> Result<(), AllocError>
     ensures { OnOk result ((name : named.GroupName) (i : ℕ)
         → get same_log_key logged.new (record { group = name; integration = i })
@@ -327,7 +331,7 @@ fn log_notices(
 
 /// Whether the integration of a notice succeeded, and that wasn't noted.
 fn is_new_success(
-    noted: &HashSet<NoteKey>,
+    noted: &HashSet<NoteKey, Seed>,
     number: u64,
     outcomes: &[(u32, Outcome)],
     notice: &Notice,

@@ -1,4 +1,4 @@
-use Rattle.std.proofs.Common.{◌≡◌, ◌∙◌, List, true, cond, ap}
+use Rattle.std.proofs.Common.{◌∙◌, List, true, cond, ap}
 use Rattle.std.specs.HashSet.{contains}
 use Rattle.am_alerts.specs.declared.labels.Label.{Label}
 use Rattle.am_model.specs.Insert.{name_in}

@@ -1,4 +1,4 @@
-use Rattle.std.proofs.Common.{◌≡◌, ◌∙◌, ◌&&◌, ap}
+use Rattle.std.proofs.Common.{◌∙◌, ◌&&◌, ap}
 use Rattle.am_alerts.specs.declared.route.Route.{Route}
 use Rattle.am_timeline.specs.Filtered.{is_named, is_of}
 use Rattle.am_timeline.specs.Playback.{PlaybackData}

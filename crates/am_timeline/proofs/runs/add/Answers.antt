@@ -1,22 +1,41 @@
-use Rattle.std.proofs.Common.{◌≡◌, ◌∙◌, ◌<◌, ℕ, List, Option, Some, ap, sym, subst, length}
+use Rattle.std.proofs.Common.{◌≡◌, ◌∙◌, ◌<◌, ℕ, List, Option, Some, ap, refl, sym, subst, length, if◌then◌else◌}
 use Rattle.std.specs.HashMap.{get}
-use Rattle.std.specs.Option.{IfSome, option_map_or}
+use Rattle.std.specs.Option.{IfSome, IsSome}
+use Rattle.std.proofs.lemmas.Result.{on_ok_weaker}
 use Rattle.am_model.specs.State.{same_name}
 use Rattle.am_model.specs.declared.group.GroupName.{GroupName}
-use Rattle.am_timeline.specs.declared.runs.Run.{Run}
-use Rattle.am_timeline.specs.Runs.{HasLines, kept_next}
+use Rattle.am_timeline.specs.Runs.{HasLines, kept_of, kept_run, lines_by}
 use Rattle.am_timeline.proofs.runs.add.Goals as goal
 
-pub put_before-requires-clause-fits : goal.put_before-requires-clause-fits
-put_before-requires-clause-fits g c =
+pub add_after-requires-clause-inside : goal.add_after-requires-clause-inside
+add_after-requires-clause-inside g c =
     let table = c.args.table.now in
-    let found : get same_name table c.args.begin.now.preview.group ≡ Some c.in-Some.next.now =
+    let found : get same_name table c.args.begin.now.preview.group ≡ Some c.in-Some.last.now =
     ap (λ (n : GroupName). get same_name table n) (sym c.group.ensures) ∙ sym c.in-Some.ensures.value in
-    subst (λ (o : Option (ℕ × (List ℕ × Run))). option_map_or (λ n. n.1.count) (kept_next o) 0 < length c.args.playback.now.begins) found c.requires.fits
+    subst (λ (o : Option (ℕ × (List ℕ × ℕ))). IfSome o (λ l. l.1.1 < length c.args.found.now.runs.items)) found c.requires.inside
 
-pub put_before-requires-clause-lines : goal.put_before-requires-clause-lines
-put_before-requires-clause-lines g c =
+pub add_after-requires-clause-lines : goal.add_after-requires-clause-lines
+add_after-requires-clause-lines g c =
     let table = c.args.table.now in
-    let found : get same_name table c.args.begin.now.preview.group ≡ Some c.in-Some.next.now =
+    let found : get same_name table c.args.begin.now.preview.group ≡ Some c.in-Some.last.now =
     ap (λ (n : GroupName). get same_name table n) (sym c.group.ensures) ∙ sym c.in-Some.ensures.value in
-    subst (λ (o : Option (ℕ × (List ℕ × Run))). IfSome o (HasLines c.args.all c.args.playback.now (g.C.TimeFormat.times c.args.clock.now))) found c.requires.lines
+    subst (λ (o : Option (ℕ × (List ℕ × ℕ))). IfSome o (HasLines c.args.all c.args.playback.now (g.C.TimeFormat.times c.args.clock.now))) found c.requires.lines
+
+pub returns-in-Some-clause-table : goal.returns-in-Some-clause-table
+returns-in-Some-clause-table g c =
+    let table = c.args.table.now in
+    let group = c.args.begin.now.preview.group in
+    let lines = lines_by c.args.all c.args.playback.now (g.C.TimeFormat.times c.args.clock.now) c.args.begin.now in
+    let size = length c.args.found.now.runs.items in
+    let new = c.add_after.new.last in
+    let found : get same_name table group ≡ Some c.in-Some.last.now =
+    ap (λ (n : GroupName). get same_name table n) (sym c.group.ensures) ∙ sym c.in-Some.ensures.value in
+    let there : IsSome (get same_name table c.group.result.now) =
+    subst (λ (o : Option (ℕ × (List ℕ × ℕ))). IsSome o) c.in-Some.ensures.value refl in
+    on_ok_weaker c.add_after.result
+    (λ is name.
+    ((c.get_mut.follows.holds new).3 there).0 name
+    ∙ ap (λ (n : GroupName). if same_name n name then Some new else get same_name table name) c.group.ensures
+    ∙ ap (λ (l : ℕ × (List ℕ × ℕ)). if same_name group name then Some l else get same_name table name) is
+    ∙ ap (λ (o : Option (ℕ × (List ℕ × ℕ))). if same_name group name then Some (kept_of c.args.place lines size (kept_run o)) else get same_name table name) (sym found))
+    c.add_after.ensures.last

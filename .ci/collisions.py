@@ -1,12 +1,11 @@
 """Labels whose hashes collide for a seed that everybody knows: that of std's FoldHasher, and `Seed::fixed` of am_seed.
 
-`lines(kind, count)` gives the lines of `am-dispatch` for `.ci/hostile`.
+`text(kind, count)` gives an input for `.ci/hostile`: lines of `am-dispatch`, a scenario of `am-run` or a story of `am-rehearse`.
 """
 import json
 import random
 
 MASK = (1 << 64) - 1
-RECEIVERS = [{"name": "team", "integrations": [{"kind": "hook"}]}]
 
 
 def word(data, at):
@@ -42,7 +41,7 @@ def sip_hash(data):
 
 
 class Known:
-    """The hasher of a seed that is known: the state before texts of so many bytes, and the second factor."""
+    """A hasher whose start is known: the state before texts of so many bytes, and the second factor."""
 
     def __init__(self, before, factor):
         self.before, self.factor = before, factor
@@ -60,9 +59,29 @@ class Known:
         return self.mixed(state, data, len(data) - 16)
 
 
-FIXED = [sip_hash(bytes(8) + bytes([place])) for place in range(2)]
-STD = Known(lambda size: (0x243F6A8885A308D3 + size) & MASK, 0x9E3779B97F4A7C15)
-OURS = Known(lambda size: turned(FIXED[0], size % 64), FIXED[1])
+def folded(one, other):
+    product = one * other
+    return (product ^ product >> 64) & MASK
+
+
+STD_START, STD_FACTOR = 0x243F6A8885A308D3, 0x9E3779B97F4A7C15
+FIXED_START, FIXED_FACTOR = [sip_hash(bytes(8) + bytes([place])) for place in range(2)]
+
+
+def std(start):
+    """std's hasher in this state."""
+    return Known(lambda size: (start + size) & MASK, STD_FACTOR)
+
+
+def fixed(start):
+    """The hasher of `Seed::fixed` in this state."""
+    return Known(lambda size: turned(start, size % 64), FIXED_FACTOR)
+
+
+# Before a label set, and behind the number of the first route, of four bytes, which comes before the labels of a group.
+STD, FIXED = std(STD_START), fixed(FIXED_START)
+STD_GROUP = std(folded(STD_START, STD_FACTOR ^ 8))
+FIXED_GROUP = fixed(folded(turned(FIXED_START, 4), FIXED_FACTOR))
 
 
 def colliding(known, head, tail, count):
@@ -87,30 +106,68 @@ def colliding(known, head, tail, count):
     return [value.decode() for value in values]
 
 
+def receivers():
+    return [{"name": "team", "integrations": [{"kind": "hook"}]}]
+
+
+def config(group_by, **more):
+    """A configuration of one route."""
+    return {"receivers": receivers(), "route": {"receiver": "team", "group_by": group_by}, **more}
+
+
+def label_sets(known, count):
+    """Label sets that collide."""
+    return [{"kind": "node", "value": value} for value in colliding(known, b"kind\0node\0value\0", b"\0", count)]
+
+
 def insert(labels):
     return {"insert": {"now": 0, "labels": labels}}
 
 
-def label_sets(known, count):
-    """Alerts of one group, whose label sets collide."""
-    yield {"config": {"receivers": RECEIVERS, "route": {"receiver": "team", "group_by": ["kind"]}}}
-    for value in colliding(known, b"kind\0node\0value\0", b"\0", count):
-        yield insert({"kind": "node", "value": value})
+def lines_of_sets(known, count):
+    """Lines of am-dispatch: alerts of one group."""
+    return [{"config": config(["kind"])}, *map(insert, label_sets(known, count))]
 
 
-def sources(known, count):
-    """Sources of a rule and a flush of targets, half of each, whose values under `equal` collide and differ."""
+def lines_of_sources(known, count):
+    """Lines of am-dispatch: sources of a rule and a flush of targets, half of each, whose values under `equal` collide and differ."""
     rule = {"source": [["kind", "=", "source"]], "target": [["kind", "=", "target"]], "equal": ["value"]}
-    yield {"config": {"receivers": RECEIVERS, "route": {"receiver": "team", "group_by": ["kind"]}, "inhibit": [rule]}}
-    for i, value in enumerate(colliding(known, b"", b"", count)):
-        yield insert({"kind": "source" if i % 2 else "target", "value": value})
-    for _ in range(2):
-        yield {"begin": {"now": 30000}}
+    values = enumerate(colliding(known, b"", b"", count))
+    alerts = [insert({"kind": "source" if i % 2 else "target", "value": value}) for i, value in values]
+    return [{"config": config(["kind"], inhibit=[rule])}, *alerts, *[{"begin": {"now": 30000}}] * 2]
 
 
-MADE = {"label sets": (label_sets, STD), "sources": (sources, STD), "label sets, fixed": (label_sets, OURS), "sources, fixed": (sources, OURS)}
+def scenario_of_sets(known, count):
+    """A scenario of am-run: alerts of one group."""
+    calls = [{"insert": {"labels": [*labels.items()], "starts": 0}} for labels in label_sets(known, count)]
+    return [{"config": config(["kind"]), "phases": [{"at": 0, "lanes": [calls]}, {"at": 30000, "flush": True}]}]
 
 
-def lines(kind, count):
-    made, known = MADE[kind]
-    return "".join(json.dumps(line) + "\n" for line in made(known, count))
+def story_of_sets(known, count):
+    """A story of am-rehearse: alerts of one group, and a new dispatcher."""
+    alerts = [{"labels": labels} for labels in label_sets(known, count)]
+    return [{"config": config(["kind"]), "until": "2m", "alerts": alerts, "restart": [{"at": "1m", "keeps": "log"}]}]
+
+
+def story_of_groups(known, count):
+    """A story of am-rehearse: groups of an alert each, whose labels collide, and 120 flushes of each."""
+    route = {"receiver": "team", "group_by": ["kind", "value"], "group_interval": "15s"}
+    alerts = [{"labels": labels} for labels in label_sets(known, count)]
+    return [{"config": {"receivers": receivers(), "route": route}, "until": "30m", "alerts": alerts}]
+
+
+# What makes an input, and the hashers for which its labels collide: that of std, and that of `Seed::fixed`.
+MADE = {
+    "label sets": (lines_of_sets, STD, FIXED),
+    "sources": (lines_of_sources, STD, FIXED),
+    "scenario": (scenario_of_sets, STD, FIXED),
+    "story": (story_of_sets, STD, FIXED),
+    "story of groups": (story_of_groups, STD_GROUP, FIXED_GROUP),
+}
+
+
+def text(kind, count):
+    """The input of a kind, such as `scenario`, or `scenario, fixed`."""
+    name, _, seed = kind.partition(", ")
+    made, std, fixed = MADE[name]
+    return "".join(json.dumps(line) + "\n" for line in made(fixed if seed == "fixed" else std, count))

@@ -18,8 +18,9 @@ const ABOUT: &str =
     "Rehearses an alertmanager.yml: simulates alerts, silences and outages on a clock";
 
 const STATUSES: &str = "\
-Statuses: 0 done; 1 a file isn't readable; 2 a file or the command line is rejected; 3 out of memory; \
-4 the output isn't writable; 5 an expectation isn't met; 6 --verify differs, or --exit-code and a notification differs.";
+Statuses: 0 done; 1 a file isn't readable, or there are no random numbers; \
+2 a file or the command line is rejected; 3 out of memory; 4 the output isn't writable; \
+5 an expectation isn't met; 6 --verify differs, or --exit-code and a notification differs.";
 
 /// What an argument takes.
 #[derive(Clone, Copy)]

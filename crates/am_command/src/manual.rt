@@ -74,7 +74,7 @@ fn push_escaped(page: &mut String, text: &str) -> Result<(), AllocError> {
 fn push_statuses(page: &mut String) -> Result<(), AllocError> {
     for (status, meaning) in [
         (0, "done"),
-        (1, "a file isn't readable"),
+        (1, "a file isn't readable, or there are no random numbers"),
         (2, "a file or the command line is rejected"),
         (3, "out of memory"),
         (4, "the output isn't writable"),

@@ -45,7 +45,7 @@ pub record TellsStuck (id : ℕ) (input : List ℕ) : Type 0 where
   pub stuck : IsStuck id scenario
 
 -- an input is refused as no JSON only where it is none, and at a place only where it is the text of a JSON value. Where it tells a
--- scenario whose matchers look for no pattern, it is refused at a place only as full, and a limit stops the play
+-- scenario whose matchers need no regex, it is refused at a place only as full, and a limit stops the play
 abbrev pub Refuses : List ℕ → RunFault → Type 0
 Refuses input run.NotJson = IsNoJson input
 Refuses input (run.Refused place fault_kind) = IsJson input

@@ -54,6 +54,7 @@ use am_cli::transfer::{MAX_INPUT, read_all, write_all};
 use am_desk::{Blank, BlankFault, Brand, Closed, Desk, Name, OpenFault, Pass};
 use am_report::report::report_text;
 use am_scenario::scenario::{Phase, Scenario, read_scenario};
+use am_seed::Seed;
 use std::alloc::{AllocError, Global};
 use std::sync::Wait;
 use std::thread::Threads;
@@ -67,10 +68,11 @@ pub const BOARD_ID: u64 = 1;
 /// `play_scenario` says it. It is made whole before its first byte is written: on every fault but
 /// `Unwritable` the sink wasn't asked. An input is refused as `NotJson` only where it is none, and as
 /// `Refused` only where it is the text of a JSON value; it was read whole before. Where that tells a
-/// scenario, and no matcher looks for a pattern, it is refused at a place only as `Full`, and a limit
-/// stops the play.
+/// scenario, and no matcher needs a regex, it is refused at a place only as `Full`, and a limit stops
+/// the play. Hashes start from `seed`, on which nothing depends.
 pub fn run_scenario<R: AllocGlobal + Threads + Wait + Sync, S: Source, K: Sink>(
     rt: &R,
+    seed: Seed,
     source: &mut S,
     sink: &mut K,
 ) -> Result<(), RunFault>
@@ -92,7 +94,7 @@ pub fn run_scenario<R: AllocGlobal + Threads + Wait + Sync, S: Source, K: Sink>(
 {
     let alloc = rt.alloc();
     let input = read_all(alloc, source)?;
-    let report = report_of(rt, alloc, input.as_slice())?;
+    let report = report_of(rt, alloc, seed, input.as_slice())?;
     Ok(write_all(sink, report.as_bytes())?)
 }
 
@@ -100,13 +102,14 @@ pub fn run_scenario<R: AllocGlobal + Threads + Wait + Sync, S: Source, K: Sink>(
 fn report_of<R: Threads + Wait + Sync>(
     rt: &R,
     alloc: Global,
+    seed: Seed,
     input: &[u8],
 ) -> Result<String, RunFault>
     ensures report { IfOk result (λ text. IsPlay BOARD_ID input.now (string_bytes text)) }
     ensures refused { IfErr result (Refuses input.now) }
 {
     let scenario = read(alloc, input)?;
-    Ok(play_scenario(rt, alloc, scenario)?)
+    Ok(play_scenario(rt, alloc, seed, scenario)?)
 }
 
 /// The scenario that these bytes are. Of the JSON value nothing is kept.
@@ -143,13 +146,14 @@ fn read(alloc: Global, input: &[u8]) -> Result<Scenario, RunFault>
 pub fn play_scenario<R: Threads + Wait + Sync>(
     rt: &R,
     alloc: Global,
+    seed: Seed,
     scenario: Scenario,
 ) -> Result<String, InputFault>
     ensures report { IfOk result (λ text. IsPlayOf BOARD_ID scenario (string_bytes text)) }
     ensures refused { IfErr result (λ fault. config_fault scenario.config ≡ None → IsRefusedBy FaultKind.Full fault) }
     ensures full { IfErr result (λ fault. config_fault scenario.config ≡ None → IsTrue (is_refusal fault) → IsStuck BOARD_ID scenario) }
 {
-    let blank = blank_for(alloc, scenario.phases.as_slice())?;
+    let blank = blank_for(alloc, seed, scenario.phases.as_slice())?;
     play_on::<Brand, Brand, R>(rt, alloc, scenario, blank)
 }
 
@@ -274,15 +278,15 @@ fn report_on(alloc: Global, closed: &Closed, reports: &[Report]) -> Result<Strin
 }
 
 /// The blank of a desk with a pass for the main thread and one for each lane of the phase that has
-/// most of them.
-pub fn blank_for(alloc: Global, phases: &[Phase]) -> Result<Blank, InputFault>
+/// most of them. The hashes of the desk start from this seed.
+pub fn blank_for(alloc: Global, seed: Seed, phases: &[Phase]) -> Result<Blank, InputFault>
     ensures id { IfOk result (λ blank. blank.id ≡ BOARD_ID) }
     ensures lanes { IfOk result (λ blank. All (λ p. vec_len p.lanes < blank.passes) phases.now) }
     ensures refused { IfErr result (λ fault. fault ≡ InputFault.NoMemory) }
 {
     let lanes = most_lanes(phases);
     match Blank::new(alloc, BOARD_ID, 1 + lanes as u32) {
-        Ok(blank) => Ok(blank),
+        Ok(blank) => Ok(blank.seeded(seed)),
         Err(BlankFault::NoMemory) => Err(InputFault::NoMemory),
         Err(BlankFault::BadCount) => unreachable!(),
     }

@@ -39,8 +39,8 @@ rows_before (Some b) = row_views (state_at b)
 abbrev pub reload_of : BoardData → Config → Reload
 reload_of b config = record { old = b.config; new = config }
 
--- whether a log row of the board before is taken over at a time: it hasn't expired, and under the new configuration an alert of it goes to a
--- group that finds it again
+-- whether a log row of the board before is taken over at a time: it hasn't expired, and under the new configuration an alert of it goes
+-- to a group that finds it again
 abbrev pub is_taken : ℕ → Reload → RowView → Bool
 is_taken at reload row = not (nat_lt row.expiry at) && list_any (is_led_to reload.new) (rekeyed reload row)
 

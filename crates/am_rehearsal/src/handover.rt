@@ -13,6 +13,7 @@ use am_alerts::labels::Labels;
 use am_alerts::matcher::Matcher;
 use am_model::views::RowView;
 use am_mute::silence::Silence;
+use am_seed::Seed;
 use am_terms::handover::Keeps;
 use am_terms::rehearsal::{Action, TimedAction};
 use std::alloc::{AllocError, Global};
@@ -30,9 +31,10 @@ use std::collections::HashSet;
 ///
 /// `AllocError`: out of memory.
 ///
-/// Cost: one look-up for each plan, and a copy of each action that is set again.
+/// Cost: one look-up for each plan, whose hashes start from `seed`, and a copy of each action that is set again.
 pub fn handed_on(
     alloc: Global,
+    seed: Seed,
     keeps: Keeps,
     at: u64,
     done: &[TimedAction],
@@ -41,7 +43,7 @@ pub fn handed_on(
     ensures { IfOk result (λ plans. plans.items ≡ handed_on keeps at done.now rows.items) }
 {
     let mut plans = loads(alloc, at, rows)?;
-    let mut again = set_again(alloc, keeps, at, done)?;
+    let mut again = set_again(alloc, seed, keeps, at, done)?;
     plans.append(&mut again)?;
     Ok(plans)
 }
@@ -72,13 +74,14 @@ pub fn loads(alloc: Global, at: u64, rows: Vec<RowView>) -> Result<Vec<TimedActi
 /// `AllocError`: out of memory.
 pub fn set_again(
     alloc: Global,
+    seed: Seed,
     keeps: Keeps,
     at: u64,
     done: &[TimedAction],
 ) -> Result<Vec<TimedAction>, AllocError>
     ensures { IfOk result (λ plans. plans.items ≡ set_again keeps at done.now) }
 {
-    let mut plans = last_first(alloc, keeps, at, done)?;
+    let mut plans = last_first(alloc, seed, keeps, at, done)?;
     plans.reverse();
     Ok(plans)
 }
@@ -86,13 +89,14 @@ pub fn set_again(
 /// What is set again, the last first.
 fn last_first(
     alloc: Global,
+    seed: Seed,
     keeps: Keeps,
     at: u64,
     done: &[TimedAction],
 ) -> Result<Vec<TimedAction>, AllocError>
     ensures { IfOk result (λ plans. plans.items ≡ reverse (set_again keeps at done.now)) }
 {
-    let mut later = Seen::new(alloc);
+    let mut later = Seen::new(alloc, seed);
     let mut again = Vec::new(alloc);
     for place in (0..done.len()).rev() {
         let act = &done[place].act;
@@ -200,18 +204,18 @@ fn copy_matchers(alloc: Global, matchers: &[Matcher]) -> Result<Vec<Matcher>, Al
 /// The label sets and the silence ids of actions.
 #[derive(Drop)]
 struct Seen {
-    sets: HashSet<Labels>,
-    ids: HashSet<u64>,
+    sets: HashSet<Labels, Seed>,
+    ids: HashSet<u64, Seed>,
 }
 
 impl Seen {
     /// Of no actions.
-    fn new(alloc: Global) -> Seen
+    fn new(alloc: Global, seed: Seed) -> Seen
         ensures { SeesNothing result }
     {
         Seen {
-            sets: HashSet::new(alloc),
-            ids: HashSet::new(alloc),
+            sets: HashSet::with_hasher(alloc, seed),
+            ids: HashSet::with_hasher(alloc, seed),
         }
     }
 

@@ -9,6 +9,7 @@ ghost use Rattle.am_terms.specs.declared.rehearsal.TheConstants.{MAX_UNTIL};
 use crate::handover::set_again;
 use crate::span::Span;
 use am_board::config::Config;
+use am_seed::Seed;
 use am_terms::handover::{Handover, Keeps};
 use am_terms::rehearsal::TimedAction;
 use std::alloc::{AllocError, Global};
@@ -60,6 +61,7 @@ impl Model for Part {
 /// `AllocError`: out of memory.
 pub fn parts_of(
     alloc: Global,
+    seed: Seed,
     config: Config,
     until: u64,
     plans: Vec<TimedAction>,
@@ -71,7 +73,7 @@ pub fn parts_of(
     let mut parts = Vec::new(alloc);
     let mut part = Part::whole(config, until, plans);
     for handover in handovers {
-        let next = part.hand_over(alloc, handover)?;
+        let next = part.hand_over(alloc, seed, handover)?;
         parts.push(part)?;
         part = next;
     }
@@ -95,13 +97,18 @@ impl Part {
     }
 
     /// Leaves what comes before a handover, and returns the part of the dispatcher that follows.
-    fn hand_over(&mut self, alloc: Global, handover: Handover) -> Result<Part, AllocError>
+    fn hand_over(
+        &mut self,
+        alloc: Global,
+        seed: Seed,
+        handover: Handover,
+    ) -> Result<Part, AllocError>
         ensures left { OnOk result (self.new ≡ cut_at handover.at self.old) }
         ensures next { IfOk result (λ next. next ≡ after handover self.old) }
     {
         let Handover { at, config, keeps } = handover;
         let until = self.until;
-        let plans = split_plans(alloc, keeps, at, &mut self.plans)?;
+        let plans = split_plans(alloc, seed, keeps, at, &mut self.plans)?;
         self.span.cut = Some(at);
         self.until = until.min(at.saturating_sub(1));
         Ok(Part {
@@ -120,6 +127,7 @@ impl Part {
 /// Leaves the plans before a handover, and returns those of the dispatcher that follows.
 fn split_plans(
     alloc: Global,
+    seed: Seed,
     keeps: Keeps,
     at: u64,
     plans: &mut Vec<TimedAction>,
@@ -130,7 +138,7 @@ fn split_plans(
 {
     let count = count_before(at, plans.as_slice());
     let mut later = plans.split_off(count)?;
-    let mut next = set_again(alloc, keeps, at, plans.as_slice())?;
+    let mut next = set_again(alloc, seed, keeps, at, plans.as_slice())?;
     next.append(&mut later)?;
     Ok(next)
 }

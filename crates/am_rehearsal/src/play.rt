@@ -45,6 +45,7 @@ use am_board::notice::Report;
 use am_board::own_ticket::OwnTicket;
 use am_board::record::Record;
 use am_retry::Outcome;
+use am_seed::Seed;
 use am_terms::event::{Event, PreviewedBegin};
 use am_terms::rehearsal::{Outage, Rehearsal, TimedAction};
 use am_terms::watch::Watch;
@@ -59,6 +60,8 @@ pub struct Played {
     pub board: Board,
     pub begins: Vec<PreviewedBegin>,
     pub events: Vec<Event>,
+    /// What the hashes of its board start from. Those of what is made of it can do so too.
+    pub seed: Seed,
     ghost whole: { board.handed ≡ [] },
     ghost ours: { board.id ≡ BOARD_ID },
     ghost previews: { begins.items ≡ previews_of board.config board.history },
@@ -96,8 +99,8 @@ pub enum PlayFault {
 /// begin are those that the history before it gives. Clause `begun`: the events have each begin that took
 /// a group, once and in order. Clause `played`: board and events are those to which the rehearsal
 /// plays (`PlaysTo`), step by step. `law::rehearsals_have_one_play`: there is only one such pair. The
-/// board has the id `BOARD_ID`. Clause `refused`: a fault other than `NoMemory` comes only where it is
-/// the cause (`IsWhyNot`).
+/// board has the id `BOARD_ID`. Hashes start from `seed`, on which nothing depends. Clause `refused`:
+/// a fault other than `NoMemory` comes only where it is the cause (`IsWhyNot`).
 ///
 /// # Errors
 ///
@@ -111,6 +114,7 @@ pub enum PlayFault {
 /// Cost: its board calls, with a preview for each begin, and at each event the notices in flight.
 pub fn play<W: Watch>(
     alloc: Global,
+    seed: Seed,
     rehearsal: Rehearsal,
     watch: &mut W,
 ) -> Result<Played, PlayFault>
@@ -125,7 +129,7 @@ pub fn play<W: Watch>(
         PlaysTo (setting_of rehearsal) rehearsal.config rehearsal.plans.items played.board played.events.items) }
     ensures refused { IfErr result (IsWhyNot (setting_of rehearsal) rehearsal.config rehearsal.plans.items) }
 {
-    play_span(alloc, rehearsal, Span::whole(), watch)
+    play_span(alloc, seed, rehearsal, Span::whole(), watch)
 }
 
 /// Runs the part of a rehearsal that one dispatcher has, to its end. It starts with an empty board.
@@ -139,6 +143,7 @@ pub fn play<W: Watch>(
 /// Those of `play`.
 pub fn play_span<W: Watch>(
     alloc: Global,
+    seed: Seed,
     rehearsal: Rehearsal,
     span: Span,
     watch: &mut W,
@@ -163,6 +168,7 @@ pub fn play_span<W: Watch>(
     } = rehearsal;
     play_pieces(
         alloc,
+        seed,
         config,
         until,
         maintain,
@@ -177,6 +183,7 @@ pub fn play_span<W: Watch>(
 /// outages are borrowed: the parts of a rehearsal share them.
 pub(crate) fn play_pieces<W: Watch>(
     alloc: Global,
+    seed: Seed,
     config: Config,
     until: u64,
     maintain: u64,
@@ -190,7 +197,7 @@ pub(crate) fn play_pieces<W: Watch>(
         PlaysTo (setting_with until maintain outages.now span) config plans.items played.board played.events.items) }
     ensures refused { IfErr result (IsWhyNot (setting_with until maintain outages.now span) config plans.items) }
 {
-    let mut course = Course::open(alloc, config, until, maintain, plans, outages, span)?;
+    let mut course = Course::open(alloc, seed, config, until, maintain, plans, outages, span)?;
     match course.run(watch) {
         Ok(()) => Ok(course.into_played()?),
         Err(fault) => {
@@ -203,6 +210,7 @@ pub(crate) fn play_pieces<W: Watch>(
 /// A rehearsal that is being played.
 struct Course<'o> {
     alloc: Global,
+    seed: Seed,
     board: PreviewingBoard,
     outages: &'o [Outage],
     /// The last time of plans, maintenances and begins.
@@ -228,6 +236,7 @@ impl<'o> Course<'o> {
     /// A rehearsal at its start.
     fn open(
         alloc: Global,
+        seed: Seed,
         config: Config,
         until: u64,
         maintain: u64,
@@ -244,7 +253,8 @@ impl<'o> Course<'o> {
     {
         Ok(Course {
             alloc,
-            board: PreviewingBoard::new(alloc, config)?,
+            seed,
+            board: PreviewingBoard::new(alloc, seed, config)?,
             outages,
             until,
             maintain,
@@ -503,6 +513,7 @@ impl<'o> Course<'o> {
     {
         let Course {
             alloc: _,
+            seed,
             board,
             outages: _,
             until: _,
@@ -522,6 +533,7 @@ impl<'o> Course<'o> {
             board,
             begins,
             events,
+            seed,
         })
     }
 

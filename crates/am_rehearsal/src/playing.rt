@@ -23,6 +23,7 @@ use am_board::board::Board;
 use am_board::config::Config;
 use am_model::rekey::{Rekeying, is_led_to};
 use am_model::views::RowView;
+use am_seed::Seed;
 use am_terms::handover::Keeps;
 use am_terms::rehearsal::{Outage, TimedAction};
 use am_terms::watch::Watch;
@@ -62,6 +63,7 @@ pub struct PartFault {
 /// `PlanRefused` names counts with the loads in front.
 pub fn play_parts<W: Watch>(
     alloc: Global,
+    seed: Seed,
     parts: Vec<Part>,
     maintain: u64,
     outages: &[Outage],
@@ -72,7 +74,7 @@ pub fn play_parts<W: Watch>(
 {
     let mut played = Vec::new(alloc);
     for part in parts {
-        match play_next(alloc, part, maintain, outages, &mut played, watch) {
+        match play_next(alloc, seed, part, maintain, outages, &mut played, watch) {
             Ok(()) => {}
             Err(fault) => {
                 return Err(PartFault {
@@ -88,6 +90,7 @@ pub fn play_parts<W: Watch>(
 /// Plays a part after these, and adds it.
 fn play_next<W: Watch>(
     alloc: Global,
+    seed: Seed,
     part: Part,
     maintain: u64,
     outages: &[Outage],
@@ -100,7 +103,7 @@ fn play_next<W: Watch>(
 {
     played.reserve(1)?;
     let before = last_board(played.as_slice());
-    let next = play_part(alloc, before, part, maintain, outages, watch)?;
+    let next = play_part(alloc, seed, before, part, maintain, outages, watch)?;
     played.push_reserved(next);
     Ok(())
 }
@@ -118,6 +121,7 @@ fn last_board(played: &[PlayedPart]) -> Option<&Board>
 /// Plays a part after a board.
 fn play_part<W: Watch>(
     alloc: Global,
+    seed: Seed,
     before: Option<&Board>,
     part: Part,
     maintain: u64,
@@ -137,7 +141,9 @@ fn play_part<W: Watch>(
     let log = take_over(alloc, before, keeps, span.since, &config)?;
     let mut plans = loads(alloc, span.since, log.found)?;
     plans.append(&mut own)?;
-    let played = play_boxed(alloc, config, until, maintain, plans, outages, span, watch)?;
+    let played = play_boxed(
+        alloc, seed, config, until, maintain, plans, outages, span, watch,
+    )?;
     Ok(PlayedPart {
         played,
         rows: log.rows,
@@ -148,6 +154,7 @@ fn play_part<W: Watch>(
 /// `play_pieces`, with what was played in a box.
 fn play_boxed<W: Watch>(
     alloc: Global,
+    seed: Seed,
     config: Config,
     until: u64,
     maintain: u64,
@@ -161,7 +168,9 @@ fn play_boxed<W: Watch>(
         played.value.board played.value.events.items) }
     ensures refused { IfErr result (IsWhyNot (setting_with until maintain outages.now span) config plans.items) }
 {
-    let played = play_pieces(alloc, config, until, maintain, plans, outages, span, watch)?;
+    let played = play_pieces(
+        alloc, seed, config, until, maintain, plans, outages, span, watch,
+    )?;
     match Box::new(alloc, played) {
         Ok(played) => Ok(played),
         Err(_) => Err(PlayFault::NoMemory),

@@ -7,6 +7,7 @@ ghost use Rattle.am_rehearsal.specs.PreviewLog.{IsReady};
 
 use am_board::group::GroupName;
 use am_board::preview::Preview;
+use am_seed::Seed;
 use am_terms::event::PreviewedBegin;
 use am_terms::shared_preview::SharedPreview;
 use std::alloc::{AllocError, Global};
@@ -23,7 +24,7 @@ pub(crate) struct PreviewLog {
     /// The newest begin, until it is among the others.
     waiting: Option<WaitingBegin>,
     /// For each group one of its begins, whose preview others of the group share. It only saves memory.
-    sources: HashMap<GroupName, usize>,
+    sources: HashMap<GroupName, usize, Seed>,
 }
 
 /// A begin whose preview shares nothing.
@@ -46,7 +47,7 @@ impl Model for PreviewLog {
 
 impl PreviewLog {
     /// Returns a log without begins.
-    pub(crate) fn new(alloc: Global) -> PreviewLog
+    pub(crate) fn new(alloc: Global, seed: Seed) -> PreviewLog
         ensures { result.items ≡ [] }
     {
         PreviewLog {
@@ -54,7 +55,7 @@ impl PreviewLog {
             count: 0,
             begins: Vec::new(alloc),
             waiting: None,
-            sources: HashMap::new(alloc),
+            sources: HashMap::with_hasher(alloc, seed),
         }
     }
 
@@ -132,51 +133,52 @@ impl PreviewLog {
 fn shared(
     alloc: Global,
     begins: &[PreviewedBegin],
-    sources: &mut HashMap<GroupName, usize>,
+    sources: &mut HashMap<GroupName, usize, Seed>,
     preview: Preview,
 ) -> Result<SharedPreview, Preview>
     ensures { MatchResult result (λ shared. shared ≡ preview) (λ back. back ≡ preview) }
 {
-    match again(begins, sources, &preview) {
-        Some(preview) => Ok(preview),
+    match sources.get_mut(&preview.group) {
+        Some(source) => shared_with(alloc, begins, source, preview),
         None => {
-            put_source(alloc, &preview.group, begins.len(), sources);
+            add_source(alloc, &preview.group, begins.len(), sources);
             SharedPreview::new(alloc, preview)
         }
     }
 }
 
-/// Returns a preview as one that shares all but its time with that of the group's source, if it has that in common with it.
-fn again(
-    begins: &[PreviewedBegin],
-    sources: &HashMap<GroupName, usize>,
-    preview: &Preview,
-) -> Option<SharedPreview>
-    ensures { IfSome result (λ shared. shared ≡ preview.now) }
-{
-    let source = sources.get(&preview.group)?;
-    let begin = begins.get(*source)?;
-    begin.preview.again(preview)
-}
-
-/// Makes the begin at a position its group's source. It has none where memory is refused.
-fn put_source(
+/// Returns a preview as one that shares what it can with that of its group's source. Where it shares nothing, its begin is the
+/// source from now on.
+fn shared_with(
     alloc: Global,
-    group: &GroupName,
-    position: usize,
-    sources: &mut HashMap<GroupName, usize>,
-) {
-    match sources.get_mut(group) {
-        Some(source) => *source = position,
-        None => add_source(alloc, group, position, sources),
+    begins: &[PreviewedBegin],
+    source: &mut usize,
+    preview: Preview,
+) -> Result<SharedPreview, Preview>
+    ensures { MatchResult result (λ shared. shared ≡ preview) (λ back. back ≡ preview) }
+{
+    match again(begins, *source, &preview) {
+        Some(preview) => Ok(preview),
+        None => {
+            *source = begins.len();
+            SharedPreview::new(alloc, preview)
+        }
     }
 }
 
+/// Returns a preview as one that shares all but its time with that of this source, if it has that in common with it.
+fn again(begins: &[PreviewedBegin], source: usize, preview: &Preview) -> Option<SharedPreview>
+    ensures { IfSome result (λ shared. shared ≡ preview.now) }
+{
+    begins.get(source)?.preview.again(preview).ok()?
+}
+
+/// Makes the begin at a position the source of a group that has none. It stays so where memory is refused.
 fn add_source(
     alloc: Global,
     group: &GroupName,
     position: usize,
-    sources: &mut HashMap<GroupName, usize>,
+    sources: &mut HashMap<GroupName, usize, Seed>,
 ) {
     if let Ok(group) = group.copy(alloc) {
         let _ = sources.insert(group, position);

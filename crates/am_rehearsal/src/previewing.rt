@@ -37,8 +37,10 @@ use am_board::notice::Report;
 use am_board::own_ticket::OwnTicket;
 use am_board::preview::Preview;
 use am_board::views::RowView;
+use am_model::boxed::Boxed;
 use am_mute::silence::Silence;
-use am_terms::event::{Event, PreviewedBegin, ReportBox};
+use am_seed::Seed;
+use am_terms::event::{Event, PreviewedBegin};
 use am_terms::rehearsal::Action;
 use std::alloc::{AllocError, Global};
 
@@ -59,17 +61,21 @@ pub(crate) struct PreviewingBoard {
 
 impl PreviewingBoard {
     /// A board of this configuration, with nothing in it.
-    pub(crate) fn new(alloc: Global, config: Config) -> Result<PreviewingBoard, BoardFault>
+    pub(crate) fn new(
+        alloc: Global,
+        seed: Seed,
+        config: Config,
+    ) -> Result<PreviewingBoard, BoardFault>
         ensures input_trace { IfOk result (λ opened. input_trace opened.board ≡ no_inputs config) }
         ensures board { IfOk result (λ opened. opened.board ≡ opening config BOARD_ID) }
         ensures events { IfOk result (λ opened. opened.events.items ≡ []) }
         ensures faultless { OnOk result (config_fault config ≡ None) }
         ensures refused { IfErr result (λ fault. option_map BoardFault.BadConfig (config_fault config) ≡ Some fault) }
     {
-        let board = Board::new(alloc, config, BOARD_ID)?;
+        let board = Board::seeded(alloc, config, BOARD_ID, seed)?;
         Ok(PreviewingBoard {
             board,
-            begins: PreviewLog::new(alloc),
+            begins: PreviewLog::new(alloc, seed),
             events: Vec::new(alloc),
         })
     }
@@ -186,7 +192,7 @@ impl PreviewingBoard {
         ensures board { self.new.board ≡ self.old.board }
         ensures events { IfOk result (λ _. self.new.events.items ≡ self.old.events.items ++ Sent begin report ∷ []) }
     {
-        let boxed = ReportBox::new(alloc, report)?;
+        let boxed = Boxed::new(alloc, report)?;
         self.events.reserve(1)?;
         self.events.push_reserved(Event::Sent {
             begin,
@@ -276,7 +282,8 @@ fn tell(
     requires begun { begin_indices events.old.items ≡ range_with_len 0 (length begins.old.items) }
     ensures previews { begins.new.items ≡ begins.old.items ++ preview_where (takes_group (reply_of begun.now)) place preview }
     ensures begun { begin_indices events.new.items ≡ range_with_len 0 (length begins.new.items) }
-    ensures events { events.new.items ≡ events.old.items ++ begun_where preview (takes_group (reply_of begun.now)) (length begins.old.items) }
+    ensures events { events.new.items
+        ≡ events.old.items ++ begun_where preview (takes_group (reply_of begun.now)) (length begins.old.items) }
 {
     match (begun, preview) {
         (Begun::NothingDue, _) | (_, None) => {}

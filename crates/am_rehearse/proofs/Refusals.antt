@@ -17,7 +17,7 @@ use Rattle.am_cli.specs.declared.faults.Refusal.TheVariants as refusal
 use Rattle.am_cli.specs.declared.reader.Dialect.{Dialect}
 use Rattle.am_cli.specs.declared.reader.Dialect.TheVariants.{Strict}
 use Rattle.am_input.specs.Configured.{IsConfigFor, IsConfigIn, IsConfigOf, IsReadOfTheirs, file_in, form_in}
-use Rattle.am_input.specs.Request.{IsRequestWithoutPatterns, IsWithoutPatterns, RefusesAll, Requests}
+use Rattle.am_input.specs.Request.{IsRequestWithoutRegexes, IsWithoutRegexes, RefusesAll, Requests}
 use Rattle.am_input.specs.declared.form.Form.{Form}
 use Rattle.am_input.specs.declared.form.Form.TheVariants.{Story, Own, Alertmanager}
 use Rattle.am_input.specs.declared.input.Changes.{Changes}
@@ -153,7 +153,7 @@ sound changes story (Some members) told = (
 one_output : (changes : Changes) (story other : Input) (object : Option Members)
     → IsSomeAnd object (λ members. Requests Strict changes members story.output story.start story.expectations.items story.handovers.items story.rehearsal)
     → IsSomeAnd object (λ members. Requests Strict changes members other.output other.start other.expectations.items other.handovers.items other.rehearsal
-    × IsWithoutPatterns Strict changes members other.handovers.items other.rehearsal) → story.output ≡ other.output
+    × IsWithoutRegexes Strict changes members other.handovers.items other.rehearsal) → story.output ≡ other.output
 one_output changes story other None told also = absurd told
 one_output changes story other (Some members) told also = same_some told.tells also.0.tells
 
@@ -161,7 +161,7 @@ one_output changes story other (Some members) told also = same_some told.tells a
 none_too : (changes : Changes) (story other : Input) (object : Option Members)
     → IsSomeAnd object (λ members. Requests Strict changes members story.output story.start story.expectations.items story.handovers.items story.rehearsal)
     → IsSomeAnd object (λ members. Requests Strict changes members other.output other.start other.expectations.items other.handovers.items other.rehearsal
-    × IsWithoutPatterns Strict changes members other.handovers.items other.rehearsal) → other.handovers.items ≡ [] → story.handovers.items ≡ []
+    × IsWithoutRegexes Strict changes members other.handovers.items other.rehearsal) → other.handovers.items ≡ [] → story.handovers.items ≡ []
 none_too changes story other None told also none = absurd told
 none_too changes story other (Some members) told also none =
     no_others Strict (file_in changes) other.rehearsal.until story.rehearsal.until members story.handovers.items
@@ -180,15 +180,15 @@ as_read text value P is told = by (read_text text) is told
 
 -- a value that is refused asks for nothing that can be played
 pub unread : (changes : Changes) (wanted : Wanted) (text : List ℕ) (value : Data) (refused : Refusal) → IsReadAs text value
-    → RefusesAll (λ (story : Input). IsRequestWithoutPatterns changes value story.output story.start story.expectations.items story.handovers.items story.rehearsal) refused
+    → RefusesAll (λ (story : Input). IsRequestWithoutRegexes changes value story.output story.start story.expectations.items story.handovers.items story.rehearsal) refused
     → Refuses changes wanted text (fault_of_refusal refused)
 unread changes wanted text value (refusal.One (input.Refused place by)) is none =
     inl (λ story told. none refl story
-    (as_read text value (λ v. IsRequestWithoutPatterns changes v story.output story.start story.expectations.items story.handovers.items story.rehearsal) is told.asked))
+    (as_read text value (λ v. IsRequestWithoutRegexes changes v story.output story.start story.expectations.items story.handovers.items story.rehearsal) is told.asked))
 unread changes wanted text value (refusal.One input.NoMemory) is none = tt
 unread changes wanted text value (refusal.All faults) is none =
     λ story told. none story
-    (as_read text value (λ v. IsRequestWithoutPatterns changes v story.output story.start story.expectations.items story.handovers.items story.rehearsal) is told.asked)
+    (as_read text value (λ v. IsRequestWithoutRegexes changes v story.output story.start story.expectations.items story.handovers.items story.rehearsal) is told.asked)
 
 -- bytes that aren't read are no JSON text
 pub untold : (changes : Changes) (wanted : Wanted) (text : List ℕ) (fault : DocumentFault) → RefusesText text fault
@@ -207,7 +207,7 @@ unshown changes wanted text story (input.Refused place by) told left =
     inl (λ other asked.
     let object = as_object told.0 in
     let theirs =
-    as_read text told.0 (λ v. IsRequestWithoutPatterns changes v other.output other.start other.expectations.items other.handovers.items other.rehearsal) told.1 asked.asked in
+    as_read text told.0 (λ v. IsRequestWithoutRegexes changes v other.output other.start other.expectations.items other.handovers.items other.rehearsal) told.1 asked.asked in
     let same = one_output changes story other object told.2 theirs in
     let whole = asked.whole (ap is_page (sym same) ∙ left.0) in
     either left.1 (λ some. cc (whole.0, some)) (λ many. many (none_too changes story other object told.2 theirs whole.1)))

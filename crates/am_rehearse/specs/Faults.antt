@@ -12,7 +12,7 @@ use Rattle.am_cli.specs.declared.transfer.ReadFault.{ReadFault}
 use Rattle.am_cli.specs.declared.transfer.ReadFault.TheVariants as read
 use Rattle.am_cli.specs.declared.faults.Refusal.{Refusal}
 use Rattle.am_cli.specs.declared.faults.Refusal.TheVariants as refusal
-use Rattle.am_input.specs.Request.{IsRequestWithoutPatterns}
+use Rattle.am_input.specs.Request.{IsRequestWithoutRegexes}
 use Rattle.am_input.specs.declared.input.Changes.{Changes}
 use Rattle.am_input.specs.declared.input.Input.{Input}
 use Rattle.am_input.specs.declared.input.Output.{Output}
@@ -71,10 +71,10 @@ abbrev pub leaves_out : Wanted → Bool
 leaves_out wanted = wanted.changes || not (names_nothing wanted.filter)
 
 -- as a JSON text with its configuration in `config`, these bytes ask for this, and it isn't refused: no file is given for the
--- configuration, no matcher looks for a pattern, and a page leaves no line out and has one dispatcher
+-- configuration, no matcher needs a regex, and a page leaves no line out and has one dispatcher
 pub record IsPlayable (changes : Changes) (wanted : Wanted) (text : List ℕ) (story : Input) : Type 0 where
   pub asked : IsSomeAnd (read_text text)
-      (λ value. IsRequestWithoutPatterns changes value story.output story.start story.expectations.items
+      (λ value. IsRequestWithoutRegexes changes value story.output story.start story.expectations.items
       story.handovers.items story.rehearsal)
   pub whole : is_page story.output ≡ true → (leaves_out wanted ≡ false) × (story.handovers.items ≡ [])
 

@@ -18,6 +18,7 @@ use am_input::input::{Changes, Input, Overrides, read_input};
 use am_input::zone_files::ZoneFiles;
 use am_rehearsal::play::Played;
 use am_rehearsal::playing::PlayedPart;
+use am_seed::Seed;
 use am_terms::clock::Elapsed;
 use am_terms::dated::UtcDates;
 use am_terms::handover::{Handover, Keeps};
@@ -38,19 +39,21 @@ struct PlayedStory {
     ignored: IgnoredSettings,
 }
 
-/// Compares two configurations, and returns the status.
+/// Compares two configurations, and returns the status. Hashes start from this seed.
 pub fn compare<R: Files + Eprint + AllocGlobal + Clock>(
     rt: &R,
+    seed: Seed,
     console: &mut Console,
     request: CompareRequest<'_>,
 ) -> u8 {
-    match try_compare(rt, console, request) {
+    match try_compare(rt, seed, console, request) {
         Ok(status) | Err(status) => status,
     }
 }
 
 fn try_compare<R: Files + Eprint + AllocGlobal + Clock>(
     rt: &R,
+    seed: Seed,
     console: &mut Console,
     request: CompareRequest<'_>,
 ) -> Result<u8, u8> {
@@ -59,20 +62,21 @@ fn try_compare<R: Files + Eprint + AllocGlobal + Clock>(
         until: until_of(rt, request.until)?,
     };
     let story = console.read(rt, request.story)?;
-    let compared = compared(rt, console, &story, request, overrides)?;
+    let compared = compared(rt, seed, console, &story, request, overrides)?;
     Ok(print(rt, console, &compared, request.exit_code))
 }
 
 /// Compares the notices of a story under two configurations. The error is the status.
 fn compared<R: Files + Eprint + AllocGlobal + Clock>(
     rt: &R,
+    seed: Seed,
     console: &mut Console,
     story: &Document<'_>,
     request: CompareRequest<'_>,
     overrides: Overrides,
 ) -> Result<Comparison, u8> {
-    let old = played_under(rt, console, story, request.old, overrides)?;
-    let new = played_under(rt, console, story, request.new, overrides)?;
+    let old = played_under(rt, seed, console, story, request.old, overrides)?;
+    let new = played_under(rt, seed, console, story, request.new, overrides)?;
     say_ignored(rt, request.old, old.ignored);
     say_ignored(rt, request.new, new.ignored);
     match compare_played(rt.alloc(), &old, &new) {
@@ -99,6 +103,7 @@ fn print<R: Files + Eprint + AllocGlobal>(
 /// Plays the story under the configuration of a file. The error is the status.
 fn played_under<R: Files + Eprint + AllocGlobal + Clock>(
     rt: &R,
+    seed: Seed,
     console: &mut Console,
     story: &Document<'_>,
     path: &str,
@@ -110,19 +115,20 @@ fn played_under<R: Files + Eprint + AllocGlobal + Clock>(
         config: Some(&config.value),
         overrides,
     };
-    played_with(rt, console, story, changes)
+    played_with(rt, seed, console, story, changes)
 }
 
 /// Plays the story that these changes are made to, and complains if it is refused. The error is the status.
 fn played_with<R: Files + Eprint + AllocGlobal + Clock>(
     rt: &R,
+    seed: Seed,
     console: &Console,
     story: &Document<'_>,
     changes: Changes<'_>,
 ) -> Result<PlayedStory, u8> {
     let mut files = SystemZones::new(rt);
     let mut watch = Progress::begin(rt, console.is_terminal);
-    match played(rt.alloc(), story, changes, &mut files, &mut watch) {
+    match played(rt.alloc(), seed, story, changes, &mut files, &mut watch) {
         Ok(played) => Ok(played),
         Err(refusal) => Err(console.complain_of_refusal(rt, story, refusal)),
     }
@@ -149,13 +155,14 @@ fn accept_under<R: Files + Eprint + AllocGlobal>(
 /// Plays a story that these changes are made to.
 fn played<Z: ZoneFiles, W: Watch>(
     alloc: Global,
+    seed: Seed,
     story: &Document<'_>,
     changes: Changes<'_>,
     files: &mut Z,
     watch: &mut W,
 ) -> Result<PlayedStory, Refusal> {
     let input = read_input(alloc, &story.value, changes, files)?;
-    match play_input(alloc, input, watch) {
+    match play_input(alloc, seed, input, watch) {
         Ok(played) => Ok(played),
         Err(fault) => Err(Refusal::One(fault)),
     }
@@ -163,6 +170,7 @@ fn played<Z: ZoneFiles, W: Watch>(
 
 fn play_input<W: Watch>(
     alloc: Global,
+    seed: Seed,
     input: Input,
     watch: &mut W,
 ) -> Result<PlayedStory, InputFault> {
@@ -176,7 +184,7 @@ fn play_input<W: Watch>(
         dropped,
     } = input;
     check_handovers(alloc, handovers.as_slice())?;
-    let part = play_alone(alloc, rehearsal, origins.as_slice(), watch)?;
+    let part = play_alone(alloc, seed, rehearsal, origins.as_slice(), watch)?;
     Ok(PlayedStory {
         part,
         start,

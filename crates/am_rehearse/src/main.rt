@@ -3,6 +3,7 @@
 //!
 //! `am_command` reads its command line. Without any word it plays the story on standard input. It
 //! prints each fault to standard error, with file, line and column, and ends with the fault's status.
+//! `play` and `compare` draw a seed for their hashes.
 #![tactic(auto)]
 
 mod compare;
@@ -27,11 +28,15 @@ use am_commands::routes::{RoutesRequest, routes};
 use am_commands::story::story;
 use am_console::console::{Console, NO_MEMORY, REJECTED};
 use am_console::files::PaintedOutput;
+use am_seed::Seed;
 use clap::error::ErrorKind;
 use std::alloc::AllocError;
 use std::env;
 use std::io::{self, IsTerminal};
 use std::process::ExitCode;
+
+/// The status where the system has no random numbers.
+const NO_RANDOM_NUMBERS: u8 = 1;
 
 fn main(rt: HostRuntime) -> ExitCode {
     ExitCode::from(serve(&rt))
@@ -96,14 +101,33 @@ fn answer(rt: &HostRuntime, request: Request<'_>) -> u8 {
 }
 
 fn answer_play(rt: &HostRuntime, request: &PlayRequest<'_>) -> u8 {
+    let seed = match draw_seed(rt) {
+        Ok(seed) => seed,
+        Err(status) => return status,
+    };
     let is_timeline = matches!(request.output, None | Some("timeline" | "notices"));
     let mut console = console_for(rt, request.style, is_timeline);
-    play(rt, &mut console, request)
+    play(rt, seed, &mut console, request)
 }
 
 fn answer_compare(rt: &HostRuntime, request: CompareRequest<'_>) -> u8 {
+    let seed = match draw_seed(rt) {
+        Ok(seed) => seed,
+        Err(status) => return status,
+    };
     let mut console = console_for(rt, request.style, false);
-    compare(rt, &mut console, request)
+    compare(rt, seed, &mut console, request)
+}
+
+/// Draws what the hashes of a rehearsal start from. The error is the status.
+fn draw_seed(rt: &HostRuntime) -> Result<Seed, u8> {
+    match Seed::draw(rt) {
+        Ok(seed) => Ok(seed),
+        Err(_) => {
+            let _ = eprintln!(rt; "am-rehearse: no random numbers");
+            Err(NO_RANDOM_NUMBERS)
+        }
+    }
 }
 
 fn answer_story(rt: &HostRuntime, request: StoryRequest<'_>) -> u8 {

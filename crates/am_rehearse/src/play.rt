@@ -20,6 +20,7 @@ use am_console::progress::Progress;
 use am_console::story_words::PAGE_HAS_NO_LINES;
 use am_input::faults::ReceiversOf;
 use am_input::input::{Changes, Output, Overrides};
+use am_seed::Seed;
 use am_terms::rehearsal::MAX_UNTIL;
 use am_timeline::filtered::Filter;
 use am_yaml::document::read_document;
@@ -27,13 +28,14 @@ use std::fs;
 use std::rt::Files;
 use std::time::Clock;
 
-/// Simulates a story, and returns the status.
+/// Simulates a story, and returns the status. Its hashes start from this seed.
 pub fn play<R: Files + Eprint + AllocGlobal + Clock>(
     rt: &R,
+    seed: Seed,
     console: &mut Console,
     request: &PlayRequest<'_>,
 ) -> u8 {
-    match try_play(rt, console, request) {
+    match try_play(rt, seed, console, request) {
         Ok(()) => 0,
         Err(status) => status,
     }
@@ -41,6 +43,7 @@ pub fn play<R: Files + Eprint + AllocGlobal + Clock>(
 
 fn try_play<R: Files + Eprint + AllocGlobal + Clock>(
     rt: &R,
+    seed: Seed,
     console: &mut Console,
     request: &PlayRequest<'_>,
 ) -> Result<(), u8> {
@@ -48,7 +51,7 @@ fn try_play<R: Files + Eprint + AllocGlobal + Clock>(
         output: output_of(rt, request)?,
         until: until_of(rt, request.until)?,
     };
-    let wanted = wanted_of(rt, console, request)?;
+    let wanted = wanted_of(rt, seed, console, request)?;
     play_wanted(rt, console, request, overrides, &wanted)
 }
 
@@ -208,6 +211,7 @@ fn output_named(name: &str) -> Output {
 /// Returns what of a rehearsal the command line wants to see. The error is the status.
 fn wanted_of<R: Eprint + AllocGlobal>(
     rt: &R,
+    seed: Seed,
     console: &Console,
     request: &PlayRequest<'_>,
 ) -> Result<Wanted, u8> {
@@ -215,6 +219,7 @@ fn wanted_of<R: Eprint + AllocGlobal>(
         filter: filter_of(rt, console, &request.selection)?,
         changes: request.selection.changes,
         junit: request.junit.is_some(),
+        seed,
     };
     if request.output == Some("html") && wanted.leaves_out() {
         let _ = eprintln!(rt; "am-rehearse: {PAGE_HAS_NO_LINES}");

@@ -380,6 +380,7 @@ pub(crate) fn logbook_of(alloc: Global, played: &Played) -> Result<Logbook<'_>, 
 {
     Logbook::new(
         alloc,
+        played.seed,
         played.board.config(),
         played.history(),
         played.begins.as_slice(),

@@ -23,6 +23,7 @@ use am_plans::origin::Origin;
 use am_rehearsal::parts::parts_of;
 use am_rehearsal::play::PlayFault;
 use am_rehearsal::playing::{PartFault, PlayedPart, play_parts};
+use am_seed::Seed;
 use am_terms::handover::Handover;
 use am_terms::rehearsal::Rehearsal;
 use am_terms::watch::Watch;
@@ -83,7 +84,7 @@ impl Judgement {
 /// An input is refused as `NotRead` only where it is no JSON text. It is refused at a place, or as `AllRefused`, only
 /// where it asks, as a JSON text, for nothing that can be played, or as `Full` (`Refuses`). It is `Full` only where it
 /// asks for more than a limit lets be played, or where a log row that a new dispatcher takes over doesn't fit. Nothing is
-/// said of YAML, of a given file, of a configuration of Alertmanager, and of patterns. The input was read whole before.
+/// said of YAML, of a given file, of a configuration of Alertmanager, and of patterns that need a regex. The input was read whole before.
 ///
 /// `report` has what was read, once all of it was, what of Alertmanager's configuration is ignored, and, once a rehearsal
 /// was played, which expectations aren't met, and the report on them that is `wanted`.
@@ -221,7 +222,14 @@ fn play_and_render<W: Watch>(
         dropped: _,
     } = input;
     let changes = changes_of(alloc, handovers.as_slice())?;
-    let played = play_or_refuse(alloc, rehearsal, handovers, origins.as_slice(), watch)?;
+    let played = play_or_refuse(
+        alloc,
+        wanted.seed,
+        rehearsal,
+        handovers,
+        origins.as_slice(),
+        watch,
+    )?;
     let changes = changes.as_slice();
     let played = played.as_slice();
     let expectations = expectations.as_slice();
@@ -253,6 +261,7 @@ fn refused_output(alloc: Global) -> InputFault {
 /// Plays a rehearsal of one dispatcher, whose planned actions are at these places of the input.
 pub(crate) fn play_alone<W: Watch>(
     alloc: Global,
+    seed: Seed,
     rehearsal: Rehearsal,
     origins: &[Origin],
     watch: &mut W,
@@ -261,7 +270,7 @@ pub(crate) fn play_alone<W: Watch>(
     ensures refused { IfErr result (RefusesPlay rehearsal []) }
 {
     let handovers = Vec::new(alloc);
-    let mut played = play_or_refuse(alloc, rehearsal, handovers, origins, watch)?;
+    let mut played = play_or_refuse(alloc, seed, rehearsal, handovers, origins, watch)?;
     match played.pop() {
         Some(part) => Ok(part),
         None => unreachable!(),
@@ -271,6 +280,7 @@ pub(crate) fn play_alone<W: Watch>(
 /// Plays a rehearsal with these handovers, whose planned actions are at these places of the input.
 fn play_or_refuse<W: Watch>(
     alloc: Global,
+    seed: Seed,
     rehearsal: Rehearsal,
     handovers: Vec<Handover>,
     origins: &[Origin],
@@ -286,8 +296,8 @@ fn play_or_refuse<W: Watch>(
         plans,
         outages,
     } = rehearsal;
-    let parts = parts_of(alloc, config, until, plans, handovers)?;
-    let ended = play_parts(alloc, parts, maintain, outages.as_slice(), watch);
+    let parts = parts_of(alloc, seed, config, until, plans, handovers)?;
+    let ended = play_parts(alloc, seed, parts, maintain, outages.as_slice(), watch);
     watch.end();
     match ended {
         Ok(played) => Ok(played),

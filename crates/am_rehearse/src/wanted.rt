@@ -1,8 +1,9 @@
-//! `Wanted`: what the command line wants to see of a rehearsal. `run` prints it.
+//! `Wanted`: what the command line wants to see of a rehearsal, and the seed for its hashes. `run` prints it.
+use am_seed::Seed;
 use am_timeline::filtered::Filter;
 use std::alloc::Global;
 
-/// What the command line wants to see of a rehearsal, besides the output that it names.
+/// What the command line wants to see of a rehearsal, besides the output that it names, and the seed for its hashes.
 #[derive(Drop)]
 pub struct Wanted {
     /// The groups whose lines are printed.
@@ -11,6 +12,8 @@ pub struct Wanted {
     pub changes: bool,
     /// Whether a report on the expectations is made, as XML of JUnit.
     pub junit: bool,
+    /// What the hashes of the rehearsal start from. No output depends on it.
+    pub seed: Seed,
 }
 
 impl Wanted {

@@ -4,6 +4,7 @@ use am_cli::device::{DeviceFault, Sink, Source};
 use am_cli::io_trace::IoTrace;
 use am_play::fault::RunFault;
 use am_play::run::run_scenario;
+use am_seed::Seed;
 use std::alloc::Global;
 
 /// The report on the first notice.
@@ -106,7 +107,7 @@ fn faulty_sources(rt: HostRuntime) {
     let reads = FIRST.len().div_ceil(AT_ONCE) + 1;
     for good_reads in 0..reads + 1 {
         let mut sink = sheet(rt.alloc(), usize::MAX);
-        let outcome = run_scenario(&rt, &mut source(good_reads), &mut sink);
+        let outcome = run_scenario(&rt, Seed::fixed(), &mut source(good_reads), &mut sink);
         if good_reads < reads {
             assert!(rt;
                 matches!(outcome, Err(RunFault::Unreadable)),
@@ -124,7 +125,7 @@ fn faulty_sinks(rt: HostRuntime) {
     let writes = REPORT.len().div_ceil(AT_ONCE);
     for good_writes in 0..writes + 1 {
         let mut sink = sheet(rt.alloc(), good_writes);
-        let outcome = run_scenario(&rt, &mut source(usize::MAX), &mut sink);
+        let outcome = run_scenario(&rt, Seed::fixed(), &mut source(usize::MAX), &mut sink);
         if good_writes < writes {
             assert!(rt;
                 matches!(outcome, Err(RunFault::Unwritable)),

@@ -17,6 +17,7 @@ use am_play::run::{blank_for, open};
 use am_pool::{AttemptTrace, Courier, Job, PoolFault, Sent, Tried, deliver, run_jobs};
 use am_retry::{Answer, Outcome};
 use am_scenario::scenario::{Phase, Scenario, read_scenario};
+use am_seed::Seed;
 use std::alloc::{AllocError, Global};
 use std::process::Abort;
 use std::sync::Wait;
@@ -164,7 +165,7 @@ fn play<R: AllocGlobal + Threads + Wait + Sync>(
         scripts: _,
         phases,
     } = read(alloc, text)?;
-    let blank = blank_for(alloc, phases.as_slice())?;
+    let blank = blank_for(alloc, Seed::fixed(), phases.as_slice())?;
     play_on::<Brand, R>(rt, alloc, config, blank, phases)
 }
 

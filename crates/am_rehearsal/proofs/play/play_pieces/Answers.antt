@@ -3,7 +3,7 @@ use Rattle.am_model.specs.Config.{config_fault}
 use Rattle.am_model.specs.declared.config.Config.{Config}
 use Rattle.am_rehearsal.specs.Courses.{IsStopped, scene_in, setting_in}
 use Rattle.am_rehearsal.specs.Next.{next}
-use Rattle.am_rehearsal.specs.Play.{PlaysTo, Reaches}
+use Rattle.am_rehearsal.specs.Play.{Reaches}
 use Rattle.am_rehearsal.specs.Scene.{Scene, Setting, opening_scene, setting_with}
 use Rattle.am_rehearsal.specs.WhyNot.{IsWhyNot}
 use Rattle.am_rehearsal.proofs.Coming.{next_none}

@@ -1,6 +1,6 @@
 use Rattle.std.proofs.Common.{◌≡◌, length, take}
 use Rattle.std.specs.List.{count_by, flat_map}
-use Rattle.am_model.specs.Rekey.{Reload, rekeyed}
+use Rattle.am_model.specs.Rekey.{rekeyed}
 use Rattle.am_rehearsal.specs.Playing.{is_taken}
 use Rattle.am_rehearsal.proofs.playing.find_all.Given as goal
 

@@ -18,8 +18,8 @@ invariant_of-result c =
     record {
       ours = ap (λ (b : BoardData). b.id) opened;
       whole = ap (λ (b : BoardData). b.handed) opened;
-      previews = c.new-2.ensures ∙ sym (ap (λ (b : BoardData). previews_of b.config b.history) opened);
-      begun = ap begin_indices c.new-3.ensures.items ∙ sym (ap (λ (l : List PreviewedBegin). range_with_len 0 (length l)) c.new-2.ensures);
+      previews = c.new.ensures ∙ sym (ap (λ (b : BoardData). previews_of b.config b.history) opened);
+      begun = ap begin_indices c.new-2.ensures.items ∙ sym (ap (λ (l : List PreviewedBegin). range_with_len 0 (length l)) c.new.ensures);
     }
 
 pub returns-clause-input_trace : goal.returns-clause-input_trace

@@ -1,7 +1,7 @@
 -- One step of the search for the members of one ascending list in another.
-use Rattle.std.proofs.Common.{◌≡◌, ℕ, suc, ◌+◌, ◌<◌, ◌≤◌, ◌==◌, length, drop, get_or, subst, add-one, drop-cons, Bool, true, false, ◌||◌, ◌&&◌, List, [], ◌∷◌, refl, sym, ap, ◌∙◌, true≢false}
+use Rattle.std.proofs.Common.{◌≡◌, ℕ, suc, ◌+◌, ◌<◌, ◌≤◌, ◌==◌, length, map, drop, get_or, subst, add-one, drop-cons, Bool, true, false, ◌||◌, ◌&&◌, List, [], ◌∷◌, refl, sym, ap, ◌∙◌, true≢false}
 use Rattle.std.proofs.Math.Dec.{eqb-suc-zero}
-use Rattle.std.proofs.lemmas.List.{drop_all}
+use Rattle.std.proofs.lemmas.List.{drop_all, length-map}
 use Rattle.std.specs.Cmp.{IsTotalOrder, first_so, second_so}
 use Rattle.std.specs.Cmp.Derive.{both_true}
 use Rattle.std.specs.List.{list_all}
@@ -104,3 +104,7 @@ IsLeft-end {N} {eq} all missing i here past =
     of_none : (xs : List N) → is_subset eq xs [] ≡ (length xs == 0)
     of_none [] = refl
     of_none (x ∷ xs) = sym (eqb-suc-zero (length xs))
+
+-- what is lent of a list is as many
+pub none_mapped : {F N : Type 0} (lent : F → N) (xs : List F) → (length (map lent xs) == 0) ≡ (length xs == 0)
+none_mapped lent xs = ap (λ n. n == 0) (length-map xs lent)

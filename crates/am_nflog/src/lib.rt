@@ -5,12 +5,14 @@
 #![tactic(auto)]
 
 mod key;
+mod lends;
 mod log;
 mod members;
 mod row;
 mod update;
 
 pub use key::LogKey;
+pub use lends::Lends;
 pub use log::NfLog;
 pub use members::Members;
 pub use row::LogRow;

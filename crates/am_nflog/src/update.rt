@@ -1,10 +1,11 @@
 //! Why an integration needs an update about a group, or why not (`notify.DedupStage`). `am_board`
 //! asks it at each begin, and for each preview. Cost: the two lists and those of the row, once each.
-ghost use Rattle.std.specs.Prelude.{◌≡◌, IsTrue};
+ghost use Rattle.std.specs.Prelude.{◌≡◌, IsTrue, map};
 ghost use Rattle.std.specs.Option.{option_copied};
 ghost use Rattle.am_nflog.specs.Members.{is_ascending, is_subset};
 ghost use Rattle.am_nflog.specs.Needed.{is_update, needed, reason_ended, reason_unlogged, update_reason, NumberingKeepsNeeded};
 
+use crate::lends::Lends;
 use crate::row::LogRow;
 use std::cmp::Ordering;
 
@@ -51,17 +52,17 @@ impl UpdateReason {
 /// `NothingFiring`, `AllResolved`, `NewlyResolved`, `Repeat` or `NotYet`.
 ///
 /// A sum of moment and interval above `u64::MAX` is later than every `t`.
-pub fn update_reason<N: Ord>(
+pub fn update_reason<N: Ord, F: Lends<N>>(
     logged: Option<&LogRow<N>>,
-    firing: &[N],
-    resolved: &[N],
+    firing: &[F],
+    resolved: &[F],
     send_resolved: bool,
     repeat: u64,
     t: u64,
 ) -> UpdateReason
-    requires firing_ascending { IsTrue (is_ascending N.cmp firing.now) }
-    requires resolved_ascending { IsTrue (is_ascending N.cmp resolved.now) }
-    ensures { result ≡ update_reason N.eq (option_copied logged.entry) firing.now resolved.now send_resolved repeat t }
+    requires firing_ascending { IsTrue (is_ascending N.cmp (map F.lent firing.now)) }
+    requires resolved_ascending { IsTrue (is_ascending N.cmp (map F.lent resolved.now)) }
+    ensures { result ≡ update_reason N.eq (option_copied logged.entry) (map F.lent firing.now) (map F.lent resolved.now) send_resolved repeat t }
 {
     let Some(row) = logged else {
         return unlogged(firing);
@@ -82,7 +83,7 @@ pub fn update_reason<N: Ord>(
 }
 
 /// The reason where nothing was logged.
-fn unlogged<N>(firing: &[N]) -> UpdateReason
+fn unlogged<F>(firing: &[F]) -> UpdateReason
     ensures { result ≡ reason_unlogged firing.now }
 {
     if firing.is_empty() {
@@ -104,33 +105,33 @@ fn ended<N: Ord>(row: &LogRow<N>) -> UpdateReason
 }
 
 /// Whether an integration needs an update: whether there is a reason for it, by `update_reason`.
-pub fn needs_update<N: Ord>(
+pub fn needs_update<N: Ord, F: Lends<N>>(
     logged: Option<&LogRow<N>>,
-    firing: &[N],
-    resolved: &[N],
+    firing: &[F],
+    resolved: &[F],
     send_resolved: bool,
     repeat: u64,
     t: u64,
 ) -> bool
-    requires firing_ascending { IsTrue (is_ascending N.cmp firing.now) }
-    requires resolved_ascending { IsTrue (is_ascending N.cmp resolved.now) }
-    ensures { result ≡ needed N.eq (option_copied logged.entry) firing.now resolved.now send_resolved repeat t }
+    requires firing_ascending { IsTrue (is_ascending N.cmp (map F.lent firing.now)) }
+    requires resolved_ascending { IsTrue (is_ascending N.cmp (map F.lent resolved.now)) }
+    ensures { result ≡ needed N.eq (option_copied logged.entry) (map F.lent firing.now) (map F.lent resolved.now) send_resolved repeat t }
 {
     update_reason(logged, firing, resolved, send_resolved, repeat, t).is_update()
 }
 
 /// Whether each of `some` is one of `all`, both strictly ascending: one pass over `all` finds them in turn.
-pub fn is_subset<N: Ord>(some: &[N], all: &[N]) -> bool
-    requires some_ascending { IsTrue (is_ascending N.cmp some.now) }
+pub fn is_subset<N: Ord, F: Lends<N>>(some: &[F], all: &[N]) -> bool
+    requires some_ascending { IsTrue (is_ascending N.cmp (map F.lent some.now)) }
     requires all_ascending { IsTrue (is_ascending N.cmp all.now) }
-    ensures { result ≡ is_subset N.eq some.now all.now }
+    ensures { result ≡ is_subset N.eq (map F.lent some.now) all.now }
 {
     let mut missing = some;
     for next in all {
         let Some((first, rest)) = missing.split_first() else {
             return true;
         };
-        match first.cmp(next) {
+        match first.lend().cmp(next) {
             Ordering::Less => return false,
             Ordering::Equal => missing = rest,
             Ordering::Greater => {}

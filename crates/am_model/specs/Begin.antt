@@ -17,10 +17,11 @@ use Rattle.am_model.specs.declared.config.Config.{Config}
 use Rattle.am_model.specs.declared.config.Integration.{Integration}
 use Rattle.am_model.specs.declared.group.GroupName.{GroupName}
 use Rattle.am_model.specs.declared.record.Reply.{Reply}
-use Rattle.am_model.specs.declared.record.Reply.TheVariants.{NothingDue, Quiet, Flush}
+use Rattle.am_model.specs.declared.record.Reply.TheVariants.{NothingDue, Quiet}
 use Rattle.am_model.specs.declared.views.RowView.{RowView}
 use Rattle.am_model.specs.Configured.{rules_of, route_of, route_muted, integrations_of}
 use Rattle.am_model.specs.Notice.{NoticeData}
+use Rattle.am_model.specs.Records.{flush_reply}
 use Rattle.am_model.specs.Lists.{without, unless, changed_where, in_order, least}
 use Rattle.am_model.specs.State.{GroupState, AskedState, Stamped, FlushState, State, at_moment, is_named, same_name, name_cmp, is_flushing}
 
@@ -124,7 +125,7 @@ count_resolved t g = count_by (λ m. is_resolved m.alert t) g.members
 abbrev pub reply_asking : Config → ℕ → State → ℕ → GroupState → List (ℕ × Integration) → Reply
 reply_asking config id s t g [] = Quiet g.name (count_resolved t g)
 reply_asking config id s t g (i ∷ is) =
-    Flush s.next_number g.name (deadline_of config t g) (map (notice_for config id s t g) (i ∷ is))
+    flush_reply s.next_number g.name (deadline_of config t g) (map (notice_for config id s t g) (i ∷ is))
 
 -- the reply to a begin at t that takes this group
 abbrev pub reply_taking : Config → ℕ → State → ℕ → Option GroupState → Reply

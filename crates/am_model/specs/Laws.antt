@@ -59,7 +59,7 @@ last_begin_after name s t last (Inserted inserted) = last
 last_begin_after name s t last (Silenced silenced) = last
 last_begin_after name s t last NothingDue = last
 last_begin_after name s t last (Quiet group removed) = if same_name name group then Some t else last
-last_begin_after name s t last (Flush number group deadline notices) = if same_name name group then Some t else last
+last_begin_after name s t last (Flush group opened) = if same_name name group then Some t else last
 last_begin_after name s t last (Finished finished) = last
 last_begin_after name s t last (Maintained maintained) = if is_empty (members_in s.groups name) then None else last
 last_begin_after name s t last (Forgotten forgotten) = last
@@ -185,7 +185,7 @@ bare_reply (Inserted inserted) = Inserted inserted
 bare_reply (Silenced silenced) = Silenced (record { replaced = false })
 bare_reply NothingDue = NothingDue
 bare_reply (Quiet group removed) = Quiet group removed
-bare_reply (Flush number group deadline notices) = Flush number group deadline notices
+bare_reply (Flush group opened) = Flush group opened
 bare_reply (Finished finished) = Finished finished
 bare_reply (Maintained maintained) = Maintained maintained
 bare_reply (Forgotten forgotten) = Forgotten (record { alerts = 0; silences = 0 })

@@ -1,11 +1,12 @@
 -- Records: the call and the reply that each keeps.
-use Rattle.std.specs.Prelude.{◌≡◌, ℕ, Some, slice_get}
+use Rattle.std.specs.Prelude.{◌≡◌, ℕ, List, Some, slice_get}
 use Rattle.am_mute.specs.Silence.{SilenceData}
 use Rattle.am_model.specs.declared.record.Call.{Call}
 use Rattle.am_model.specs.declared.record.Call.TheVariants.{Insert, Silence, Begin, Finish, Maintain, Forget, Load, Note}
 use Rattle.am_model.specs.declared.record.Record.{Record}
+use Rattle.am_model.specs.declared.group.GroupName.{GroupName}
 use Rattle.am_model.specs.declared.record.Reply.{Reply}
-use Rattle.am_model.specs.declared.record.Reply.TheVariants.{Noted}
+use Rattle.am_model.specs.declared.record.Reply.TheVariants.{Flush, Noted}
 use Rattle.am_model.specs.Notice.{NoticeData}
 use Rattle.am_model.specs.Ticket.{TicketData, outcome_of}
 
@@ -27,6 +28,10 @@ now_of (Note now number integration outcome) = now
 -- the call of a silence
 abbrev pub call_of_silence : ℕ → SilenceData → Call
 call_of_silence now silence = Silence now silence.id silence.matchers silence.start silence.end
+
+-- the reply to a begin that opened the flush of this number
+abbrev pub flush_reply : ℕ → GroupName → ℕ → List NoticeData → Reply
+flush_reply number group deadline notices = Flush group (record { number = number; deadline = deadline; notices = notices })
 
 -- the record of a note of the notice at this place of a ticket
 abbrev pub IsNoteOf : ℕ → ℕ → TicketData → ℕ → Record → Type 0

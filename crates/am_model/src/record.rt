@@ -65,6 +65,17 @@ pub enum Loaded {
     Expired,
 }
 
+/// The reply to a begin that opened a flush, beside the group.
+#[derive(Debug, Drop)]
+pub struct Opened {
+    /// The number of the flush.
+    pub number: u64,
+    /// When the flush has to be finished, in milliseconds.
+    pub deadline: u64,
+    /// One notice for each integration that is notified.
+    pub notices: Sequence<Notice>,
+}
+
 /// The reply to a note.
 #[derive(Clone, Copy, Debug, PartialEq, Eq)]
 pub struct Noted;
@@ -123,10 +134,8 @@ pub enum Reply {
         removed: usize,
     },
     Flush {
-        number: u64,
         group: GroupName,
-        deadline: u64,
-        notices: Boxed<Sequence<Notice>>,
+        opened: Boxed<Opened>,
     },
     Finished(Finished),
     Maintained(Maintained),
@@ -145,4 +154,4 @@ pub struct Record {
 }
 
 // A history has a record for each call, so what is large in few of them is boxed.
-const _: () = prove!(size_of::<Record>() == 104);
+const _: () = prove!(size_of::<Record>() == 88);

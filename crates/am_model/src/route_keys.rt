@@ -12,7 +12,7 @@ ghost use Rattle.am_alerts.specs.Planted.{IsLaid, part};
 ghost use Rattle.am_alerts.specs.RoutingTree.{last_of};
 ghost use Rattle.am_alerts.specs.declared.limits.TheConstants.{MAX_ROUTES};
 ghost use Rattle.am_model.specs.Lists.{in_order, put_in_order};
-ghost use Rattle.am_model.specs.RouteKeys.{rank, matcher_cmp, matcher_text, matchers_text, key_below, keys_below, root_key, keys_of};
+ghost use Rattle.am_model.specs.RouteKeys.{rank, matcher_cmp, matcher_text, matchers_text, key_below, keys_below, keys_of};
 ghost use Rattle.am_model.specs.KeyIndex.{IsIndexOf, positions_at};
 
 use am_alerts::label_text::push_escaped;

@@ -19,7 +19,7 @@ use Rattle.am_model.specs.declared.record.Call.TheVariants as call
 use Rattle.am_model.specs.declared.record.Reply.TheVariants as reply
 use Rattle.am_model.specs.declared.views.RowView.{RowView}
 use Rattle.am_model.specs.Notice.{NoticeData}
-use Rattle.am_model.specs.Records.{entry}
+use Rattle.am_model.specs.Records.{entry, flush_reply}
 use Rattle.am_model.specs.State.{State}
 
 -- a route to the team by alert name, with 30 seconds, this interval and 4 hours
@@ -114,7 +114,7 @@ notice ticket deadline name integration firing resolved =
     }
 
 abbrev pub flush : ℕ → ℕ → GroupName → ℕ → List NoticeData → Record
-flush now number name deadline notices = entry 0 (call.Begin now) (reply.Flush number name deadline notices)
+flush now number name deadline notices = entry 0 (call.Begin now) (flush_reply number name deadline notices)
 
 -- a flush with the notice of `hook/0` alone
 abbrev pub flush_hook : ℕ → ℕ → GroupName → ℕ → List AlertData → List AlertData → Record

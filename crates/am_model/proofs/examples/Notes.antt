@@ -7,7 +7,7 @@ use Rattle.am_model.specs.declared.record.Call.TheVariants as call
 use Rattle.am_model.specs.declared.record.Record.{Record}
 use Rattle.am_model.specs.declared.record.Reply.TheVariants as reply_is
 use Rattle.am_model.specs.Begin.{is_entry_of}
-use Rattle.am_model.specs.Records.{entry}
+use Rattle.am_model.specs.Records.{entry, flush_reply}
 use Rattle.am_model.specs.look_back.Laws.{reports_delivery, IsOneFlushAtATime, IsToldRightly}
 use Rattle.am_model.specs.look_back.Past.{past_of, replay_past, has_begun, has_finished, was_noted}
 use Rattle.am_model.specs.Replay.{IsLegal}
@@ -59,5 +59,5 @@ noted_for_none : IsOneFlushAtATime (entry 0 (call.Note 31_000 2 0 (Some Delivere
 noted_for_none law = false≢true (law.note_open 2 0 refl).0
 
 -- a flush with no notice breaks the law of what a begin tells
-asks_nobody : IsToldRightly base 30_000 (past_of (insert 0 a 1 1 1 ∷ [])) (reply_is.Flush 1 group_a 330_000 []) → ⊥
+asks_nobody : IsToldRightly base 30_000 (past_of (insert 0 a 1 1 1 ∷ [])) (flush_reply 1 group_a 330_000 []) → ⊥
 asks_nobody told = false≢true (sym told.asks)

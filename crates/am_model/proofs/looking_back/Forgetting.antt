@@ -16,7 +16,7 @@ use Rattle.am_model.specs.declared.config.Config.{Config}
 use Rattle.am_model.specs.declared.config.Integration.{Integration}
 use Rattle.am_model.specs.declared.record.Call.{Call}
 use Rattle.am_model.specs.declared.record.Call.TheVariants.{Insert, Silence, Begin, Finish, Maintain, Forget, Load, Note}
-use Rattle.am_model.specs.declared.record.Reply.TheVariants.{Flush}
+use Rattle.am_model.specs.Records.{flush_reply}
 use Rattle.am_model.specs.Begin.{alert_cmp, label_sets, copied, copy_of, firing_of, resolved_of, asked_about, asked_of, sent, deadline_of, leaving_of, begun_group, reply_asking, reply_taking, flush_asking, after_asking, after_taking, taken}
 use Rattle.am_model.specs.Configured.{rules_of, route_muted}
 use Rattle.am_model.specs.Finish.{after_finish_of}
@@ -131,7 +131,7 @@ module _ (config : Config) (s : State) (ks : List AlertData) (xs : List SilenceD
       told-asking : (id : ℕ) (is : List (ℕ × Integration)) → reply_asking config id other t g is ≡ reply_asking config id s t g is
       told-asking id [] = refl
       told-asking id (i ∷ is) =
-          λ j. Flush s.next_number g.name (deadline_of config t g) (map (λ (k : ℕ × Integration).
+          λ j. flush_reply s.next_number g.name (deadline_of config t g) (map (λ (k : ℕ × Integration).
           let n : NoticeData = record { desk = id; ticket = s.next_number; deadline = deadline_of config t g; group = g.name; integration = k.0; firing = firing j; resolved = sent k.1 (resolved j) } in n) (i ∷ is))
 
       opened : (is : List (ℕ × Integration)) → flush_asking config other t g is ≡ flush_asking config s t g is

@@ -103,7 +103,7 @@ row_of_flush config t integration begun past (Inserted inserted) = None
 row_of_flush config t integration begun past (Silenced silenced) = None
 row_of_flush config t integration begun past NothingDue = None
 row_of_flush config t integration begun past (Quiet group removed) = None
-row_of_flush config t integration begun past (Flush number group deadline notices) =
+row_of_flush config t integration begun past (Flush group opened) =
     Some (record {
       group = group;
       integration = integration;
@@ -183,7 +183,7 @@ tells_put (Inserted inserted) = false
 tells_put (Silenced silenced) = false
 tells_put NothingDue = false
 tells_put (Quiet group removed) = false
-tells_put (Flush number group deadline notices) = false
+tells_put (Flush group opened) = false
 tells_put (Finished finished) = false
 tells_put (Maintained maintained) = false
 tells_put (Forgotten forgotten) = false

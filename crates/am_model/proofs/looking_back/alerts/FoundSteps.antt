@@ -22,7 +22,7 @@ use Rattle.am_model.specs.Begin.{begun_group, without_resolved, count_resolved, 
 use Rattle.am_model.specs.Note.{as_noted, with_note, after_note}
 use Rattle.am_model.specs.Finish.{leaves_by, finished_group, all_succeeded, is_leaving, finished, after_finish}
 use Rattle.am_model.specs.Notice.{NoticeData}
-use Rattle.am_model.specs.Records.{entry, now_of}
+use Rattle.am_model.specs.Records.{entry, flush_reply, now_of}
 use Rattle.am_model.specs.Insert.{names_for, next_stamp, new_group, group_or_new, group_with, put_into_group, inserted, after_insert, same_member}
 use Rattle.am_model.specs.Lists.{upsert, without, changed_where}
 use Rattle.am_model.specs.look_back.Laws.{member_with}
@@ -266,11 +266,11 @@ module _ (config : Config) (s : State) (past : List Record) (k : Finds config s 
         groups = changed_where (is_named g.name) (begun_group config (moment s now)) s.groups;
         flushes = s.flushes ++ flush_asking config s (moment s now) g asked ∷ [];
         next_number = s.next_number + 1;
-      }) (entry pass (call.Begin now) (reply_is.Flush s.next_number g.name (deadline_of config (moment s now) g) (map (notice_for config id s (moment s now) g) asked)) ∷ past)
+      }) (entry pass (call.Begin now) (flush_reply s.next_number g.name (deadline_of config (moment s now) g) (map (notice_for config id s (moment s now) g) asked)) ∷ past)
   finds-flush id pass now g asked steady taken =
       let t = moment s now in
       let notices = map (notice_for config id s t g) asked in
-      let r = entry pass (call.Begin now) (reply_is.Flush s.next_number g.name (deadline_of config t g) notices) in
+      let r = entry pass (call.Begin now) (flush_reply s.next_number g.name (deadline_of config t g) notices) in
       let next = s.next_number in
       let tidy = members-tidy s.inserts g.name s.groups steady.tidy in
       record {

@@ -63,7 +63,7 @@ flush_passes test (Inserted inserted) = false
 flush_passes test (Silenced silenced) = false
 flush_passes test NothingDue = false
 flush_passes test (Quiet group removed) = false
-flush_passes test (Flush number group deadline notices) = test group number
+flush_passes test (Flush group opened) = test group opened.number
 flush_passes test (Finished finished) = false
 flush_passes test (Maintained maintained) = false
 flush_passes test (Forgotten forgotten) = false
@@ -125,7 +125,8 @@ of_number number past (Inserted inserted) = refl
 of_number number past (Silenced silenced) = refl
 of_number number past NothingDue = refl
 of_number number past (Quiet group removed) = refl
-of_number number past (Flush n group deadline notices) =
+of_number number past (Flush group opened) =
+    let n = opened.number in
     elim (n == number) as (λ b. (n == number) ≡ b → (b && not (has_finished n past)) ≡ (b && not (has_finished number past))) [
       | true ↦ λ e. ap (λ m. not (has_finished m past)) (eqb-true n number e)
       | false ↦ λ e. refl
@@ -141,7 +142,7 @@ of_group name (Inserted inserted) = refl
 of_group name (Silenced silenced) = refl
 of_group name NothingDue = refl
 of_group name (Quiet group removed) = refl
-of_group name (Flush n group deadline notices) = refl
+of_group name (Flush group opened) = refl
 of_group name (Finished finished) = refl
 of_group name (Maintained maintained) = refl
 of_group name (Forgotten forgotten) = refl
@@ -155,7 +156,7 @@ of_other test m past (Inserted inserted) = refl
 of_other test m past (Silenced silenced) = refl
 of_other test m past NothingDue = refl
 of_other test m past (Quiet group removed) = refl
-of_other test m past (Flush n group deadline notices) = by (test group n) (m == n) (has_finished n past)
+of_other test m past (Flush group opened) = by (test group opened.number) (m == opened.number) (has_finished opened.number past)
   where
     by : (a b c : Bool) → (a && not (b || c)) ≡ ((not b && a) && not c)
     by true true c = refl

@@ -26,7 +26,7 @@ use Rattle.am_model.specs.look_back.Entry.{latest_first, known_in, silences_in, 
 use Rattle.am_model.specs.Finish.{same_key, row_at, log_with, has_succeeded, logged_by, finished, after_finish}
 use Rattle.am_model.specs.Forget.{is_grouped, is_idle, forgotten, after_forget}
 use Rattle.am_model.specs.Load.{may_load, loaded, is_put, after_load}
-use Rattle.am_model.specs.Records.{entry}
+use Rattle.am_model.specs.Records.{entry, flush_reply}
 use Rattle.am_model.specs.Insert.{same_alert, same_member, inserted, after_insert}
 use Rattle.am_model.specs.look_back.Laws.{member_with}
 use Rattle.am_model.specs.Lists.{upsert, changed_where}
@@ -217,10 +217,10 @@ module _ (config : Config) (s : State) (past : List Record) (k : Finds config s 
         groups = changed_where (is_named g.name) (begun_group config (moment s now)) s.groups;
         flushes = s.flushes ++ flush_asking config s (moment s now) g asked ∷ [];
         next_number = s.next_number + 1;
-      }) (entry pass (call.Begin now) (reply_is.Flush s.next_number g.name (deadline_of config (moment s now) g) (map (notice_for config id s (moment s now) g) asked)) ∷ past)
+      }) (entry pass (call.Begin now) (flush_reply s.next_number g.name (deadline_of config (moment s now) g) (map (notice_for config id s (moment s now) g) asked)) ∷ past)
   tells-flush id pass now g asked steady taken =
       let t = moment s now in
-      let r = entry pass (call.Begin now) (reply_is.Flush s.next_number g.name (deadline_of config t g) (map (notice_for config id s t g) asked)) in
+      let r = entry pass (call.Begin now) (flush_reply s.next_number g.name (deadline_of config t g) (map (notice_for config id s t g) asked)) in
       let next = s.next_number in
       let apart = subst (IsDistinct same_member) taken.own (members-tidy s.inserts g.name s.groups steady.tidy).members in
       let there = λ (labels : List Label). ap (member_with labels) (sym taken.own) ∙ k.found g.name labels in

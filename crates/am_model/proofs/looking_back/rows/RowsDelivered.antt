@@ -129,7 +129,7 @@ row_moment config t i row (q ∷ before) e = by (moment_at (q ∷ before)) q.rep
     by begun (reply_is.Silenced silenced) e = absurd (cc)
     by begun reply_is.NothingDue e = absurd (cc)
     by begun (reply_is.Quiet group removed) e = absurd (cc)
-    by begun (reply_is.Flush number group deadline notices) e = ap (λ (o : Option RowView). moment_or o) (sym e)
+    by begun (reply_is.Flush group opened) e = ap (λ (o : Option RowView). moment_or o) (sym e)
       where
         moment_or : Option RowView → ℕ
         moment_or None = t
@@ -150,7 +150,7 @@ row_there config t i name (q ∷ before) e none = by (moment_at (q ∷ before)) 
     by begun (reply_is.Silenced silenced) e none = false≢true e
     by begun reply_is.NothingDue e none = false≢true e
     by begun (reply_is.Quiet group removed) e none = false≢true e
-    by begun (reply_is.Flush number group deadline notices) e none = absurd (cc)
+    by begun (reply_is.Flush group opened) e none = absurd (cc)
     by begun (reply_is.Finished finished) e none = false≢true e
     by begun (reply_is.Maintained maintained) e none = false≢true e
     by begun (reply_is.Forgotten forgotten) e none = false≢true e

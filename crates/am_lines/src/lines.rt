@@ -1,7 +1,7 @@
 //! `LineReader`: the lines of an input, one after the other. `am_dispatch` calls it.
 //!
 //! A read hands what is there, and the next read comes when all of it was used: a line is answered before more is waited for.
-ghost use Rattle.std.specs.Prelude.{◌≡◌, ◌≢◌, ◌≤◌, ◌<◌, ◌+◌, ◌++◌, ◌∷◌, [], ◌↔◌, List, ℕ, ◌==◌};
+ghost use Rattle.std.specs.Prelude.{◌≡◌, ◌≢◌, ◌≤◌, ◌<◌, ◌+◌, ◌++◌, [], ◌↔◌, List, ℕ, ◌==◌};
 ghost use Rattle.std.specs.Prelude.{IfErr, IfOk, IfSome, IsFalse, IsTrue, OnErr, OnOk, drop, length, vec_len};
 ghost use Rattle.std.specs.List.{position};
 ghost use Rattle.am_cli.specs.declared.transfer.TheConstants.{MAX_INPUT};

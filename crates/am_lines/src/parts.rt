@@ -1,5 +1,5 @@
 //! What several answers tell: label sets, groups, alerts, integrations and notices.
-ghost use Rattle.std.specs.Prelude.{◌≡◌, ◌++◌, ◌∷◌, codes, OnOk};
+ghost use Rattle.std.specs.Prelude.{◌≡◌, ◌++◌, ◌∷◌, OnOk};
 ghost use Rattle.std.specs.List.{flat_map};
 ghost use Rattle.json.specs.Token.{key};
 ghost use Rattle.am_lines.specs.Answer.{alert_members, content_members, integration_members, optional_number, sent_tokens, text_member};

@@ -10,7 +10,7 @@ use am_config::dropped::IgnoredSettings;
 use am_model::config::Config;
 use am_model::group::GroupName;
 use am_model::notice::Notice;
-use am_model::record::{Inserted, Loaded, Reply, Silenced};
+use am_model::record::{Inserted, Loaded, Opened, Reply, Silenced};
 use std::alloc::AllocError;
 
 /// Writes a reply: an object with one member, whose name tells what came, and whose value the reply's numbers and lists.
@@ -22,19 +22,21 @@ pub fn write_reply(config: &Config, reply: &Reply, answer: &mut Answer) -> Resul
         Reply::Silenced(silenced) => write_silenced(silenced, answer),
         Reply::NothingDue => write_named("nothing_due", answer),
         Reply::Quiet { group, removed } => write_quiet(config, group, *removed, answer),
-        Reply::Flush {
-            number,
-            group,
-            deadline,
-            notices,
-        } => write_flush(
-            config,
-            *number,
-            group,
-            *deadline,
-            notices.get().as_slice(),
-            answer,
-        ),
+        Reply::Flush { group, opened } => {
+            let Opened {
+                number,
+                deadline,
+                notices,
+            } = opened.get();
+            write_flush(
+                config,
+                *number,
+                group,
+                *deadline,
+                notices.as_slice(),
+                answer,
+            )
+        }
         Reply::Finished(x) => write_counts(
             "finished", "logged", x.logged, "removed", x.removed, answer,
         ),

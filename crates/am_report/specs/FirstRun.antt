@@ -14,7 +14,7 @@ use Rattle.am_model.specs.declared.record.Record.{Record}
 use Rattle.am_model.specs.declared.record.Reply.TheVariants as reply
 use Rattle.am_model.specs.Config.{greatest_limits}
 use Rattle.am_model.specs.Notice.{NoticeData}
-use Rattle.am_model.specs.Records.{entry}
+use Rattle.am_model.specs.Records.{entry, flush_reply}
 use Rattle.am_model.specs.Replay.{IsLegal}
 use Rattle.am_report.specs.Report.{report_text}
 
@@ -58,7 +58,7 @@ notice =
 abbrev pub history : List Record
 history =
     entry 1 (call.Insert 0 alert) (reply.Inserted (record { stamp = 1; groups = 1; made = 1 }))
-    ∷ entry 0 (call.Begin 30_000) (reply.Flush 1 group 330_000 (notice ∷ []))
+    ∷ entry 0 (call.Begin 30_000) (flush_reply 1 group 330_000 (notice ∷ []))
     ∷ entry 0 (call.Begin 30_000) reply.NothingDue
     ∷ entry 0 (call.Note 30_000 1 0 (Some Delivered)) reply.Noted
     ∷ entry 0 (call.Finish 30_000 1 ((0, Delivered) ∷ [])) (reply.Finished (record { logged = 0; removed = 0 }))

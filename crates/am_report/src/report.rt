@@ -4,9 +4,8 @@
 //! of which nothing was reported would be `unreported`, and no run that succeeds has one. Cost: for
 //! each flush all reports and the records up to its finish, and for each notice the outcomes and
 //! reports of its flush.
-ghost use Rattle.std.specs.Prelude.{◌≡◌, ◌++◌, ◌≤◌, ◌↔◌, ℕ, codes, decimal, length, IfOk, IsTrue, OnOk, string_bytes};
+ghost use Rattle.std.specs.Prelude.{◌≡◌, ◌++◌, ℕ, codes, decimal, IfOk, OnOk, string_bytes};
 ghost use Rattle.std.specs.List.{flat_map, join_by};
-ghost use Rattle.std.specs.Option.{option_copied};
 ghost use Rattle.am_alerts.specs.LabelText.{label_set_text};
 ghost use Rattle.am_model.specs.look_back.Past.{notices_in};
 ghost use Rattle.am_model.specs.Replay.{replay};
@@ -105,7 +104,7 @@ fn notices_in(reply: &Reply) -> &[Notice]
     ensures { result.now ≡ notices_in reply.now }
 {
     match reply {
-        Reply::Flush { notices, .. } => notices.get().as_slice(),
+        Reply::Flush { opened, .. } => opened.get().notices.as_slice(),
         _ => &[],
     }
 }

@@ -29,7 +29,7 @@ flush-expiry config t i begun name past (reply_is.Inserted inserted) is = let h 
 flush-expiry config t i begun name past (reply_is.Silenced silenced) is = let h : false ≡ true = is in cc
 flush-expiry config t i begun name past reply_is.NothingDue is = let h : false ≡ true = is in cc
 flush-expiry config t i begun name past (reply_is.Quiet group removed) is = let h : false ≡ true = is in cc
-flush-expiry config t i begun name past (reply_is.Flush number group deadline notices) is =
+flush-expiry config t i begun name past (reply_is.Flush group opened) is =
     sym (ap (λ (g : GroupName). Some (expiry_at config g t)) (same_name-is name group is))
 flush-expiry config t i begun name past (reply_is.Finished finished) is = let h : false ≡ true = is in cc
 flush-expiry config t i begun name past (reply_is.Maintained maintained) is = let h : false ≡ true = is in cc

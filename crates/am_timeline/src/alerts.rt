@@ -1,7 +1,7 @@
 //! The alerts of a notice, as text. `timeline` and `am_judge` call it.
 ghost use Rattle.std.specs.Prelude.{◌≡◌, ◌++◌, OnOk, codes, string_bytes};
 ghost use Rattle.std.specs.List.{flat_map};
-ghost use Rattle.am_timeline.specs.Shown.{set_shown, sets_shown};
+ghost use Rattle.am_timeline.specs.Shown.{set_shown};
 ghost use Rattle.am_timeline.specs.Timeline.{alerts_text, labels_of};
 
 use crate::shown::push_set;

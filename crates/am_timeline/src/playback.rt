@@ -128,7 +128,7 @@ pub fn notices_in(reply: &Reply) -> &[Notice]
     ensures { result.now ≡ notices_in reply.now }
 {
     match reply {
-        Reply::Flush { notices, .. } => notices.get().as_slice(),
+        Reply::Flush { opened, .. } => opened.get().notices.as_slice(),
         _ => &[],
     }
 }

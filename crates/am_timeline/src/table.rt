@@ -1,8 +1,8 @@
 //! The table of receivers. `am_rehearse` prints it below the timeline. Cost: for each receiver,
 //! that of the timeline.
-ghost use Rattle.std.specs.Prelude.{◌≡◌, ◌≤◌, ◌++◌, IfOk, OnOk, codes, count_by, find, length, option_copied, reverse, string_bytes};
+ghost use Rattle.std.specs.Prelude.{◌≡◌, ◌++◌, IfOk, OnOk, count_by, find, option_copied, reverse, string_bytes};
 ghost use Rattle.std.specs.List.{flat_map};
-ghost use Rattle.am_timeline.specs.Table.{count_text, counts_text, delivers, end_of, end_text, ends_text, fails, is_for, receiver_line};
+ghost use Rattle.am_timeline.specs.Table.{count_text, counts_text, delivers, end_text, ends_text, fails, is_for, receiver_line};
 ghost use Rattle.am_timeline.specs.Table.{table_text};
 
 use crate::playback::Playback;

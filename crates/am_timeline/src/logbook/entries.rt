@@ -1,12 +1,12 @@
 //! Log entries that had expired when flushes began. `logbook` keeps a table of them.
-ghost use Rattle.std.specs.Prelude.{◌≡◌, ◌∷◌, ◌*◌, min, ◌&&◌, ◌==◌, ℕ, IfOk, None, OnOk, if◌then◌else◌};
-ghost use Rattle.std.specs.Prelude.{length, nat_lt, option_and_then, option_copied};
+ghost use Rattle.std.specs.Prelude.{◌≡◌, ◌*◌, min, ◌&&◌, ◌==◌, ℕ, IfOk, None, OnOk, if◌then◌else◌};
+ghost use Rattle.std.specs.Prelude.{nat_lt, option_copied};
 ghost use Rattle.std.specs.HashMap.{get};
 ghost use Rattle.std.specs.Option.{option_or};
-ghost use Rattle.am_model.specs.Configured.{expiry_at, route_of};
+ghost use Rattle.am_model.specs.Configured.{route_of};
 ghost use Rattle.am_model.specs.look_back.Past.{Past};
 ghost use Rattle.am_timeline.specs.Entries.{same_flush_key};
-ghost use Rattle.am_timeline.specs.Expiry.{count_integrations, expired, expired_at, expired_before, expiry_of, flush_group, if_reached};
+ghost use Rattle.am_timeline.specs.Expiry.{count_integrations, expired, expired_before, expiry_of, flush_group, if_reached};
 ghost use Rattle.am_timeline.specs.LastEntry.{expiry_in};
 ghost use Rattle.am_timeline.specs.Log.{Follows, same_log_key};
 

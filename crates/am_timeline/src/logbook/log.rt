@@ -1,6 +1,6 @@
 //! `Log`: what is kept of a history while its expired log entries are found. `logbook` makes one.
-ghost use Rattle.std.specs.Prelude.{◌≡◌, ◌∷◌, ◌&&◌, ◌||◌, ◌==◌, [], ℕ, IfOk, OnOk, Some, not, if◌then◌else◌};
-ghost use Rattle.std.specs.Prelude.{max, min, nat_eq, option_copied};
+ghost use Rattle.std.specs.Prelude.{◌≡◌, ◌∷◌, ◌&&◌, ◌||◌, ◌==◌, [], ℕ, OnOk, Some, not, if◌then◌else◌};
+ghost use Rattle.std.specs.Prelude.{max, min, nat_eq};
 ghost use Rattle.std.specs.HashMap.{get};
 ghost use Rattle.std.specs.HashSet.{contains};
 ghost use Rattle.std.specs.Option.{option_map, option_or};
@@ -9,7 +9,7 @@ ghost use Rattle.am_model.specs.Finish.{is_delivered};
 ghost use Rattle.am_model.specs.State.{same_name};
 ghost use Rattle.am_model.specs.Records.{now_of};
 ghost use Rattle.am_model.specs.look_back.Entry.{row_put};
-ghost use Rattle.am_model.specs.look_back.Past.{Past, is_flush, is_flush_of, is_note, notices_in};
+ghost use Rattle.am_model.specs.look_back.Past.{Past, is_flush, is_flush_of, is_note};
 ghost use Rattle.am_model.specs.declared.group.GroupName as named;
 ghost use Rattle.am_timeline.specs.declared.logbook.log.LastEntry.TheVariants as entries;
 ghost use Rattle.am_timeline.specs.LastEntry.{entry_loaded, entry_of_row};
@@ -139,8 +139,8 @@ fn add_begun<'h>(
     ensures { OnOk result ((number : ℕ) → get nat_eq begun.new number
         ≡ (if is_flush number added.now.reply then Some added.now else get nat_eq begun.old number)) }
 {
-    if let Reply::Flush { number, .. } = &added.reply {
-        begun.insert(*number, Begun { begin: added })?;
+    if let Reply::Flush { opened, .. } = &added.reply {
+        begun.insert(opened.get().number, Begun { begin: added })?;
     }
     Ok(())
 }
@@ -289,10 +289,10 @@ fn log_finish(
         flush.now then Some (entries.Logged moment) else get same_log_key logged.old (record { group = name; integration = i }))) }
 {
     match &flush.reply {
-        Reply::Flush { group, notices, .. } => log_notices(
+        Reply::Flush { group, opened } => log_notices(
             alloc,
             group,
-            notices.get().as_slice(),
+            opened.get().notices.as_slice(),
             number,
             outcomes,
             noted,

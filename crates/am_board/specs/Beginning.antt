@@ -1,8 +1,10 @@
 -- Beginning: between the code of a begin and the definition Begin. What it finds in its group, and the flush that it opens.
 use Rattle.std.specs.Prelude.{◌≡◌, ℕ, ◌&&◌, Bool, IsTrue, List, [], filter, map, Some, if◌then◌else◌, ◌≢◌, ◌*◌, ◌≤◌, ◌<◌, ◌⊎◌, min}
 use Rattle.std.specs.Prelude.{IfSome, All, Option, None, Result, Ok, Err, vec_len, vec_capacity, ◌+◌, not, nat_le, length, slice_index_or}
+use Rattle.std.specs.Borrow.{Bor}
 use Rattle.am_alerts.specs.AlertData.{AlertData, is_resolved}
 use Rattle.am_alerts.specs.Labels.{label_set_cmp}
+use Rattle.am_alerts.specs.declared.labels.Label.{Label}
 use Rattle.am_mute.specs.Inhibit.{RuleData}
 use Rattle.am_mute.specs.Mute.{is_muted}
 use Rattle.am_nflog.specs.Members.{is_ascending, is_empty}
@@ -14,6 +16,7 @@ use Rattle.am_board.specs.declared.flush.LeavingAlert.{LeavingAlert}
 use Rattle.am_board.specs.declared.flush.OpenFlush.{OpenFlush}
 use Rattle.am_board.specs.declared.flush.AlertSets.{AlertSets}
 use Rattle.am_board.specs.declared.unmuted.Unmuted.{Unmuted}
+use Rattle.am_board.specs.declared.unmuted.UnmutedMembers.{UnmutedMembers}
 use Rattle.am_board.specs.declared.group.Group.{Group}
 use Rattle.am_model.specs.declared.group.GroupName.{GroupName}
 use Rattle.am_board.specs.declared.group.Member.{Member}
@@ -54,6 +57,18 @@ resolved_among rules s t members = filter (λ a. is_resolved a t) (copy_among ru
 pub record IsUnmuted (config : Config) (s : State) (t : ℕ) (g : GroupState) (unmuted : Unmuted) : Type 0 where
   pub firing : unmuted.firing ≡ firing_of config s t g
   pub resolved : unmuted.resolved ≡ resolved_of config s t g
+
+-- what a flush at t copies of members that are lent
+abbrev pub copies_at : ℕ → List (Bor Member) → List AlertData
+copies_at t members = map (λ m. copied t m.now.alert) members
+
+-- the label set of a member that is lent
+abbrev pub lent_labels : Bor Member → List Label
+lent_labels m = m.now.alert.labels
+
+-- what a flush at t copies of what is unmuted
+abbrev pub unmuted_in : ℕ → UnmutedMembers → Unmuted
+unmuted_in t found = record { firing = copies_at t found.firing.items; resolved = copies_at t found.resolved.items }
 
 -- the label sets of what is unmuted
 abbrev pub alert_sets_of : Unmuted → AlertSets
@@ -124,7 +139,7 @@ pub record IsPlannedFlush (config : Config) (id : ℕ) (s : State) (t : ℕ) (g 
   pub group : o.group ≡ g.name
   pub recorded_group : o.recorded_group ≡ g.name
   pub notices : o.notices.items ≡ map (notice_for config id s t g) (asked_of config s t g)
-  pub recorded_notices : o.recorded_notices ≡ map (notice_for config id s t g) (asked_of config s t g)
+  pub recorded : o.recorded ≡ record { number = o.number; deadline = o.deadline; notices = o.notices.items }
   pub outcomes : o.outcomes.items ≡ []
   pub none : vec_len o.outcomes ≡ 0
   pub room : vec_len o.notices ≤ vec_capacity o.outcomes

@@ -14,6 +14,7 @@ use Rattle.am_board.specs.declared.fault.FinishFault.{FinishFault}
 use Rattle.am_board.specs.declared.fault.FinishFault.TheVariants.{Foreign, NotOpen}
 use Rattle.am_model.specs.declared.record.Finished.{Finished}
 use Rattle.am_model.specs.Ticket.{TicketData}
+use Rattle.am_model.specs.Records.{flush_reply}
 use Rattle.am_model.specs.Replay.{reply, replay}
 use Rattle.am_model.specs.State.{State}
 
@@ -67,7 +68,7 @@ IsReplyAt board call told = reply board.config board.id (state_at board) call �
 abbrev pub reply_of : Begun → Reply
 reply_of NothingDue = replies.NothingDue
 reply_of (Quiet group removed) = replies.Quiet group removed
-reply_of (Flush ticket) = replies.Flush ticket.number ticket.group ticket.deadline ticket.notices
+reply_of (Flush ticket) = flush_reply ticket.number ticket.group ticket.deadline ticket.notices
 
 -- the ticket of a flush names this desk, and nothing is recorded in it
 abbrev pub IsFresh : ℕ → Begun → Type 0

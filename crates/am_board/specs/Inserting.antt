@@ -89,12 +89,16 @@ pub record IsPlacementOf (tree : RoutingTree) (m : MemberState) (p : Placement) 
   pub bounded : p.wait ≤ MAX_DURATION
   pub member : member_state p.member ≡ m
 
--- what an insert found: there is room for its record and for its label set, the known alert is the one with its labels, and the groups
--- are those that it goes to
+-- a placement has all that puts this alert into its group, whose place was found
+abbrev pub IsToPut : RoutingTree → List Group → MemberState → Placement → Type 0
+IsToPut tree groups m p = IsFound groups (target_of p) × IsEmptyWithRoom p × IsPlacementOf tree m p
+
+-- what an insert found: there is room for its record and for its label set, the known alert is the one with its labels, and the
+-- placements put it into the groups that it goes to
 pub record IsWhereToPut (config : Config) (s : State) (alert : AlertData) (found : Found) : Type 0 where
   pub room : is_full config (vec_len s.history) (state_of s) 1 ≡ false
   pub few : is_name_too_many config (state_of s) alert ≡ false
   pub place : found.place ≡ position (same_alert alert) s.known.items
   pub within : IfSome found.place (λ i. i < length s.known.items)
-  pub names : map (λ t. t.name) found.targets.items ≡ names_for config alert.labels
-  pub targets : All (IsFound s.groups.items) found.targets.items
+  pub names : map (λ p. p.name) found.placements.items ≡ names_for config alert.labels
+  pub placements : All (IsToPut config.routes s.groups.items (stamped_alert alert (s.inserts + 1))) found.placements.items

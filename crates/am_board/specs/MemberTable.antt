@@ -1,13 +1,12 @@
 -- MemberTable: the stored alerts of a group, with the order of their labels.
-use Rattle.std.specs.Prelude.{ℕ, List, Option, Vec}
-use Rattle.std.specs.Global.{Global}
+use Rattle.std.specs.Prelude.{ℕ, List}
 use Rattle.std.specs.Map.{values_of}
 use Rattle.am_alerts.specs.declared.labels.Label.{Label}
 use Rattle.am_board.specs.declared.group.Member.{Member}
 use Rattle.am_board.specs.Members.{AreMembers}
 use Rattle.am_board.specs.Order.{IsOrder}
 
--- each alert stands under its labels, and the order by labels, if it is kept, is that of these alerts
-pub record IsTable (entries : List (List Label × Member)) (order : Option (Vec ℕ Global)) : Type 0 where
+-- each alert stands under its labels, and the places that are kept are theirs
+pub record IsTable (entries : List (List Label × Member)) (order : List ℕ) : Type 0 where
   pub members : AreMembers entries
   pub sorted : IsOrder order (values_of entries)

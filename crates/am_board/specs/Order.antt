@@ -1,6 +1,5 @@
 -- Order: the alerts of a group in the order of their labels, as places.
-use Rattle.std.specs.Prelude.{◌≡◌, ℕ, List, Option, IfSome, Vec, length, map, slice_get}
-use Rattle.std.specs.Global.{Global}
+use Rattle.std.specs.Prelude.{◌≡◌, ◌≤◌, ℕ, List, IsPermutation, length, map, slice_get}
 use Rattle.std.specs.List.{range_with_len}
 use Rattle.std.specs.Option.{option_cmp}
 use Rattle.std.specs.declared.cmp.Ordering.{Ordering}
@@ -22,6 +21,12 @@ place_cmp sets i j = option_cmp label_set_cmp (slice_get sets i) (slice_get sets
 abbrev pub places_in_order : List (List Label) → List ℕ
 places_in_order sets = in_order (place_cmp sets) (range_with_len 0 (length sets))
 
--- if places are kept, they are those of the alerts in the order of their labels
-abbrev pub IsOrder : Option (Vec ℕ Global) → List Member → Type 0
-IsOrder order members = IfSome order (λ places. places.items ≡ places_in_order (map labels_of members))
+-- these are the first so many places, each once
+abbrev pub AreFirst : List ℕ → Type 0
+AreFirst places = IsPermutation (range_with_len 0 (length places)) places
+
+-- the places of the first alerts are kept, and if those of all are, they are in the order of labels
+pub record IsOrder (order : List ℕ) (members : List Member) : Type 0 where
+  pub first : AreFirst order
+  pub within : length order ≤ length members
+  pub sorted : length order ≡ length members → order ≡ places_in_order (map labels_of members)

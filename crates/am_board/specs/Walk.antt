@@ -9,7 +9,7 @@ use Rattle.am_mute.specs.declared.mute.MuteCause.{MuteCause}
 use Rattle.am_model.specs.Begin.{copied}
 use Rattle.am_model.specs.State.{State}
 use Rattle.am_model.specs.declared.preview.MutedAlert.{MutedAlert}
-use Rattle.am_board.specs.Beginning.{firing_among, resolved_among}
+use Rattle.am_board.specs.Beginning.{copies_at, firing_among, resolved_among}
 use Rattle.am_board.specs.Members.{labels_of}
 use Rattle.am_board.specs.Order.{places_in_order}
 use Rattle.am_board.specs.declared.group.Member.{Member}
@@ -61,8 +61,8 @@ muted_member causes m = option_map (λ c. record { labels = m.alert.labels; caus
 -- what a walk that wants causes or not finds at these places among members
 pub record AreFound (rules : List RuleData) (s : State) (t : ℕ) (members : List Member) (places : List ℕ)
     (causes : Bool) (walk : Walk) : Type 0 where
-  pub firing : walk.firing.items ≡ firing_among rules s t (filter_map (slice_get members) places)
-  pub resolved : walk.resolved.items ≡ resolved_among rules s t (filter_map (slice_get members) places)
+  pub firing : copies_at t walk.firing.items ≡ firing_among rules s t (filter_map (slice_get members) places)
+  pub resolved : copies_at t walk.resolved.items ≡ resolved_among rules s t (filter_map (slice_get members) places)
   pub muted : walk.muted.items ≡ (if causes then filter_map (muted_at (cause_of rules s t) members) places else [])
 
 -- what a walk over members finds, in the order of their labels

@@ -6,7 +6,6 @@
 //! on the stack until all groups are found (`put_in_each`), so from the first change on nothing can
 //! fail.
 ghost use Rattle.std.specs.Prelude.{◌≡◌, ◌<◌, ◌≤◌, IfSome, Some, length, position};
-ghost use Rattle.am_alerts.specs.RoutingTree.{last_of};
 ghost use Rattle.am_board.specs.Again.{PutsAgain, PutsInEach};
 ghost use Rattle.am_board.specs.Group.{AreRouted};
 ghost use Rattle.am_board.specs.Inserting.{stamped_alert};

@@ -5,8 +5,8 @@
 //! `prepare` sorts it and notes what no silence mutes, `plan` finds what is unmuted and whom to
 //! notify, and `begin_planned` ends the begin. `previewed` has the same steps, with a preview in the
 //! place of what `plan` finds. A begin that opens a flush allocates in this order:
-//! - the unmuted alerts, their label sets, the reasons of the integrations;
-//! - all that goes into the board and the ticket;
+//! - the references to the unmuted alerts, the reasons of the integrations;
+//! - the copies of these alerts, and all else that goes into the board and the ticket;
 //! - the capacity of the history, the open flush, the log keys.
 //!
 //! `TooManyOpen` comes once it is known that an integration needs an update. Log keys of a failed
@@ -266,10 +266,8 @@ fn begin_flush(
         pass: chosen.pass,
         call: Call::Begin { now: chosen.now },
         reply: Reply::Flush {
-            number: planned.number,
             group: planned.recorded_group,
-            deadline: planned.deadline,
-            notices: planned.recorded_notices,
+            opened: planned.recorded,
         },
     });
     Ok(Begun::Flush(Ticket {

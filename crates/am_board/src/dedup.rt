@@ -2,7 +2,8 @@
 //! call `decide`.
 //!
 //! One walk over the integrations finds the reason of each. `update_reason` of `am_nflog` alone
-//! decides: an integration is notified if its reason says so.
+//! decides: an integration is notified if its reason says so. It compares the label sets where they
+//! stand in the group.
 ghost use Rattle.std.specs.Prelude.{◌≡◌, ◌+◌, ◌<◌, ◌≤◌, ◌^◌, All, IfOk, IfSome, length};
 ghost use Rattle.std.specs.List.{enumerate_from};
 ghost use Rattle.std.specs.Option.{option_copied};
@@ -10,15 +11,16 @@ ghost use Rattle.am_alerts.specs.RoutingTree.{last_of};
 ghost use Rattle.am_model.specs.Configured.{HaveFewIntegrations, integrations_of};
 ghost use Rattle.am_model.specs.declared.config.TheConstants.{MAX_INTEGRATIONS};
 ghost use Rattle.am_model.specs.look_back.Reasons.{reason_of_update};
+ghost use Rattle.am_board.specs.Beginning.{AreRising, alert_sets_of, unmuted_in};
 ghost use Rattle.am_board.specs.Dedup.{EndsInTime, AreDecided, reason_among, reason_for, reason_told_by};
 ghost use Rattle.am_board.specs.Refinement.{state_of};
 ghost use Rattle.am_board.specs.LogRows.{log_rows};
 
 use crate::config::{Config, Integration};
-use crate::flush::AlertSets;
 use crate::group::GroupName;
 use crate::reason::Reason;
 use crate::state::State;
+use crate::unmuted::UnmutedMembers;
 use am_alerts::labels::Labels;
 use am_alerts::limits::MAX_MOMENT;
 use am_nflog::{LogKey, LogRow, NfLog, UpdateReason, update_reason};
@@ -38,7 +40,7 @@ pub(crate) struct Decided {
     pub(crate) asked: Vec<Update>,
 }
 
-/// Decides whether each integration of a group's receiver needs an update about these label sets, and
+/// Decides whether each integration of a group's receiver needs an update about what is unmuted, and
 /// why. None does where the group's route is muted until a time.
 pub(crate) fn decide(
     alloc: Global,
@@ -46,14 +48,16 @@ pub(crate) fn decide(
     state: &State,
     group: &GroupName,
     muted_until: Option<u64>,
-    sets: &AlertSets,
+    unmuted: &UnmutedMembers,
     t: u64,
 ) -> Result<Decided, AllocError>
+    requires rising { AreRising (unmuted_in t unmuted.now) }
     requires route { group.now.route ≤ last_of config.now.routes }
     requires few { HaveFewIntegrations config.now }
     requires moments { All (λ row. row.moment ≤ MAX_MOMENT) (log_rows state.now.log) }
     ensures { IfOk result
-        (AreDecided (reason_for config.now (state_of state.now) group.now muted_until sets.now t) (integrations_of config.now group.now)) }
+        (AreDecided (reason_for config.now (state_of state.now) group.now muted_until (alert_sets_of (unmuted_in t unmuted.now)) t)
+        (integrations_of config.now group.now)) }
 {
     let route = config.routes.route(group.route);
     let Some(receiver) = config.receiver(route.receiver.as_str()) else {
@@ -70,7 +74,7 @@ pub(crate) fn decide(
             integrations,
             &state.log,
             group,
-            sets,
+            unmuted,
             route.repeat_interval,
             t,
         ),
@@ -101,14 +105,16 @@ fn decide_each(
     integrations: &[Integration],
     log: &NfLog<GroupName, Labels>,
     group: &GroupName,
-    sets: &AlertSets,
+    unmuted: &UnmutedMembers,
     repeat_interval: u64,
     t: u64,
 ) -> Result<Decided, AllocError>
+    requires rising { AreRising (unmuted_in t unmuted.now) }
     requires few { length integrations.now ≤ MAX_INTEGRATIONS }
     requires fits { All (λ row. row.moment + repeat_interval + 1 < 2 ^ 64) (log_rows log.now) }
     ensures { IfOk result
-        (AreDecided (reason_among (log_rows log.now) group.now sets.now repeat_interval t) (enumerate_from 0 integrations.now)) }
+        (AreDecided (reason_among (log_rows log.now) group.now (alert_sets_of (unmuted_in t unmuted.now)) repeat_interval t)
+        (enumerate_from 0 integrations.now)) }
 {
     let mut reasons = Vec::with_capacity(alloc, integrations.len())?;
     let mut asked = Vec::new(alloc);
@@ -119,7 +125,7 @@ fn decide_each(
     for integration in integrations {
         let row = log.get(&key);
         let send_resolved = integration.send_resolved;
-        let reason = reason(row, sets, send_resolved, repeat_interval, t);
+        let reason = reason(row, unmuted, send_resolved, repeat_interval, t);
         reasons.push(reason)?;
         if reason.asks() {
             asked.push(Update {
@@ -135,19 +141,21 @@ fn decide_each(
 /// Returns why an integration with this log row is notified, or why not.
 fn reason(
     logged: Option<&LogRow<Labels>>,
-    sets: &AlertSets,
+    unmuted: &UnmutedMembers,
     send_resolved: bool,
     repeat_interval: u64,
     t: u64,
 ) -> Reason
-    requires { IfSome (option_copied logged) (λ row. row.moment + repeat_interval + 1 < 2 ^ 64) }
-    ensures { result ≡ reason_told_by (option_copied logged.entry) sets.now send_resolved repeat_interval t }
+    requires rising { AreRising (unmuted_in t unmuted.now) }
+    requires fits { IfSome (option_copied logged) (λ row. row.moment + repeat_interval + 1 < 2 ^ 64) }
+    ensures { result
+        ≡ reason_told_by (option_copied logged.entry) (alert_sets_of (unmuted_in t unmuted.now)) send_resolved repeat_interval t }
 {
-    let firing = sets.firing.as_slice();
-    let resolved = sets.resolved.as_slice();
-    if firing.is_empty() && resolved.is_empty() {
+    if unmuted.is_empty() {
         return Reason::NothingLeft;
     }
+    let firing = unmuted.firing.as_slice();
+    let resolved = unmuted.resolved.as_slice();
     let update = update_reason(logged, firing, resolved, send_resolved, repeat_interval, t);
     reason_of_update(update, repeat_interval)
 }

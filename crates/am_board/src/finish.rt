@@ -12,7 +12,7 @@ ghost use Rattle.am_model.specs.Finish.{has_succeeded as succeeds, is_delivered 
 ghost use Rattle.am_board.specs.Group.{names_of};
 ghost use Rattle.am_model.specs.Records.{entry};
 ghost use Rattle.am_model.specs.Insert.{same_group};
-ghost use Rattle.am_board.specs.Refinement.{IsAsked, asked_state_of, member_state, stamped, group_state, flush_state};
+ghost use Rattle.am_board.specs.Refinement.{IsAsked, asked_state_of, member_state, stamped, group_state};
 ghost use Rattle.am_board.specs.LogRows.{log_rows};
 ghost use Rattle.am_model.specs.Lists.{without, changed_where};
 ghost use Rattle.am_board.specs.Finishing.{row_of_sets, logged_of, rows_with, leaves_where, without_leaving, KnowTheSame};

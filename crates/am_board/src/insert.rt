@@ -1,9 +1,11 @@
-//! Inserts: `Board::insert` calls `put_alert`, which finds the groups first and changes the state
-//! last.
+//! Inserts: `Board::insert` calls `put_alert`. An alert that is known, and that all its groups have,
+//! is written in place (`again`). For any other one `put_routed` finds the groups first and changes
+//! the state last.
 //!
-//! Memory is allocated in this order. First come the names of the groups and the list for the name
-//! cache. Each name is found once. Then, if no limit is passed, come the copies (`prepare_all`),
-//! and the capacity of the history, the known alerts, the groups and each group (`reserve_insert`).
+//! Then memory is allocated in this order. First comes, for each group, its name and all that the
+//! insert puts into it (`find_placements`), in one list, since a list more would cost each insert.
+//! Each name is found once. Next comes the list for the name cache. Then, if no limit is passed, comes
+//! the capacity of the history, the known alerts, the groups and each group (`reserve_insert`).
 //! From the first change on nothing can fail. Groups are added last, and no two routes have one
 //! group, so no place that was found moves, and each group needs capacity for one alert. At the end
 //! the names are cached, if memory allows. `Board::insert` then has a new label set learned by the
@@ -19,10 +21,10 @@ ghost use Rattle.am_board.specs.Group.{names_of, AreRouted, AddsAtMost, HasRoom}
 ghost use Rattle.am_model.specs.Causes.{insert_cause, is_full, is_name_too_many};
 ghost use Rattle.am_model.specs.Records.{entry};
 ghost use Rattle.am_model.specs.Insert.{same_alert, put_into_group, names_for, after_insert};
-ghost use Rattle.am_board.specs.Refinement.{state_of, member_state, group_state};
+ghost use Rattle.am_board.specs.Refinement.{state_of, group_state};
 ghost use Rattle.am_board.specs.Step.{MAX_CALLS, StateInvariant, AppliesCall, LeavesUnchanged, IsAnswer};
 ghost use Rattle.std.specs.List.{IsDistinct};
-ghost use Rattle.am_board.specs.Inserting.{IsFound, AreFound, AreApart, place_in, target_of};
+ghost use Rattle.am_board.specs.Inserting.{IsFound, AreFound, AreApart, IsToPut, place_in, target_of};
 ghost use Rattle.am_board.specs.Inserting.{IsReservedState, IsReadyFor, IsEmptyWithRoom, HaveRoom};
 ghost use Rattle.am_board.specs.Inserting.{AreRoutedPlacements, IsPlacementOf, IsWhereToPut, name_at, stamped_alert};
 ghost use Rattle.am_model.specs.State.{MemberState, same_name};
@@ -77,8 +79,8 @@ pub(crate) struct Placement {
 pub(crate) struct Found {
     /// The place of the known alert with its labels, if there is one.
     pub(crate) place: Option<usize>,
-    /// The groups that the alert goes to, in the order of its routes.
-    pub(crate) targets: Vec<Target>,
+    /// What it puts into each of the alert's groups, in the order of its routes.
+    pub(crate) placements: Vec<Placement>,
 }
 
 /// Adds an alert to the known ones and to the groups of its routes, and caches the groups' names.
@@ -140,11 +142,11 @@ fn put_routed(
     ensures kept { AreKept config.now state.new.known.items destinations.new }
 {
     let kept = destinations.of(place);
-    let labels = alert.labels();
-    let targets = find_targets(alloc, &config.routes, &state.groups, kept, labels)?;
-    let names = new_names(alloc, kept, targets.as_slice());
+    let stamp = state.inserts + 1;
+    let placements = find_placements(alloc, config, &state.groups, kept, &alert, stamp)?;
+    let names = new_names(alloc, kept, placements.as_slice());
     let number = place.unwrap_or(state.known.len());
-    let found = Found { place, targets };
+    let found = Found { place, placements };
     let inserted = put_found(alloc, config, state, found, pass, now, alert);
     if inserted.is_ok() {
         destinations.keep(number, names);
@@ -187,15 +189,13 @@ fn put_found(
         (λ fault. IsAnswer (insert_cause config.now (vec_len state.old.history) (state_of state.old) alert) fault
         × LeavesUnchanged config.now state.old state.new) }
 {
-    let Found { place, targets } = found;
+    let Found { place, placements } = found;
     let t = state.moment(now);
     let stamp = state.inserts + 1;
-    let made = count_missing(targets.as_slice());
+    let made = count_missing(placements.as_slice());
     if state.groups.len() + made > config.limits.groups {
         return Err(Fault::TooManyGroups);
     }
-    let seed = state.groups.seed();
-    let placements = prepare_all(alloc, seed, &config.routes, targets, &alert, stamp)?;
     let labels = alert.labels().copy(alloc)?;
     let copy = alert.copy(alloc)?;
     reserve_insert(state, placements.as_slice())?;
@@ -278,61 +278,80 @@ fn reserve_insert(state: &mut State, placements: &[Placement]) -> Result<(), All
     reserve_all(&mut state.groups, placements)
 }
 
-/// Returns the groups that an alert goes to, in the order of its routes, by cached names if there
-/// are any.
-fn find_targets(
+/// Returns what an insert puts into each group that its alert goes to, in the order of its routes,
+/// by cached names if there are any.
+fn find_placements(
+    alloc: Global,
+    config: &Config,
+    groups: &Groups,
+    kept: Option<&Sequence<GroupName>>,
+    alert: &Alert,
+    stamp: u64,
+) -> Result<Vec<Placement>, AllocError>
+    requires kept { IfSome kept (λ names. names.now ≡ names_for config.now alert.now.labels) }
+    ensures names { IfOk result (λ placements. map (λ p. p.name) placements.items ≡ names_for config.now alert.now.labels) }
+    ensures found { IfOk result (λ placements.
+        All (IsToPut config.now.routes groups.now.items (stamped_alert alert.now stamp)) placements.items) }
+{
+    match kept {
+        Some(names) => find_named(
+            alloc,
+            &config.routes,
+            groups,
+            names.as_slice(),
+            alert,
+            stamp,
+        ),
+        None => find_routed(alloc, &config.routes, groups, alert, stamp),
+    }
+}
+
+/// What the insert of an alert puts into each of the groups of these names, in their order.
+fn find_named(
     alloc: Global,
     routes: &Routes,
     groups: &Groups,
-    kept: Option<&Sequence<GroupName>>,
-    labels: &Labels,
-) -> Result<Vec<Target>, AllocError>
-    requires kept { IfSome kept (λ names. names.now ≡ map (name_at routes.now labels.now) (routes_of routes.now labels.now)) }
-    ensures names { IfOk result (λ targets.
-        map (λ t. t.name) targets.items ≡ map (name_at routes.now labels.now) (routes_of routes.now labels.now)) }
-    ensures found { IfOk result (λ targets. All (IsFound groups.now.items) targets.items) }
-{
-    match kept {
-        Some(names) => find_named(alloc, groups, names.as_slice()),
-        None => find_routed(alloc, routes, groups, labels),
-    }
-}
-
-/// The groups of these names, in their order.
-fn find_named(
-    alloc: Global,
-    groups: &Groups,
     names: &[GroupName],
-) -> Result<Vec<Target>, AllocError>
-    ensures names { IfOk result (λ targets. map (λ t. t.name) targets.items ≡ names.now) }
-    ensures found { IfOk result (λ targets. All (IsFound groups.now.items) targets.items) }
+    alert: &Alert,
+    stamp: u64,
+) -> Result<Vec<Placement>, AllocError>
+    requires { AreRouted routes.now names.now }
+    ensures names { IfOk result (λ placements. map (λ p. p.name) placements.items ≡ names.now) }
+    ensures found { IfOk result (λ placements.
+        All (IsToPut routes.now groups.now.items (stamped_alert alert.now stamp)) placements.items) }
 {
-    let mut targets = Vec::with_capacity(alloc, names.len())?;
+    let mut placements = Vec::with_capacity(alloc, names.len())?;
     for name in names {
         let place = groups.find(name);
         let name = name.copy(alloc)?;
-        targets.push(Target { name, place })?;
+        let target = Target { name, place };
+        placements.push(prepare(alloc, groups.seed(), routes, target, alert, stamp)?)?;
     }
-    Ok(targets)
+    Ok(placements)
 }
 
-/// Returns the groups that an alert goes to, in the order of its routes, by names that it computes.
+/// Returns what the insert of an alert puts into each group that the alert goes to, in the order of
+/// its routes, by names that it computes.
 fn find_routed(
     alloc: Global,
     routes: &Routes,
     groups: &Groups,
-    labels: &Labels,
-) -> Result<Vec<Target>, AllocError>
-    ensures names { IfOk result (λ targets.
-        map (λ t. t.name) targets.items ≡ map (name_at routes.now labels.now) (routes_of routes.now labels.now)) }
-    ensures found { IfOk result (λ targets. All (IsFound groups.now.items) targets.items) }
+    alert: &Alert,
+    stamp: u64,
+) -> Result<Vec<Placement>, AllocError>
+    ensures names { IfOk result (λ placements. map (λ p. p.name) placements.items
+        ≡ map (name_at routes.now alert.now.labels) (routes_of routes.now alert.now.labels)) }
+    ensures found { IfOk result (λ placements.
+        All (IsToPut routes.now groups.now.items (stamped_alert alert.now stamp)) placements.items) }
 {
+    let labels = alert.labels();
     let positions = routes.of(alloc, labels)?;
-    let mut targets = Vec::with_capacity(alloc, positions.len())?;
+    let mut placements = Vec::with_capacity(alloc, positions.len())?;
     for route in &positions {
-        targets.push(find_target(alloc, routes, groups, *route, labels)?)?;
+        let target = find_target(alloc, routes, groups, *route, labels)?;
+        placements.push(prepare(alloc, groups.seed(), routes, target, alert, stamp)?)?;
     }
-    Ok(targets)
+    Ok(placements)
 }
 
 /// The group that an alert of these labels goes to by one route.
@@ -377,56 +396,35 @@ fn own_name(
 fn new_names(
     alloc: Global,
     kept: Option<&Sequence<GroupName>>,
-    targets: &[Target],
+    placements: &[Placement],
 ) -> Option<Sequence<GroupName>>
-    ensures { IfSome result (λ names. names ≡ map (λ t. t.name) targets.now) }
+    ensures { IfSome result (λ names. names ≡ map (λ p. p.name) placements.now) }
 {
     match kept {
         Some(_) => None,
-        None => names_of(alloc, targets).ok(),
+        None => names_of(alloc, placements).ok(),
     }
 }
 
-/// The names of these groups.
-fn names_of(alloc: Global, targets: &[Target]) -> Result<Sequence<GroupName>, AllocError>
-    ensures { IfOk result (λ names. names ≡ map (λ t. t.name) targets.now) }
+/// The names of the groups that these placements go to.
+fn names_of(alloc: Global, placements: &[Placement]) -> Result<Sequence<GroupName>, AllocError>
+    ensures { IfOk result (λ names. names ≡ map (λ p. p.name) placements.now) }
 {
-    let mut names = Vec::with_capacity(alloc, targets.len())?;
-    for target in targets {
-        names.push(target.name.copy(alloc)?)?;
+    let mut names = Vec::with_capacity(alloc, placements.len())?;
+    for placement in placements {
+        names.push(placement.name.copy(alloc)?)?;
     }
     Ok(Sequence::from(names))
 }
 
-/// How many of these groups aren't there.
-fn count_missing(targets: &[Target]) -> usize
-    ensures { result ≡ count_by (λ t. is_none t.place) targets.now }
+/// How many groups have to be made for these placements.
+fn count_missing(placements: &[Placement]) -> usize
+    ensures { result ≡ count_by (λ p. is_none p.place) placements.now }
 {
-    targets
+    placements
         .iter()
-        .filter(|target| target.place.is_none())
+        .filter(|placement| placement.place.is_none())
         .count()
-}
-
-/// What the insert of an alert puts into each of these groups.
-fn prepare_all(
-    alloc: Global,
-    seed: Seed,
-    routes: &Routes,
-    targets: Vec<Target>,
-    alert: &Alert,
-    stamp: u64,
-) -> Result<Vec<Placement>, AllocError>
-    requires { All (λ t. t.name.route ≤ last_of routes.now) targets.items }
-    ensures targets { IfOk result (λ placements. map target_of placements.items ≡ targets.items) }
-    ensures ready { IfOk result (λ placements. All IsEmptyWithRoom placements.items) }
-    ensures placed { IfOk result (λ placements. All (IsPlacementOf routes.now (stamped_alert alert.now stamp)) placements.items) }
-{
-    let mut placements = Vec::with_capacity(alloc, targets.len())?;
-    for target in targets {
-        placements.push(prepare(alloc, seed, routes, target, alert, stamp)?)?;
-    }
-    Ok(placements)
 }
 
 /// What the insert of an alert puts into one of its groups.

@@ -10,8 +10,8 @@
 //!   tables as plain lists in the order of arrival, with their capacity.
 //! - `due`, `order`, `noted`, `unsilenced`, `destinations`: indexes and caches, which only save time. No contract above
 //!   them mentions them.
-//! - `insert`, `silence`, `begin` (with `walk`, `unmuted`, `dedup`, `plan`), `note`, `finish`, `maintain`,
-//!   `forget`, `load`: one module for each call, named after it.
+//! - `insert` (with `again`), `silence`, `begin` (with `walk`, `unmuted`, `dedup`, `plan`), `note`, `finish`,
+//!   `maintain`, `forget`, `load`: one module for each call, named after it.
 //!
 //! Each module of a call has one function over the plain state with the exact contract. It relies
 //! on `StateInvariant` and ensures `AppliesCall` or `LeavesUnchanged` (specs/Step.antt). The

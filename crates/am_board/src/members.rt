@@ -21,7 +21,7 @@ ghost use Rattle.am_board.specs.Order.{places_in_order};
 use crate::flush::LeavingAlert;
 use crate::group::Member;
 use crate::noted::{note_members, noted_in};
-use crate::order::{forget, keep_where, renew, stored};
+use crate::order::{forget, renew, stored};
 use crate::silences::NotedSilences;
 use crate::unsilenced::NotedPlace;
 use am_alerts::alert::Alert;
@@ -35,8 +35,8 @@ use std::marker::Model;
 #[derive(Debug, Drop)]
 pub(crate) struct Members {
     members: IndexMap<Labels, Member, Seed>,
-    /// Their places in the order of their labels. None after a label set came or left.
-    order: Option<Vec<usize>>,
+    /// Their places in the order of their labels, without those that came since. None after a label set left.
+    order: Vec<usize>,
     /// Where those that no silence mutes are noted, in this order.
     noted: NotedPlace,
 }
@@ -51,7 +51,7 @@ impl Model for Members {
 
     ghost view = { λ m. record { items = values_of m.members.entries; room = spare m.members } };
 
-    ghost invariant = { λ m. IsTable m.members.entries m.order };
+    ghost invariant = { λ m. IsTable m.members.entries m.order.items };
 }
 
 impl Members {
@@ -61,7 +61,7 @@ impl Members {
     {
         Members {
             members: IndexMap::with_hasher(alloc, seed),
-            order: None,
+            order: Vec::new(alloc),
             noted: NotedPlace::default(),
         }
     }
@@ -77,7 +77,7 @@ impl Members {
     {
         Ok(Members {
             members: IndexMap::with_capacity_and_hasher(alloc, room, seed)?,
-            order: None,
+            order: Vec::new(alloc),
             noted: NotedPlace::default(),
         })
     }
@@ -106,7 +106,7 @@ impl Members {
     pub(crate) fn places(&self) -> Option<&[usize]>
         ensures { IfSome (option_copied result) (λ places. places ≡ places_in_order (map labels_of self.now.items)) }
     {
-        stored(&self.order)
+        stored(self.order.as_slice(), self.as_slice())
     }
 
     /// Where those that no silence mutes are noted, in the order of their labels.
@@ -127,10 +127,11 @@ impl Members {
         ensures members { self.new ≡ self.old }
         ensures silences { silences.new ≡ silences.old }
     {
-        let last = noted_in(&self.order, self.noted);
         let members = self.members.values().as_slice();
-        renew(alloc, &mut self.order, members);
-        self.noted = note_members(alloc, silences, &self.order, members, last, t, limit);
+        let last = noted_in(self.order.as_slice(), members, self.noted);
+        renew(&mut self.order, members);
+        let order = self.order.as_slice();
+        self.noted = note_members(alloc, silences, order, members, last, t, limit);
     }
 
     /// Reserves memory for so many more alerts.
@@ -150,11 +151,8 @@ impl Members {
             ≡ upsert same_member (member_state member) (map member_state self.old.items) }
         ensures room { self.old.room ≤ self.new.room + 1 }
     {
-        let before = self.members.len();
         member.leaves = false;
         self.members.insert(labels, member).unwrap();
-        let same = self.members.len() == before;
-        keep_where(&mut self.order, same);
     }
 
     /// The place of the alert with these labels.

@@ -15,14 +15,14 @@ ghost use Rattle.am_board.specs.Refinement.{member_state};
 ghost use Rattle.am_board.specs.Order.{IsOrder};
 
 use crate::group::Member;
-use crate::order::ordered;
+use crate::order::{is_whole, ordered};
 use crate::silences::NotedSilences;
 use crate::unsilenced::NotedPlace;
 use std::alloc::Global;
 
 /// The place of what was noted of alerts with this order. None if a label set came or left since.
-pub(crate) fn noted_in(order: &Option<Vec<usize>>, place: NotedPlace) -> NotedPlace {
-    if order.is_some() {
+pub(crate) fn noted_in(order: &[usize], members: &[Member], place: NotedPlace) -> NotedPlace {
+    if is_whole(order, members) {
         place
     } else {
         NotedPlace::default()
@@ -35,7 +35,7 @@ pub(crate) fn noted_in(order: &Option<Vec<usize>>, place: NotedPlace) -> NotedPl
 pub(crate) fn note_members(
     alloc: Global,
     silences: &mut NotedSilences,
-    order: &Option<Vec<usize>>,
+    order: &[usize],
     members: &[Member],
     last: NotedPlace,
     t: u64,

@@ -1,74 +1,78 @@
-//! The order of a group's alerts by labels, as a list of places. `begin` computes it, and `members`
-//! drops it when a label set comes or goes.
+//! The order of a group's alerts by labels, as a list of places. `begin` computes it. `members` drops
+//! it when a label set goes.
+//!
+//! A label set that comes is last in the group. Its place isn't in the list until the next begin, which
+//! adds it behind the others and sorts. The sort finds that the others are in their order, so they cost
+//! one comparison each.
 //!
 //! It only saves time. Where its memory is refused, each use computes it again.
-ghost use Rattle.std.specs.Prelude.{◌≡◌, IfOk, None, if◌then◌else◌, map, slice_get};
+ghost use Rattle.std.specs.Prelude.{◌≡◌, ◌≤◌, ◌==◌, [], IfOk, IfSome, IsPermutation, OnOk, length, map, slice_get};
 ghost use Rattle.std.specs.List.{IsDistinct, filter_map, range_with_len};
-ghost use Rattle.std.specs.Option.{option_copied, option_map};
+ghost use Rattle.std.specs.Option.{option_copied};
 ghost use Rattle.am_model.specs.Insert.{same_member};
 ghost use Rattle.am_model.specs.Lists.{in_order};
 ghost use Rattle.am_board.specs.Refinement.{member_state};
 ghost use Rattle.am_board.specs.Members.{labels_of};
-ghost use Rattle.am_board.specs.Order.{IsOrder, member_cmp, place_cmp, places_in_order};
+ghost use Rattle.am_board.specs.Order.{AreFirst, IsOrder, member_cmp, place_cmp, places_in_order};
 
 use crate::group::Member;
 use am_alerts::labels::Labels;
 use std::alloc::{AllocError, Global};
 use std::cmp::Ordering;
 
-/// Works the places of alerts in the order of their labels out, unless they are there; where memory
-/// for them is refused, they aren't there.
-pub(crate) fn renew(alloc: Global, order: &mut Option<Vec<usize>>, members: &[Member])
+/// Completes the places in the order of labels. Where memory is refused, none is there.
+pub(crate) fn renew(order: &mut Vec<usize>, members: &[Member])
     requires apart { IsDistinct same_member (map member_state members.now) }
-    requires known { IsOrder order.old members.now }
-    ensures { IsOrder order.new members.now }
+    requires known { IsOrder order.old.items members.now }
+    ensures { IsOrder order.new.items members.now }
 {
-    if order.is_some() {
+    if is_whole(order.as_slice(), members) {
         return;
     }
-    if let Ok(places) = places_in_order(alloc, members) {
-        *order = Some(places);
-    }
-}
-
-/// Keeps the places where the label sets are the same, and forgets them where they aren't.
-pub(crate) fn keep_where(order: &mut Option<Vec<usize>>, same: bool)
-    ensures { order.new ≡ (if same then order.old else None) }
-{
-    if !same {
-        forget(order);
+    match complete(order, members) {
+        Ok(()) => {}
+        Err(_) => forget(order),
     }
 }
 
 /// Forgets the places.
-pub(crate) fn forget(order: &mut Option<Vec<usize>>)
-    ensures { order.new ≡ None }
+pub(crate) fn forget(order: &mut Vec<usize>)
+    ensures { order.new.items ≡ [] }
 {
-    *order = None;
+    order.clear();
 }
 
-/// The places, if they are there.
-pub(crate) fn stored(order: &Option<Vec<usize>>) -> Option<&[usize]>
-    ensures { option_copied result ≡ option_map (λ places. places.items) order.now }
+/// Whether the place of each alert is there.
+pub(crate) fn is_whole(order: &[usize], members: &[Member]) -> bool
+    ensures { result ≡ (length order.now == length members.now) }
 {
-    match order {
-        Some(places) => Some(places.as_slice()),
-        None => None,
+    order.len() == members.len()
+}
+
+/// The places, if all are there.
+pub(crate) fn stored<'o>(order: &'o [usize], members: &[Member]) -> Option<&'o [usize]>
+    requires { IsOrder order.now members.now }
+    ensures { IfSome (option_copied result) (λ places. places ≡ places_in_order (map labels_of members.now)) }
+{
+    if is_whole(order, members) {
+        Some(order)
+    } else {
+        None
     }
 }
 
 /// Returns alerts in the order of their labels, by these places or by sorting.
 pub(crate) fn ordered<'m>(
     alloc: Global,
-    order: &Option<Vec<usize>>,
+    order: &[usize],
     members: &'m [Member],
 ) -> Result<Vec<&'m Member>, AllocError>
     requires apart { IsDistinct same_member (map member_state members.now) }
     requires known { IsOrder order.now members.now }
     ensures { IfOk result (λ found. map (λ m. m.now) found.items ≡ in_order member_cmp members.now) }
 {
-    match order {
-        Some(places) => at_order(alloc, members, places.as_slice()),
+    match stored(order, members) {
+        Some(places) => at_order(alloc, members, places),
         None => sorted_members(alloc, members),
     }
 }
@@ -90,20 +94,35 @@ pub(crate) fn places_in_order(alloc: Global, members: &[Member]) -> Result<Vec<u
     requires { IsDistinct same_member (map member_state members.now) }
     ensures { IfOk result (λ places. places.items ≡ places_in_order (map labels_of members.now)) }
 {
-    let mut places = all_places(alloc, members.len())?;
-    places.sort_unstable_by(|a, b| compare_at(members, *a, *b));
+    let mut places = Vec::new(alloc);
+    complete(&mut places, members)?;
     Ok(places)
 }
 
-/// So many places, one after the other.
-fn all_places(alloc: Global, count: usize) -> Result<Vec<usize>, AllocError>
-    ensures { IfOk result (λ places. places.items ≡ range_with_len 0 count) }
+/// Adds the places that aren't there to those of the first alerts, and sorts all by labels.
+fn complete(places: &mut Vec<usize>, members: &[Member]) -> Result<(), AllocError>
+    requires apart { IsDistinct same_member (map member_state members.now) }
+    requires first { AreFirst places.old.items }
+    requires within { length places.old.items ≤ length members.now }
+    ensures all { OnOk result (IsPermutation (range_with_len 0 (length members.now)) places.new.items) }
+    ensures sorted { OnOk result (places.new.items ≡ places_in_order (map labels_of members.now)) }
 {
-    let mut places = Vec::with_capacity(alloc, count)?;
-    for place in 0..count {
+    add_places(places, members.len())?;
+    places.sort_by(|a, b| compare_at(members, *a, *b))?;
+    Ok(())
+}
+
+/// Adds the places up to so many.
+fn add_places(places: &mut Vec<usize>, count: usize) -> Result<(), AllocError>
+    requires first { AreFirst places.old.items }
+    requires within { length places.old.items ≤ count }
+    ensures { OnOk result (IsPermutation (range_with_len 0 count) places.new.items) }
+{
+    places.reserve(count.saturating_sub(places.len()))?;
+    for place in places.len()..count {
         places.push(place)?;
     }
-    Ok(places)
+    Ok(())
 }
 
 /// How the labels at two places compare.

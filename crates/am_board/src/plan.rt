@@ -1,16 +1,17 @@
 //! The flush to open: all that its begin puts into the board and its ticket. `begin` calls `plan`. A
-//! begin with its preview calls `plan_previewed`, with what the preview found.
+//! begin with its preview calls `plan_asking`, with what the preview found.
 //!
-//! The label sets are made once. The open flush and each notified integration share them, so a note
-//! or the finish moves them into the log and never allocates.
+//! Copies are made only where an integration is to be notified. The label sets are made once then:
+//! the open flush and each notified integration share them, so a note or the finish moves them into
+//! the log and never allocates.
 ghost use Rattle.std.specs.Prelude.{◌≡◌, ◌<◌, ◌≤◌, All, IfOk, length, map, slice_index_or, vec_len};
 ghost use Rattle.std.specs.List.{IsDistinct};
 ghost use Rattle.am_mute.specs.Sources.{AreLearnt};
 ghost use Rattle.am_alerts.specs.RoutingTree.{last_of};
 ghost use Rattle.am_model.specs.Begin.{asked_of};
 ghost use Rattle.am_model.specs.Configured.{HaveFewIntegrations};
-ghost use Rattle.am_board.specs.Beginning.{IsFlushAsking, IsUnmuted, asked_for_update, alert_sets_of};
-ghost use Rattle.am_board.specs.Beginning.{update_of, notice_of_update, IsPlannedFlush, IsPlan};
+ghost use Rattle.am_board.specs.Beginning.{AreRising, IsFlushAsking, IsUnmuted, alert_sets_of, asked_for_update};
+ghost use Rattle.am_board.specs.Beginning.{update_of, notice_of_update, IsPlannedFlush, IsPlan, unmuted_in};
 ghost use Rattle.am_model.specs.Insert.{same_member};
 ghost use Rattle.am_board.specs.LogRows.{log_rows};
 ghost use Rattle.am_board.specs.Refinement.{state_of, group_state};
@@ -23,8 +24,9 @@ use crate::fault::Fault;
 use crate::flush::{AlertSets, Asked, OpenFlush};
 use crate::group::{Group, GroupName};
 use crate::notice::{MAX_DEADLINE, Notice};
+use crate::record::Opened;
 use crate::state::State;
-use crate::unmuted::{Unmuted, leaving_at};
+use crate::unmuted::{Unmuted, UnmutedMembers, leaving_at};
 use crate::walk::Walk;
 use am_alerts::limits::MAX_MOMENT;
 use am_alerts::sequence::{Sequence, copy_all};
@@ -46,7 +48,7 @@ pub(crate) struct PlannedFlush {
     pub(crate) outcomes: Vec<(u32, Outcome)>,
     /// For the record.
     pub(crate) recorded_group: GroupName,
-    pub(crate) recorded_notices: Boxed<Sequence<Notice>>,
+    pub(crate) recorded: Boxed<Opened>,
 }
 
 /// Returns the flush that a begin opens, unless no integration needs an update.
@@ -98,56 +100,27 @@ fn plan_of(
     if unmuted.is_empty() {
         return Ok(None);
     }
-    let sets = unmuted.sets(alloc)?;
-    let decided = decide(alloc, config, state, &group.name, None, &sets, t)?;
+    let decided = decide(alloc, config, state, &group.name, None, &unmuted, t)?;
     let asked = decided.asked.as_slice();
-    plan_asking(alloc, config, id, state, group, &unmuted, sets, asked, t)
+    plan_asking(alloc, config, id, state, group, &unmuted, asked, t)
 }
 
-/// Returns the flush of the group that a preview was made of, unless no integration needs an update.
-pub(crate) fn plan_previewed(
-    alloc: Global,
-    config: &Config,
-    id: u64,
-    state: &State,
-    chosen: ChosenGroup,
-    unmuted: &Unmuted,
-    sets: AlertSets,
-    asked: &[Update],
-) -> Result<Option<PlannedFlush>, Fault>
-    requires good { StateInvariant config.now state.now }
-    requires place { chosen.place < length state.now.groups.items }
-    requires moment { chosen.t ≤ MAX_MOMENT }
-    requires sets { sets ≡ alert_sets_of unmuted.now }
-    requires unmuted { (d : Group) → IsUnmuted config.now (state_of state.now) chosen.t
-        (group_state (slice_index_or state.now.groups.items chosen.place d)) unmuted.now }
-    requires asked { (d : Group) → asked.now ≡ map update_of (asked_of config.now (state_of state.now) chosen.t
-        (group_state (slice_index_or state.now.groups.items chosen.place d))) }
-    ensures { (d : Group) → IsPlan config.now id (vec_len state.now.flushes) (state_of state.now) chosen.t
-        (group_state (slice_index_or state.now.groups.items chosen.place d)) result }
-{
-    let group = state.groups.at(chosen.place);
-    plan_asking(
-        alloc, config, id, state, group, unmuted, sets, asked, chosen.t,
-    )
-}
-
-/// Returns the flush of a group at `t` that notifies these integrations, if there are any.
-fn plan_asking(
+/// Returns the flush of a group at `t` that notifies these integrations about what is unmuted, if
+/// there are any. A begin with its preview calls it with what the preview found.
+pub(crate) fn plan_asking(
     alloc: Global,
     config: &Config,
     id: u64,
     state: &State,
     group: &Group,
-    unmuted: &Unmuted,
-    sets: AlertSets,
+    unmuted: &UnmutedMembers,
     asked: &[Update],
     t: u64,
 ) -> Result<Option<PlannedFlush>, Fault>
     requires route { group.now.name.route ≤ last_of config.now.routes }
     requires moment { t ≤ MAX_MOMENT }
-    requires sets { sets ≡ alert_sets_of unmuted.now }
-    requires unmuted { IsUnmuted config.now (state_of state.now) t (group_state group.now) unmuted.now }
+    requires rising { AreRising (unmuted_in t unmuted.now) }
+    requires unmuted { IsUnmuted config.now (state_of state.now) t (group_state group.now) (unmuted_in t unmuted.now) }
     requires asked { asked.now ≡ map update_of (asked_of config.now (state_of state.now) t (group_state group.now)) }
     ensures { IsPlan config.now id (vec_len state.now.flushes) (state_of state.now) t (group_state group.now) result }
 {
@@ -157,7 +130,8 @@ fn plan_asking(
     if state.flushes.len() >= config.limits.flushes {
         return Err(Fault::TooManyOpen);
     }
-    let planned = open(alloc, config, id, state, group, unmuted, sets, asked, t)?;
+    let copies = unmuted.copies(alloc, t)?;
+    let planned = open(alloc, config, id, state, group, &copies, asked, t)?;
     Ok(Some(planned))
 }
 
@@ -169,13 +143,12 @@ fn open(
     state: &State,
     group: &Group,
     unmuted: &Unmuted,
-    sets: AlertSets,
     asked: &[Update],
     t: u64,
 ) -> Result<PlannedFlush, AllocError>
     requires route { group.now.name.route ≤ last_of config.now.routes }
     requires moment { t ≤ MAX_MOMENT }
-    requires sets { sets ≡ alert_sets_of unmuted.now }
+    requires rising { AreRising unmuted.now }
     requires unmuted { IsUnmuted config.now (state_of state.now) t (group_state group.now) unmuted.now }
     requires asked { asked.now ≡ map update_of (asked_of config.now (state_of state.now) t (group_state group.now)) }
     ensures { IfOk result (IsPlannedFlush config.now id (state_of state.now) t (group_state group.now)) }
@@ -188,15 +161,35 @@ fn open(
         .min(route.repeat_interval.saturating_mul(2));
     let notices = notices(alloc, id, number, deadline, &group.name, unmuted, asked)?;
     Ok(PlannedFlush {
-        flush: flush_of(alloc, number, kept_for, group, unmuted, sets, asked, t)?,
+        flush: flush_of(alloc, number, kept_for, group, unmuted, asked, t)?,
         number,
         deadline,
         group: group.name.copy(alloc)?,
         recorded_group: group.name.copy(alloc)?,
-        recorded_notices: Boxed::new(alloc, copy_all(alloc, notices.as_slice())?)?,
+        recorded: recorded(alloc, number, deadline, notices.as_slice())?,
         outcomes: Vec::with_capacity(alloc, notices.len())?,
         notices,
     })
+}
+
+/// Returns what the record keeps of a flush, beside its group.
+fn recorded(
+    alloc: Global,
+    number: u64,
+    deadline: u64,
+    notices: &[Notice],
+) -> Result<Boxed<Opened>, AllocError>
+    ensures { IfOk result (λ opened. opened ≡ record { number = number; deadline = deadline; notices = notices.now }) }
+{
+    let notices = copy_all(alloc, notices)?;
+    Boxed::new(
+        alloc,
+        Opened {
+            number,
+            deadline,
+            notices,
+        },
+    )
 }
 
 /// Returns the open flush of a group at `t`, with the label sets that these integrations share.
@@ -206,13 +199,13 @@ fn flush_of(
     kept_for: u64,
     group: &Group,
     unmuted: &Unmuted,
-    sets: AlertSets,
     asked: &[Update],
     t: u64,
 ) -> Result<OpenFlush, AllocError>
-    requires sets { sets ≡ alert_sets_of unmuted.now }
+    requires { AreRising unmuted.now }
     ensures { IfOk result (IsFlushAsking number kept_for group.now unmuted.now asked.now t) }
 {
+    let sets = unmuted.sets(alloc)?;
     Ok(OpenFlush {
         number,
         group: group.name.copy(alloc)?,

@@ -13,7 +13,7 @@ ghost use Rattle.am_model.specs.Configured.{HaveFewIntegrations, route_muted};
 ghost use Rattle.am_model.specs.Insert.{same_member};
 ghost use Rattle.am_model.specs.State.{moment};
 ghost use Rattle.am_model.specs.look_back.Preview.{muted_of, preview, preview_at};
-ghost use Rattle.am_board.specs.Beginning.{IsUnmuted};
+ghost use Rattle.am_board.specs.Beginning.{IsUnmuted, unmuted_in};
 ghost use Rattle.am_board.specs.Refinement.{group_state, state_of};
 ghost use Rattle.am_board.specs.LogRows.{log_rows};
 ghost use Rattle.am_board.specs.Preview.{IsGroupPreview};
@@ -22,11 +22,10 @@ ghost use Rattle.am_board.specs.Step.{StateInvariant};
 use crate::board::Board;
 use crate::config::Config;
 use crate::dedup::{Decided, Update, decide};
-use crate::flush::AlertSets;
 use crate::group::Group;
 use crate::notice::MAX_DEADLINE;
 use crate::state::State;
-use crate::unmuted::Unmuted;
+use crate::unmuted::UnmutedMembers;
 use crate::walk::{Walk, in_group_order};
 use am_alerts::limits::MAX_MOMENT;
 use am_alerts::sequence::Sequence;
@@ -95,25 +94,23 @@ fn preview_of(
 
 /// What a begin is to do with the group that it takes, and what it works on.
 #[derive(Drop)]
-pub(crate) struct GroupPreview {
+pub(crate) struct GroupPreview<'m> {
     pub(crate) preview: Preview,
-    pub(crate) unmuted: Unmuted,
-    /// The label sets of `unmuted`.
-    pub(crate) sets: AlertSets,
+    pub(crate) unmuted: UnmutedMembers<'m>,
     /// The integrations that need an update.
     pub(crate) asked: Vec<Update>,
 }
 
-impl GroupPreview {
+impl<'m> GroupPreview<'m> {
     /// What a begin at `t` is to do with a group that it takes.
     pub(crate) fn of(
         alloc: Global,
         config: &Config,
         state: &State,
         sources: &Sources,
-        group: &Group,
+        group: &'m Group,
         t: u64,
-    ) -> Result<GroupPreview, AllocError>
+    ) -> Result<GroupPreview<'m>, AllocError>
         requires sources { AreLearnt config.now.rules state.now.known.items sources.now }
         requires route { group.now.name.route ≤ last_of config.now.routes }
         requires few { HaveFewIntegrations config.now }
@@ -123,8 +120,7 @@ impl GroupPreview {
     {
         let until = config.route_muted(&group.name, t);
         let (muted, unmuted) = muted_and_unmuted(alloc, config, state, sources, group, until, t)?;
-        let sets = unmuted.sets(alloc)?;
-        let decided = decide(alloc, config, state, &group.name, until, &sets, t)?;
+        let decided = decide(alloc, config, state, &group.name, until, &unmuted, t)?;
         let Decided { reasons, asked } = decided;
         Ok(GroupPreview {
             preview: Preview {
@@ -134,7 +130,6 @@ impl GroupPreview {
                 reasons: Sequence::from(reasons),
             },
             unmuted,
-            sets,
             asked,
         })
     }
@@ -142,20 +137,21 @@ impl GroupPreview {
 
 /// The alerts of a group that are muted at `t`, and why; and those that aren't, which are none where
 /// the group's route is muted until a time.
-fn muted_and_unmuted(
+fn muted_and_unmuted<'m>(
     alloc: Global,
     config: &Config,
     state: &State,
     sources: &Sources,
-    group: &Group,
+    group: &'m Group,
     until: Option<u64>,
     t: u64,
-) -> Result<(Sequence<MutedAlert>, Unmuted), AllocError>
+) -> Result<(Sequence<MutedAlert>, UnmutedMembers<'m>), AllocError>
     requires sources { AreLearnt config.now.rules state.now.known.items sources.now }
     requires apart { IsDistinct same_member (group_state group.now).members }
     requires until { until ≡ route_muted config.now group.now.name t }
     ensures muted { IfOk result (λ both. both.0 ≡ muted_of config.now (state_of state.now) t (group_state group.now)) }
-    ensures unmuted { IfOk result (λ both. IsUnmuted config.now (state_of state.now) t (group_state group.now) both.1) }
+    ensures unmuted { IfOk result (λ both.
+        IsUnmuted config.now (state_of state.now) t (group_state group.now) (unmuted_in t both.1)) }
 {
     let rules = config.rules.as_slice();
     let members = &group.members;
@@ -167,11 +163,7 @@ fn muted_and_unmuted(
     } = walk;
     let muted = in_group_order(alloc, members.as_slice(), muted)?;
     if until.is_some() {
-        return Ok((muted, Unmuted::nothing(alloc)));
+        return Ok((muted, UnmutedMembers::nothing(alloc)));
     }
-    let unmuted = Unmuted {
-        firing: Sequence::from(firing),
-        resolved: Sequence::from(resolved),
-    };
-    Ok((muted, unmuted))
+    Ok((muted, UnmutedMembers { firing, resolved }))
 }

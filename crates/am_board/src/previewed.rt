@@ -3,17 +3,20 @@
 //!
 //! The group is prepared as for any begin, and the preview comes next. The begin goes on with what it
 //! found: what is unmuted, and whom to notify.
-ghost use Rattle.std.specs.Prelude.{◌≡◌, ◌+◌, ◌<◌, ◌≤◌, All, None, IfOk, MatchResult, OnErr, length, slice_index_or, vec_len};
-ghost use Rattle.am_alerts.specs.declared.limits.TheConstants.{MAX_MOMENT};
+ghost use Rattle.std.specs.Prelude.{◌≡◌, ◌+◌, ◌<◌, ◌≤◌, All, None, Ok, IfOk, MatchResult, OnErr, length, slice_index_or, vec_len};
 ghost use Rattle.am_mute.specs.Sources.{AreLearnt};
+ghost use Rattle.am_alerts.specs.RoutingTree.{last_of};
+ghost use Rattle.std.specs.List.{IsDistinct};
 ghost use Rattle.am_model.specs.Causes.{begin_cause};
+ghost use Rattle.am_model.specs.Configured.{HaveFewIntegrations};
+ghost use Rattle.am_model.specs.Insert.{same_member};
 ghost use Rattle.am_model.specs.Records.{entry};
 ghost use Rattle.am_model.specs.State.{moment};
 ghost use Rattle.am_model.specs.look_back.Preview.{preview, preview_at};
 ghost use Rattle.am_board.specs.Beginning.{IsChosen};
 ghost use Rattle.am_board.specs.History.{records_at, reply_of, state_at, with_record, IsFresh, IsReplyAt};
 ghost use Rattle.am_board.specs.LogRows.{log_rows};
-ghost use Rattle.am_board.specs.Preview.{IsGroupPreview};
+ghost use Rattle.am_board.specs.Preview.{IsPreviewedPlan};
 ghost use Rattle.am_board.specs.Refinement.{group_state, state_of};
 ghost use Rattle.am_board.specs.Step.{StateInvariant, AppliesCall, LeavesUnchanged, IsAnswer, IsCaused};
 ghost use Rattle.am_board.specs.declared.group.Group.{Group};
@@ -22,10 +25,12 @@ use crate::begin::{Begun, ChosenGroup, begin_nothing, begin_planned, choose, pre
 use crate::board::Board;
 use crate::config::Config;
 use crate::fault::Fault;
-use crate::plan::plan_previewed;
+use crate::group::Group;
+use crate::plan::{PlannedFlush, plan_asking};
 use crate::preview::{GroupPreview, Preview};
 use crate::record::Call;
 use crate::state::State;
+use am_alerts::limits::MAX_MOMENT;
 use am_mute::sources::Sources;
 use std::alloc::Global;
 
@@ -97,25 +102,55 @@ fn take_previewed(
     };
     prepare(alloc, state, chosen.place, chosen.t);
     let group = state.groups.at(chosen.place);
-    let found = GroupPreview::of(alloc, config, state, sources, group, chosen.t)?;
-    begin_with(alloc, config, id, state, chosen, found)
+    let found = preview_and_plan(alloc, config, id, state, sources, group, chosen.t)?;
+    begin_with(alloc, config, id, state, chosen, found.0, found.1)
 }
 
-/// Begins a group with what its preview found, and returns the preview with the reply.
+/// What a begin at `t` is to do with a group, and the flush that it opens, unless no integration
+/// needs an update.
+fn preview_and_plan(
+    alloc: Global,
+    config: &Config,
+    id: u64,
+    state: &State,
+    sources: &Sources,
+    group: &Group,
+    t: u64,
+) -> Result<(Preview, Option<PlannedFlush>), Fault>
+    requires sources { AreLearnt config.now.rules state.now.known.items sources.now }
+    requires route { group.now.name.route ≤ last_of config.now.routes }
+    requires few { HaveFewIntegrations config.now }
+    requires apart { IsDistinct same_member (group_state group.now).members }
+    requires moments { All (λ row. row.moment ≤ MAX_MOMENT) (log_rows state.now.log) }
+    requires moment { t ≤ MAX_MOMENT }
+    ensures { IsPreviewedPlan config.now id (vec_len state.now.flushes) (state_of state.now) t (group_state group.now) result }
+{
+    let found = GroupPreview::of(alloc, config, state, sources, group, t)?;
+    let GroupPreview {
+        preview,
+        unmuted,
+        asked,
+    } = found;
+    let asked = asked.as_slice();
+    let planned = plan_asking(alloc, config, id, state, group, &unmuted, asked, t)?;
+    Ok((preview, planned))
+}
+
+/// Begins a group as it is planned, and returns its preview with the reply.
 fn begin_with(
     alloc: Global,
     config: &Config,
     id: u64,
     state: &mut State,
     chosen: ChosenGroup,
-    found: GroupPreview,
+    preview: Preview,
+    planned: Option<PlannedFlush>,
 ) -> Result<(Begun, Option<Preview>), Fault>
     requires good { StateInvariant config.now state.old }
     requires place { chosen.place < length state.old.groups.items }
-    requires moment { chosen.t ≤ MAX_MOMENT }
     requires room { vec_len state.old.history + vec_len state.old.flushes + 2 ≤ config.now.limits.history }
-    requires found { (d : Group) → IsGroupPreview config.now (state_of state.old) chosen.t
-        (group_state (slice_index_or state.old.groups.items chosen.place d)) found }
+    requires found { (d : Group) → IsPreviewedPlan config.now id (vec_len state.old.flushes) (state_of state.old) chosen.t
+        (group_state (slice_index_or state.old.groups.items chosen.place d)) (Ok (preview, planned)) }
     ensures { (g : Group) → IsChosen config.now state.old chosen g → MatchResult result
         (λ both. (begin_cause config.now (vec_len state.old.history) (state_of state.old) (moment (state_of state.old) chosen.now) ≡ None)
         × AppliesCall config.now id (entry chosen.pass (Call.Begin chosen.now) (reply_of both.0)) state.old state.new
@@ -124,14 +159,6 @@ fn begin_with(
         (begin_cause config.now (vec_len state.old.history) (state_of state.old) (moment (state_of state.old) chosen.now)) fault
         × LeavesUnchanged config.now state.old state.new) }
 {
-    let GroupPreview {
-        preview,
-        unmuted,
-        sets,
-        asked,
-    } = found;
-    let asked = asked.as_slice();
-    let planned = plan_previewed(alloc, config, id, state, chosen, &unmuted, sets, asked)?;
     match begin_planned(alloc, id, state, chosen, planned) {
         Ok(begun) => Ok((begun, Some(preview))),
         Err(fault) => Err(fault),

@@ -1,6 +1,6 @@
 //! `Ticket`: the notices of an open flush and their outcomes. `begin` makes it, whoever sends reads
 //! it and records reports, and `finish` takes it.
-ghost use Rattle.std.specs.Prelude.{◌≡◌, ◌≤◌, ℕ, Some, None, MatchResult, length, slice_get};
+ghost use Rattle.std.specs.Prelude.{◌≡◌, ◌≤◌, Some, None, MatchResult, length, slice_get};
 ghost use Rattle.std.specs.Option.{option_and_then};
 ghost use Rattle.am_model.specs.declared.config.TheConstants.{MAX_INTEGRATIONS};
 ghost use Rattle.am_model.specs.Ticket.{outcome_of as first_outcome, report_fault, recorded};

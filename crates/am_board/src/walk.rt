@@ -3,7 +3,7 @@
 //!
 //! A preview wants the causes, a plain begin doesn't: to know that an alert is muted costs less than to
 //! know why. A muted alert is found with its place, so that a preview lists it where it is in the
-//! group.
+//! group. The others are found as they stand in the group: no walk copies an alert.
 ghost use Rattle.std.specs.Prelude.{◌≡◌, ◌++◌, [], false, true, IfOk, OnOk, Option, map};
 ghost use Rattle.std.specs.List.{IsDistinct, cons_option, filter_map};
 ghost use Rattle.am_mute.specs.Mute.{is_muted, mute_cause_of};
@@ -11,10 +11,11 @@ ghost use Rattle.am_mute.specs.Silence.{is_silenced};
 ghost use Rattle.am_mute.specs.Sources.{AreLearnt};
 ghost use Rattle.am_mute.specs.declared.mute.MuteCause.{MuteCause};
 ghost use Rattle.am_model.specs.Insert.{same_member};
+ghost use Rattle.am_board.specs.Beginning.{copies_at};
 ghost use Rattle.am_board.specs.Members.{labels_of};
 ghost use Rattle.am_board.specs.Order.{places_in_order};
 ghost use Rattle.am_board.specs.Refinement.{member_state, state_of};
-ghost use Rattle.am_board.specs.Walk.{AreFound, IsWalk, alert_there, cause_for, firing_if, listed_if, muted_at, muted_if};
+ghost use Rattle.am_board.specs.Walk.{AreFound, IsWalk, alert_there, cause_of, firing_if, listed_if, muted_at, muted_if};
 ghost use Rattle.am_board.specs.Walk.{muted_member, resolved_if};
 ghost use Rattle.am_board.specs.declared.group.Member.{Member};
 
@@ -23,9 +24,8 @@ use crate::members::Members;
 use crate::order::{member_at, places_in_order};
 use crate::silences::NotedSilences;
 use crate::state::State;
-use crate::unmuted::Unmuted;
+use crate::unmuted::UnmutedMembers;
 use crate::unsilenced::NotedPlace;
-use am_alerts::alert::Alert;
 use am_alerts::labels::Labels;
 use am_alerts::sequence::Sequence;
 use am_model::preview::MutedAlert;
@@ -44,23 +44,23 @@ pub(crate) struct MutedPlace {
 /// What a walk finds: the alerts that aren't muted, and those that are, if their causes are wanted; by
 /// labels.
 #[derive(Debug, Drop)]
-pub(crate) struct Walk {
-    pub(crate) firing: Vec<Alert>,
-    pub(crate) resolved: Vec<Alert>,
+pub(crate) struct Walk<'m> {
+    pub(crate) firing: Vec<&'m Member>,
+    pub(crate) resolved: Vec<&'m Member>,
     pub(crate) muted: Vec<MutedPlace>,
 }
 
-impl Walk {
+impl<'m> Walk<'m> {
     /// Finds what the alerts of a group are at `t`. The muted ones are left out if causes aren't wanted.
     pub(crate) fn over(
         alloc: Global,
         rules: &[InhibitRule],
         state: &State,
         sources: &Sources,
-        members: &Members,
+        members: &'m Members,
         wants_causes: bool,
         t: u64,
-    ) -> Result<Walk, AllocError>
+    ) -> Result<Walk<'m>, AllocError>
         requires sources { AreLearnt rules.now state.now.known.items sources.now }
         requires apart { IsDistinct same_member (map member_state members.now.items) }
         ensures { IfOk result (IsWalk rules.now (state_of state.now) t members.now.items wants_causes) }
@@ -104,77 +104,78 @@ impl Walk {
         state: &State,
         sources: &Sources,
         place: usize,
-        alert: &Alert,
+        member: &'m Member,
         noted: &mut NotedPlace,
         wants_causes: bool,
         t: u64,
     ) -> Result<(), AllocError>
         requires { AreLearnt rules.now state.now.known.items sources.now }
-        ensures firing { OnOk result (self.new.firing.items
-            ≡ self.old.firing.items ++ firing_if t alert.now (cause_for rules.now (state_of state.now) t alert.now)) }
-        ensures resolved { OnOk result (self.new.resolved.items
-            ≡ self.old.resolved.items ++ resolved_if t alert.now (cause_for rules.now (state_of state.now) t alert.now)) }
+        ensures firing { OnOk result (copies_at t self.new.firing.items
+            ≡ copies_at t self.old.firing.items ++ firing_if t member.now.alert (cause_of rules.now (state_of state.now) t member.now)) }
+        ensures resolved { OnOk result (copies_at t self.new.resolved.items
+            ≡ copies_at t self.old.resolved.items ++ resolved_if t member.now.alert (cause_of rules.now (state_of state.now) t member.now)) }
         ensures muted { OnOk result (self.new.muted.items
-            ≡ self.old.muted.items ++ listed_if wants_causes place (cause_for rules.now (state_of state.now) t alert.now)) }
+            ≡ self.old.muted.items ++ listed_if wants_causes place (cause_of rules.now (state_of state.now) t member.now)) }
     {
-        let labels = alert.labels();
+        let labels = member.alert.labels();
         if wants_causes {
             let cause = mute_cause(alloc, rules, state, sources, labels, noted, t)?;
-            return self.add(alloc, place, alert, cause, t);
+            return self.add(place, member, cause, t);
         }
         if is_muted(alloc, rules, state, sources, labels, noted, t)? {
             return Ok(());
         }
-        self.add(alloc, place, alert, None, t)
+        self.add(place, member, None, t)
     }
 
     /// Adds the alert at a place, which this mutes, if anything does.
     fn add(
         &mut self,
-        alloc: Global,
         place: usize,
-        alert: &Alert,
+        member: &'m Member,
         cause: Option<MuteCause>,
         t: u64,
     ) -> Result<(), AllocError>
-        ensures firing { OnOk result (self.new.firing.items ≡ self.old.firing.items ++ firing_if t alert.now cause) }
-        ensures resolved { OnOk result (self.new.resolved.items ≡ self.old.resolved.items ++ resolved_if t alert.now cause) }
+        ensures firing { OnOk result
+            (copies_at t self.new.firing.items ≡ copies_at t self.old.firing.items ++ firing_if t member.now.alert cause) }
+        ensures resolved { OnOk result
+            (copies_at t self.new.resolved.items ≡ copies_at t self.old.resolved.items ++ resolved_if t member.now.alert cause) }
         ensures muted { OnOk result (self.new.muted.items ≡ self.old.muted.items ++ cons_option (muted_if place cause) []) }
     {
         if let Some(cause) = cause {
             self.muted.push(MutedPlace { place, cause })?;
-        } else if alert.resolved_at(t) {
-            self.resolved.push(alert.copy(alloc)?)?;
+        } else if member.alert.resolved_at(t) {
+            self.resolved.push(member)?;
         } else {
-            self.firing.push(alert.copy_without_end(alloc)?)?;
+            self.firing.push(member)?;
         }
         Ok(())
     }
 
     /// The alerts that aren't muted.
-    pub(crate) fn into_unmuted(self) -> Unmuted
-        ensures firing { result.firing ≡ self.firing.items }
-        ensures resolved { result.resolved ≡ self.resolved.items }
+    pub(crate) fn into_unmuted(self) -> UnmutedMembers<'m>
+        ensures firing { result.firing ≡ self.entry.firing }
+        ensures resolved { result.resolved ≡ self.entry.resolved }
     {
-        Unmuted {
-            firing: Sequence::from(self.firing),
-            resolved: Sequence::from(self.resolved),
+        UnmutedMembers {
+            firing: self.firing,
+            resolved: self.resolved,
         }
     }
 }
 
 /// Walks over the alerts at these places.
-fn walk_places(
+fn walk_places<'m>(
     alloc: Global,
     rules: &[InhibitRule],
     state: &State,
     sources: &Sources,
-    members: &[Member],
+    members: &'m [Member],
     places: &[usize],
     noted: NotedPlace,
     wants_causes: bool,
     t: u64,
-) -> Result<Walk, AllocError>
+) -> Result<Walk<'m>, AllocError>
     requires { AreLearnt rules.now state.now.known.items sources.now }
     ensures { IfOk result (AreFound rules.now (state_of state.now) t members.now places.now wants_causes) }
 {
@@ -186,14 +187,13 @@ fn walk_places(
     let mut noted = noted;
     for place in places {
         if let Some(member) = member_at(members, *place) {
-            let alert = &member.alert;
             walk.visit(
                 alloc,
                 rules,
                 state,
                 sources,
                 *place,
-                alert,
+                member,
                 &mut noted,
                 wants_causes,
                 t,

@@ -3,6 +3,7 @@ pub mod DuePlaces
 pub mod DueWalk
 pub mod Ends
 pub mod FirstDue
+pub mod Lent
 pub mod MutedPlaces
 pub mod Previews
 pub mod Reasons

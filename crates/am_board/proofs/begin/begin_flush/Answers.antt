@@ -22,7 +22,7 @@ returns c config g good takes some planned =
           (ap (λ n. record old { clock = c.args.chosen.t; groups = c.begin.new.self; log = c.reserve_rows.new.log; flushes = c.push_reserved.new.self; next_number = n; history = c.push_reserved-2.new.self }) next)
           c.reserve_rows.ensures.rows c.reserve_rows.ensures.known c.in_ok-reserve_rows.ensures.asked
           (c.push_reserved.ensures.items ∙ ap (λ fs. fs ++ o.flush ∷ []) c.in_ok-reserve-2.ensures.items)
-          (c.push_reserved-2.ensures.items ∙ ap (λ rs. rs ++ entry c.args.chosen.pass (Begin c.args.chosen.now) (Flush o.number o.recorded_group o.deadline o.recorded_notices) ∷ []) c.in_ok-reserve.ensures.items)
+          (c.push_reserved-2.ensures.items ∙ ap (λ rs. rs ++ entry c.args.chosen.pass (Begin c.args.chosen.now) (Flush o.recorded_group o.recorded) ∷ []) c.in_ok-reserve.ensures.items)
           (omega (arith, c.push_reserved-2.ensures.len, c.in_ok-reserve.ensures.len))
           (omega (arith, c.push_reserved-2.ensures.len, c.push_reserved-2.ensures.capacity, c.push_reserved.ensures.len, c.in_ok-reserve.ensures.len, c.in_ok-reserve.ensures.ok, c.in_ok-reserve-2.ensures.len, c.len.ensures)),
       (refl, planned.outcomes),

@@ -4,6 +4,7 @@ use Rattle.std.specs.List.{enumerate_from}
 use Rattle.am_model.specs.declared.reason.Reason.{Reason}
 use Rattle.am_model.specs.look_back.Reasons.{asks}
 use Rattle.am_board.specs.declared.dedup.Update.{Update}
+use Rattle.am_board.specs.Beginning.{alert_sets_of, unmuted_in}
 use Rattle.am_board.specs.LogRows.{log_rows}
 use Rattle.am_board.specs.Dedup.{reason_among, reason_told_by}
 use Rattle.am_board.proofs.lemmas.begin.Previews.{reasons-more, kept-entry, kept-holds}
@@ -11,8 +12,8 @@ use Rattle.am_board.proofs.lemmas.begin.Updates.{asked-more, asked-same}
 use Rattle.am_board.proofs.dedup.decide_each.Goals as goal
 use Rattle.am_board.proofs.dedup.decide_each.Goals.{then-asks+in_ok-push-2, else-asks}
 
-pub reason-reason-requires : goal.reason-reason-requires
-reason-reason-requires c =
+pub reason-reason-requires-clause-fits : goal.reason-reason-requires-clause-fits
+reason-reason-requires-clause-fits c =
     let inv = c.loop-integration.invariant in
     subst (λ o. IfSome o (λ row. row.moment + c.args.repeat_interval + 1 < 2 ^ 64)) (sym c.get-row.ensures.row)
     (kept-holds _ (λ a b. refl) c.args.log.now c.loop-integration.key c.args.group.now c.loop-integration.integration-index c.get-row.ensures.distinct inv.group inv.integration
@@ -24,10 +25,10 @@ loop-integration-preserved c =
     let i = c.loop-integration.integration-index in
     let one = c.integration-item.result in
     let within : i < length c.args.integrations.now = omega arith in
-    let reason = reason_among (log_rows c.args.log.now) c.args.group.now c.args.sets.now c.args.repeat_interval c.args.t in
+    let reason = reason_among (log_rows c.args.log.now) c.args.group.now (alert_sets_of (unmuted_in c.args.t c.args.unmuted.now)) c.args.repeat_interval c.args.t in
     let entry = kept-entry _ (λ a b. refl) c.args.log.now c.loop-integration.key c.args.group.now i c.get-row.ensures.distinct inv.group inv.integration in
     let is : c.reason-reason.result ≡ reason (i, one) =
-    c.reason-reason.ensures ∙ ap (λ o. reason_told_by o c.args.sets.now one.send_resolved c.args.repeat_interval c.args.t) (c.get-row.ensures.row ∙ sym entry) in
+    c.reason-reason.ensures ∙ ap (λ o. reason_told_by o (alert_sets_of (unmuted_in c.args.t c.args.unmuted.now)) one.send_resolved c.args.repeat_interval c.args.t) (c.get-row.ensures.row ∙ sym entry) in
     let same : asks (reason (i, one)) ≡ c.asks.result = ap asks (sym is) ∙ sym c.asks.ensures in
     record {
       group = inv.group;

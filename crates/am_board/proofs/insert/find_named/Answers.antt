@@ -1,23 +1,35 @@
-use Rattle.std.proofs.Common.{◌≡◌, ◌∙◌, List, [], ◌∷◌, ◌++◌, map, get_or, sym, ap, subst, arith}
+use Rattle.std.proofs.Common.{◌≡◌, ◌∙◌, ◌≤◌, List, [], ◌∷◌, ◌++◌, map, get_or, sym, ap, subst, arith}
 use Rattle.std.specs.Prelude.{All}
+use Rattle.std.proofs.lemmas.List.{get_or_default}
 use Rattle.std.proofs.lemmas.List.Elements.{All-push}
-use Rattle.am_board.specs.Inserting.{IsFound, place_in}
+use Rattle.am_alerts.specs.RoutingTree.{last_of}
+use Rattle.am_board.specs.Inserting.{IsFound, IsToPut, place_in, stamped_alert}
+use Rattle.am_board.specs.declared.insert.Placement.{Placement}
 use Rattle.am_board.specs.declared.insert.Target.{Target}
+use Rattle.am_model.specs.State.{MemberState}
 use Rattle.am_model.specs.declared.group.GroupName.{GroupName}
 use Rattle.am_board.proofs.lemmas.insert.Placing.{named_more}
 use Rattle.am_board.proofs.insert.find_named.Goals as goal
 
+pub prepare-requires : goal.prepare-requires
+prepare-requires c =
+    let is = c.in_ok-name.ensures ∙ c.name-item.is in
+    subst (λ (n : GroupName). n.route ≤ last_of c.args.routes.now) (sym is) (c.requires c.loop-name.name-index c.name-item.result (omega arith))
+
 pub loop-name-preserved : goal.loop-name-preserved
 loop-name-preserved c =
-    let before : List Target = c.loop-name.targets.items in
-    let groups = c.args.groups.now.items in
+    let before : List Placement = c.loop-name.placements.items in
+    let x : Placement = c.in_ok-prepare.field-0 in
     let name : GroupName = c.in_ok-name.name in
-    let x : Target = record { name = name; place = c.find-place.result } in
+    let m : MemberState = stamped_alert c.args.alert.now c.args.stamp in
+    let Is : Placement → Type 0 = IsToPut c.args.routes.now c.args.groups.now.items m in
     let pushed : c.push.new.self.items ≡ before ++ x ∷ [] = c.in_ok-push.ensures.items in
-    let same : name ≡ c.name-item.result = c.in_ok-name.ensures in
-    let at : name ≡ get_or c.args.names.now c.loop-name.name-index name = subst (λ (n : GroupName). n ≡ get_or c.args.names.now c.loop-name.name-index n) (sym same) c.name-item.is in
-    let found : IsFound groups x = subst (λ (n : GroupName). c.find-place.result ≡ place_in n groups) (sym same) c.find-place.ensures.place in
+    let named : x.name ≡ c.name-item.result = ap (λ (t : Target). t.name) c.in_ok-prepare.ensures.target ∙ c.in_ok-name.ensures in
+    let at : x.name ≡ get_or c.args.names.now c.loop-name.name-index x.name =
+    named ∙ c.name-item.is ∙ get_or_default c.args.names.now c.loop-name.name-index c.name-item.result x.name (omega arith) in
+    let found : IsFound c.args.groups.now.items (record { name = x.name; place = x.place }) =
+    ap (λ (t : Target). t.place) c.in_ok-prepare.ensures.target ∙ c.find-place.ensures.place ∙ ap (λ (n : GroupName). place_in n c.args.groups.now.items) (sym named) in
     record {
-      names = ap (map (λ (t : Target). t.name)) pushed ∙ named_more before x c.args.names.now c.loop-name.name-index (omega arith) c.loop-name.invariant.names at;
-      found = subst (All (IsFound groups)) (sym pushed) (All-push (IsFound groups) before x c.loop-name.invariant.found found);
+      names = ap (map (λ (p : Placement). p.name)) pushed ∙ named_more before x c.args.names.now c.loop-name.name-index (omega arith) c.loop-name.invariant.names at;
+      found = subst (All Is) (sym pushed) (All-push Is before x c.loop-name.invariant.found (found, c.in_ok-prepare.ensures.ready, c.in_ok-prepare.ensures.placed));
     }

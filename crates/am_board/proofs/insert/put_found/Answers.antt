@@ -2,10 +2,8 @@ use Rattle.std.proofs.Common.{◌≡◌, ◌∙◌, ℕ, ◌+◌, ◌≤◌, ◌
 use Rattle.std.specs.Prelude.{All, count_by, is_none}
 use Rattle.am_alerts.specs.AlertData.{AlertData}
 use Rattle.am_board.specs.declared.insert.Placement.{Placement}
-use Rattle.am_board.specs.declared.insert.Target.{Target}
-use Rattle.am_board.specs.declared.group.Group.{Group}
 use Rattle.am_board.specs.declared.insert.Found.{Found}
-use Rattle.am_board.specs.Inserting.{IsFound, AreFound, IsWhereToPut, target_of}
+use Rattle.am_board.specs.Inserting.{AreFound, AreRoutedPlacements, IsWhereToPut, stamped_alert}
 use Rattle.am_board.proofs.lemmas.insert.Again.{names_routed}
 use Rattle.am_board.proofs.lemmas.insert.Found.{still_found, are_apart, names_apart}
 use Rattle.am_model.proofs.lists.Distinct.{all-told}
@@ -22,14 +20,18 @@ use Rattle.am_model.specs.declared.record.Call.TheVariants as call
 use Rattle.am_model.specs.declared.record.Reply.TheVariants as reply
 use Rattle.am_model.specs.Records.{entry}
 use Rattle.am_board.specs.declared.state.State as kept
-use Rattle.am_board.proofs.lemmas.insert.Inserting.{answer_groups, no_cause, makes_many, makes_few, made_told, names_placed, count_is, told_is, insert_leaves, stays_reserved}
+use Rattle.am_board.proofs.lemmas.insert.Inserting.{answer_groups, no_cause, makes_many, makes_few, made_told, are_found, are_empty, are_placed, count_is, told_is, insert_leaves, stays_reserved}
 use Rattle.am_board.proofs.insert.put_found.Goals as goal
 use Rattle.am_board.proofs.lemmas.invariant.Staying.{stays_itself, agrees_same}
 
+-- the places of the groups were found
+found_of : (config : Config) (s : kept.State) (alert : AlertData) (found : Found) → IsWhereToPut config s alert found → AreFound s.groups.items found.placements.items
+found_of config s alert found is = are_found config.routes s.groups.items (stamped_alert alert (s.inserts + 1)) found.placements.items is.placements
+
 -- what was found tells how many groups have to be made
-made_of : (config : Config) (s : kept.State) (alert : AlertData) (found : Found) (lent : List Target) (n : ℕ) → IsWhereToPut config s alert found → lent ≡ found.targets.items → n ≡ count_by (λ t. is_none t.place) lent → n ≡ (inserted config (state_of s) alert).made
+made_of : (config : Config) (s : kept.State) (alert : AlertData) (found : Found) (lent : List Placement) (n : ℕ) → IsWhereToPut config s alert found → lent ≡ found.placements.items → n ≡ count_by (λ p. is_none p.place) lent → n ≡ (inserted config (state_of s) alert).made
 made_of config s alert found lent n is e counted =
-    made_told config alert.labels s.groups.items found.targets.items lent n e counted is.names is.targets
+    made_told config alert.labels s.groups.items found.placements.items lent n e counted is.names (found_of config s alert found is)
 
 pub returns-then-len-made : goal.returns-then-len-made
 returns-then-len-made c =
@@ -39,36 +41,31 @@ returns-then-len-made c =
     let made = made_of config s c.args.alert c.args.found c.as_slice.result.now c.count_missing-made.result is c.as_slice.ensures.value c.count_missing-made.ensures in
     (answer_groups config (vec_len s.history) (state_of s) c.args.alert is.room is.few (makes_many config s c.args.alert c.count_missing-made.result made (omega (arith, c.if-len-made.true, c.len.ensures.len))), stays_itself config s c.requires.good)
 
--- each group that was found is of a route that is there
-routed : (config : Config) (labels : List Label) (ts : List Target) → map (λ t. t.name) ts ≡ names_for config labels → All (λ t. t.name.route ≤ last_of config.routes) ts
-routed config labels ts names =
-    all-told (λ (t : Target). t.name) (λ (n : GroupName). n.route ≤ last_of config.routes) ts
-    (subst (All (λ (n : GroupName). n.route ≤ last_of config.routes)) (sym names) (names_routed config labels))
-
-pub prepare_all-requires : goal.prepare_all-requires
-prepare_all-requires c = routed c.args.config.now c.args.alert.labels c.args.found.targets.items c.requires.found.names
-
 pub reserve_insert-requires-clause-distinct : goal.reserve_insert-requires-clause-distinct
 reserve_insert-requires-clause-distinct c = names_apart c.args.state.now.groups.items c.requires.good.consistent.groups
 
--- the places that were found for the groups are those of the placements
-placed : (gs : List Group) (ts : List Target) (ps : List Placement) → map target_of ps ≡ ts → All (IsFound gs) ts → AreFound gs ps
-placed gs ts ps same found = all-told target_of (IsFound gs) ps (subst (All (IsFound gs)) (sym same) found)
-
 pub reserve_insert-requires-clause-found : goal.reserve_insert-requires-clause-found
 reserve_insert-requires-clause-found c =
-    let gs : List Group = c.args.state.now.groups.items in
-    subst (AreFound gs) (sym c.as_slice-2.ensures.value) (placed gs c.args.found.targets.items c.in_ok-placements.placements.items c.in_ok-placements.ensures.targets c.requires.found.targets)
+    subst (AreFound c.args.state.now.groups.items) (sym c.as_slice-2.ensures.value) (found_of c.args.config.now c.args.state.now c.args.alert c.args.found c.requires.found)
 
 pub put_prepared-requires-clause-found : goal.put_prepared-requires-clause-found
 put_prepared-requires-clause-found c =
-    still_found c.in_ok-placements.placements.items c.args.state.now.groups.items c.reserve_insert.new.state.groups.items c.in_ok-reserve_insert.ensures.kept.names
-    (placed c.args.state.now.groups.items c.args.found.targets.items c.in_ok-placements.placements.items c.in_ok-placements.ensures.targets c.requires.found.targets)
+    still_found c.args.found.placements.items c.args.state.now.groups.items c.reserve_insert.new.state.groups.items c.in_ok-reserve_insert.ensures.kept.names
+    (found_of c.args.config.now c.args.state.now c.args.alert c.args.found c.requires.found)
+
+pub put_prepared-requires-clause-empty : goal.put_prepared-requires-clause-empty
+put_prepared-requires-clause-empty c =
+    let s : kept.State = c.args.state.now in
+    are_empty c.args.config.now.routes s.groups.items (stamped_alert c.args.alert (s.inserts + 1)) c.args.found.placements.items c.requires.found.placements
 
 pub put_prepared-requires-clause-apart : goal.put_prepared-requires-clause-apart
-put_prepared-requires-clause-apart c =
-    let names = names_placed c.in_ok-placements.placements.items c.args.found.targets.items (names_for c.args.config.now c.args.alert.labels) c.in_ok-placements.ensures.targets c.requires.found.names in
-    are_apart c.args.config.now c.args.alert.labels c.in_ok-placements.placements.items names
+put_prepared-requires-clause-apart c = are_apart c.args.config.now c.args.alert.labels c.args.found.placements.items c.requires.found.names
+
+-- each placement is of a route that is there
+routed : (config : Config) (labels : List Label) (ps : List Placement) → map (λ p. p.name) ps ≡ names_for config labels → AreRoutedPlacements config.routes ps
+routed config labels ps names =
+    all-told (λ (p : Placement). p.name) (λ (n : GroupName). n.route ≤ last_of config.routes) ps
+    (subst (All (λ (n : GroupName). n.route ≤ last_of config.routes)) (sym names) (names_routed config labels))
 
 pub returns : goal.returns
 returns c =
@@ -76,18 +73,17 @@ returns c =
     let s : kept.State = c.args.state.now in
     let reserved : kept.State = c.reserve_insert.new.state in
     let new : kept.State = c.put_prepared.new.state in
-    let placements : List Placement = c.in_ok-placements.placements.items in
-    let targets : List Target = c.args.found.targets.items in
+    let placements : List Placement = c.args.found.placements.items in
     let alert : AlertData = c.args.alert in
     let is = c.requires.found in
-    let names = names_placed placements targets (names_for config alert.labels) c.in_ok-placements.ensures.targets is.names in
-    let routes = all-told target_of (λ (t : Target). t.name.route ≤ last_of config.routes) placements
-    (subst (All (λ (t : Target). t.name.route ≤ last_of config.routes)) (sym c.in_ok-placements.ensures.targets) (routed config alert.labels targets is.names)) in
+    let names = is.names in
+    let routes = routed config alert.labels placements names in
+    let placed = are_placed config.routes s.groups.items (stamped_alert alert (s.inserts + 1)) placements is.placements in
     let kept = c.in_ok-reserve_insert.ensures.kept in
     let ready = c.in_ok-reserve_insert.ensures.ready in
     let made : c.count_missing-made.result ≡ (inserted config (state_of s) alert).made =
     made_of config s alert c.args.found c.as_slice.result.now c.count_missing-made.result is c.as_slice.ensures.value c.count_missing-made.ensures in
-    let groups : c.len-2.result ≡ length (names_for config alert.labels) = omega (arith, c.len-2.ensures, c.in_ok-placements.placements.ok.0, count_is config alert.labels placements names) in
+    let groups : c.len-2.result ≡ length (names_for config alert.labels) = omega (arith, c.len-2.ensures, c.args.found.placements.ok.0, count_is config alert.labels placements names) in
     let still = stays_reserved config s reserved c.requires.good kept in
     let logged : All (IsPrepared config new.log) reserved.flushes.items = subst (λ log. All (IsPrepared config log) reserved.flushes.items) (sym c.put_prepared.ensures.log) still.prepared in
     let flushes : vec_len new.flushes ≡ vec_len reserved.flushes = ap (λ (fs : Vec OpenFlush Global). vec_len fs) c.put_prepared.ensures.flushes in
@@ -97,7 +93,7 @@ returns c =
       no_cause config (vec_len s.history) (state_of s) alert is.room is.few (makes_few config s alert c.count_missing-made.result made (omega (arith, c.if-len-made.false, c.len.ensures.len))),
       λ id. record {
         told = ap (λ (told : Inserted). Some (reply.Inserted told)) (told_is config (state_of s) alert c.len-2.result c.count_missing-made.result groups made);
-        state = agrees_same _ _ (insert_leaves config s reserved new c.moment-t.result c.args.now alert c.in_ok-copy.copy placements (c.put_prepared.ensures.state config) kept c.in_ok-copy.ensures c.moment-t.ensures c.requires.good.consistent.clock c.in_ok-placements.ensures.placed names);
+        state = agrees_same _ _ (insert_leaves config s reserved new c.moment-t.result c.args.now alert c.in_ok-copy.copy placements (c.put_prepared.ensures.state config) kept c.in_ok-copy.ensures c.moment-t.ensures c.requires.good.consistent.clock placed names);
         routed = c.put_prepared.ensures.routed config.routes still.routed routes;
         prepared = subst (λ (fs : Vec OpenFlush Global). All (IsPrepared config new.log) fs.items) (sym c.put_prepared.ensures.flushes) logged;
         history = c.push_reserved.ensures.items ∙ ap (λ (rs : List Record). rs ++ added ∷ []) (ap (λ (rs : Vec Record Global). rs.items) c.put_prepared.ensures.history ∙ kept.history);

@@ -16,7 +16,7 @@ use Rattle.am_board.specs.GroupNameCache.{AreKept}
 use Rattle.am_model.specs.Causes.{insert_cause}
 use Rattle.am_board.specs.Refinement.{state_of}
 use Rattle.am_board.specs.Step.{AppliesCall, LeavesUnchanged, IsAnswer}
-use Rattle.am_board.specs.declared.insert.Target.{Target}
+use Rattle.am_board.specs.declared.insert.Placement.{Placement}
 use Rattle.am_board.specs.declared.state.State as kept
 use Rattle.am_board.proofs.lemmas.invariant.GroupNameCache.{kept_put, known_then, known_still, put_at, put_within}
 use Rattle.am_board.proofs.insert.put_routed.Goals as goal
@@ -45,15 +45,12 @@ new_are : (config : Config) (alert a : AlertData) (found : List GroupName) (o : 
 new_are config alert a found None are is same = tt
 new_are config alert a found (Some names) are is same = are ∙ is ∙ sym (ap (λ (b : AlertData). names_for config b.labels) same)
 
-pub find_targets-requires : goal.find_targets-requires
-find_targets-requires c =
-    let config : Config = c.args.config.now in
-    let kept = c.of-kept.ensures config c.args.state.now.known.items c.args.alert.labels c.requires.kept c.requires.place in
-    record { kept = subst (λ labels. IfSome c.of-kept.result (λ names. names.now ≡ names_for config labels)) (sym c.labels-labels.ensures.labels) kept }
+pub find_placements-requires : goal.find_placements-requires
+find_placements-requires c =
+    record { kept = c.of-kept.ensures c.args.config.now c.args.state.now.known.items c.args.alert.labels c.requires.kept c.requires.place }
 
 pub put_found-inserted-requires : goal.put_found-inserted-requires
 put_found-inserted-requires c =
-    let config : Config = c.args.config.now in
     record {
       good = c.requires.good;
       found = record {
@@ -61,8 +58,8 @@ put_found-inserted-requires c =
         few = c.requires.names;
         place = c.requires.place;
         within = c.requires.within;
-        names = c.in_ok-targets.ensures.names ∙ ap (names_for config) c.labels-labels.ensures.labels;
-        targets = c.in_ok-targets.ensures.found;
+        names = c.in_ok-placements.ensures.names;
+        placements = c.in_ok-placements.ensures.found;
       };
     }
 
@@ -85,9 +82,9 @@ returns-clause-kept c =
           let at : n ≡ unwrap_or place (length old.known.items) = c.unwrap_or-number.ensures ∙ ap (unwrap_or place) c.len.ensures in
           let there = put_there config old new alert c.args.pass c.args.now c.args.destinations.now P Q c.put_found-inserted.result (sym c.is_ok.ensures.value ∙ w.if-is_ok.true) put in
           let within : n < length new.known.items = subst (λ (xs : List AlertData). n < length xs) (sym there) (put_within alert old.known.items place n found at) in
-          let names = ap (map (λ (t : Target). t.name)) c.as_slice.ensures.value ∙ (c.in_ok-targets.ensures.names ∙ ap (names_for config) c.labels-labels.ensures.labels) in
+          let names = ap (map (λ (p : Placement). p.name)) c.as_slice.ensures.value ∙ c.in_ok-placements.ensures.names in
           subst (AreKept config new.known.items) (sym w.destinations-is)
           (w.keep.ensures config new.known.items are within
-          (λ a is. new_are config alert a (map (λ (t : Target). t.name) c.as_slice.result.now) c.new_names-names.result c.new_names-names.ensures names (put_at alert old.known.items place n a found at (subst (λ (xs : List AlertData). IsAt xs n a) there is))))
+          (λ a is. new_are config alert a (map (λ (p : Placement). p.name) c.as_slice.result.now) c.new_names-names.result c.new_names-names.ensures names (put_at alert old.known.items place n a found at (subst (λ (xs : List AlertData). IsAt xs n a) there is))))
       | else-is_ok w ↦ subst (AreKept config new.known.items) (sym w.destinations-is) are
     ]

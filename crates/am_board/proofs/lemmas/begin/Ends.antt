@@ -22,7 +22,7 @@ use Rattle.am_board.specs.declared.state.State as kept
 use Rattle.am_model.specs.Begin.{begun, after_begin, after_taking, reply_taking, after_asking, reply_asking, asked_of, begun_group, without_resolved, count_resolved, flush_asking, notice_for, deadline_of}
 use Rattle.am_model.specs.Configured.{route_of}
 use Rattle.am_board.specs.Group.{names_of, AreRouted}
-use Rattle.am_model.specs.Records.{entry}
+use Rattle.am_model.specs.Records.{entry, flush_reply}
 use Rattle.am_model.specs.Insert.{same_group}
 use Rattle.am_board.specs.Refinement.{state_of, group_state, flush_state, IsPrepared}
 use Rattle.am_board.specs.LogRows.{log_rows}
@@ -38,7 +38,7 @@ use Rattle.am_board.proofs.lemmas.invariant.Staying.{agrees_same}
 
 -- the reply and the state where some integrations are asked
 told_opened : (config : Config) (id : ℕ) (s : State) (t : ℕ) (g : GroupState) (asked : List (ℕ × Integration)) → asked ≢ []
-    → reply_asking config id s t g asked ≡ Flush s.next_number g.name (deadline_of config t g) (map (notice_for config id s t g) asked)
+    → reply_asking config id s t g asked ≡ flush_reply s.next_number g.name (deadline_of config t g) (map (notice_for config id s t g) asked)
 told_opened config id s t g [] some = absurd (some refl)
 told_opened config id s t g (i ∷ is) some = refl
 
@@ -147,10 +147,10 @@ module _ (config : Config) (id : ℕ) (old : kept.State) (chosen : ChosenGroup) 
       → ((key : LogKey GroupName) → IsTrue (is_known same_name old.log key) → IsTrue (is_known same_name new.log key))
       → All (λ (a : Asked). a.key.group ≡ o.flush.group → IsTrue (is_known same_name new.log a.key)) o.flush.asked.items
       → new.flushes.items ≡ old.flushes.items ++ o.flush ∷ []
-      → new.history.items ≡ old.history.items ++ entry chosen.pass (Begin chosen.now) (Flush o.number o.recorded_group o.deadline o.recorded_notices) ∷ []
+      → new.history.items ≡ old.history.items ++ entry chosen.pass (Begin chosen.now) (Flush o.recorded_group o.recorded) ∷ []
       → vec_len new.history ≡ vec_len old.history + 1
       → vec_len new.history + vec_len new.flushes ≤ vec_capacity new.history
-      → AppliesCall config id (entry chosen.pass (Begin chosen.now) (Flush o.number o.group o.deadline o.notices.items)) old new
+      → AppliesCall config id (entry chosen.pass (Begin chosen.now) (flush_reply o.number o.group o.deadline o.notices.items)) old new
   accepts_flush h o new some planned marked put is rows keeps asked flushes history records room =
       let all_asked = asked_of config (state_of old) chosen.t (group_state g) in
       let named_as_before : h.name ≡ g.name = ap (λ (x : GroupState). x.name) marked in
@@ -169,12 +169,12 @@ module _ (config : Config) (id : ℕ) (old : kept.State) (chosen : ChosenGroup) 
         told =
             told_taking
             ∙ ap (λ r. Some r) (told_opened config id (state_of old) chosen.t (group_state g) all_asked some)
-            ∙ (λ i. Some (Flush (sym planned.number i) (sym planned.group i) (sym planned.deadline i) (sym planned.notices i)));
+            ∙ (λ i. Some (flush_reply (sym planned.number i) (sym planned.group i) (sym planned.deadline i) (sym planned.notices i)));
         state =
             agrees_same _ _
             (ap state_of is
             ∙ (λ i. record (state_of old) { clock = chosen.t; groups = groups i; rows = rows i; flushes = opened i; next_number = old.next_number + 1 })
-            ∙ sym (after_this (Flush o.number o.group o.deadline o.notices.items) ∙ after_opened config (state_of old) chosen.t (group_state g) all_asked some));
+            ∙ sym (after_this (flush_reply o.number o.group o.deadline o.notices.items) ∙ after_opened config (state_of old) chosen.t (group_state g) all_asked some));
         routed = subst (λ gs. AreRouted config.routes (names_of gs)) (sym put) (routed_after h named_as_before);
         prepared =
             subst (λ fs. All (IsPrepared config new.log) fs) (sym flushes)
@@ -182,7 +182,7 @@ module _ (config : Config) (id : ℕ) (old : kept.State) (chosen : ChosenGroup) 
             (All-cons (IsPrepared config new.log) o.flush [] prepared (All-nil (IsPrepared config new.log))));
         history =
             history
-            ∙ (λ i. old.history.items ++ entry chosen.pass (Begin chosen.now) (Flush o.number ((planned.recorded_group ∙ sym planned.group) i) o.deadline ((planned.recorded_notices ∙ sym planned.notices) i)) ∷ []);
+            ∙ (λ i. old.history.items ++ entry chosen.pass (Begin chosen.now) (Flush ((planned.recorded_group ∙ sym planned.group) i) (planned.recorded i)) ∷ []);
         records = records;
         room = room;
       }

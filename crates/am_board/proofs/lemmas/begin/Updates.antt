@@ -78,7 +78,7 @@ named-none name (r ∷ rs) e =
     ] e
 
 -- there are label sets where there are alerts
-empty-label_sets : (alerts : List AlertData) → is_empty (label_sets alerts) ≡ is_empty alerts
+pub empty-label_sets : (alerts : List AlertData) → is_empty (label_sets alerts) ≡ is_empty alerts
 empty-label_sets [] = refl
 empty-label_sets (a ∷ alerts) = refl
 

@@ -13,7 +13,7 @@ use Rattle.am_model.specs.Begin.{copied}
 use Rattle.am_model.specs.Lists.{without}
 use Rattle.am_model.specs.State.{MemberState, State}
 use Rattle.am_model.proofs.states.InOrder.{labels-copied}
-use Rattle.am_board.specs.Beginning.{copy_among, firing_among, resolved_among}
+use Rattle.am_board.specs.Beginning.{copies_at, copy_among, firing_among, resolved_among}
 use Rattle.am_board.specs.Refinement.{member_state}
 use Rattle.am_board.specs.Walk.{AreFound, cause_of, firing_if, listed_if, muted_at, muted_if, resolved_if}
 use Rattle.am_board.specs.declared.group.Member.{Member}
@@ -98,8 +98,8 @@ module _ (rules : List RuleData) (s : State) (t : ℕ) where
 
     -- an alert is at the next place
     pub found_more : (m : Member) → slice_get ms (get_or ps i 0) ≡ Some m → (new : Walk)
-        → new.firing.items ≡ walk.firing.items ++ firing_if t m.alert (cause_of rules s t m)
-        → new.resolved.items ≡ walk.resolved.items ++ resolved_if t m.alert (cause_of rules s t m)
+        → copies_at t new.firing.items ≡ copies_at t walk.firing.items ++ firing_if t m.alert (cause_of rules s t m)
+        → copies_at t new.resolved.items ≡ copies_at t walk.resolved.items ++ resolved_if t m.alert (cause_of rules s t m)
         → new.muted.items ≡ walk.muted.items ++ listed_if causes (get_or ps i 0) (cause_of rules s t m)
         → AreFound rules s t ms (take (i + 1) ps) causes new
     found_more m at new fire gone mute =

@@ -15,7 +15,7 @@ use Rattle.am_board.specs.declared.group.Group.{Group}
 use Rattle.am_board.specs.declared.group.Member.{Member}
 use Rattle.am_model.specs.Begin.{alert_cmp, copied, copy_under, label_sets}
 use Rattle.am_model.specs.Configured.{route_muted}
-use Rattle.am_board.specs.Beginning.{AreRising, IsUnmuted, copy_among, firing_among, resolved_among}
+use Rattle.am_board.specs.Beginning.{AreRising, IsUnmuted, copies_at, copy_among, firing_among, resolved_among}
 use Rattle.am_model.specs.Insert.{same_alert, same_member}
 use Rattle.am_board.specs.Refinement.{group_state, member_state}
 use Rattle.am_board.specs.Members.{labels_of}
@@ -79,11 +79,11 @@ module _ (config : Config) (s : State) (t : ℕ) (g : Group) (apart : IsDistinct
   -- what a walk finds is what is unmuted
   pub is_walked : (rules : List RuleData) (causes : Bool) (walk : Walk) (unmuted : Unmuted)
       → route_muted config g.name t ≡ None → rules ≡ config.rules → IsWalk rules s t g.members.items causes walk
-      → unmuted.firing ≡ walk.firing.items → unmuted.resolved ≡ walk.resolved.items
+      → unmuted.firing ≡ copies_at t walk.firing.items → unmuted.resolved ≡ copies_at t walk.resolved.items
       → IsUnmuted config s t (group_state g) unmuted
   is_walked rules causes walk unmuted unshut same_rules is fire gone =
       let ms = g.members.items in
-      let found = is_found rules (filter_map (slice_get ms) (places_in_order (map labels_of ms))) walk.firing.items walk.resolved.items
+      let found = is_found rules (filter_map (slice_get ms) (places_in_order (map labels_of ms))) (copies_at t walk.firing.items) (copies_at t walk.resolved.items)
       unshut same_rules (members_there ms) is.firing is.resolved in
       record { firing = fire ∙ found.firing; resolved = gone ∙ found.resolved }
 

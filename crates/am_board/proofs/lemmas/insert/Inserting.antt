@@ -1,5 +1,5 @@
 -- Why an insert is refused, what it is told, and the state that it leaves.
-use Rattle.std.proofs.Common.{◌≡◌, ℕ, ◌+◌, ◌<◌, ◌≤◌, inl, inr, Bool, true, false, not, ◌&&◌, nat_le, nat_lt, Option, Some, None, List, [], ◌∷◌, map, length, refl, sym, ap, ◌∙◌, subst, arith, Vec, Global, vec_len}
+use Rattle.std.proofs.Common.{◌≡◌, ℕ, ◌+◌, ◌<◌, ◌≤◌, inl, inr, Bool, true, false, not, ◌&&◌, nat_le, nat_lt, Option, Some, None, List, map, length, refl, sym, ap, ◌∙◌, subst, arith, Vec, Global, vec_len}
 use Rattle.std.specs.Prelude.{All, is_none, is_some, if◌then◌else◌}
 use Rattle.std.specs.List.{count_by, list_any, position}
 use Rattle.std.proofs.lemmas.Bool.Decides.{nat_tests}
@@ -14,14 +14,14 @@ use Rattle.am_board.specs.declared.flush.OpenFlush.{OpenFlush}
 use Rattle.am_board.specs.declared.group.Group.{Group}
 use Rattle.am_model.specs.declared.group.GroupName.{GroupName}
 use Rattle.am_board.specs.declared.insert.Placement.{Placement}
-use Rattle.am_board.specs.declared.insert.Target.{Target}
 use Rattle.am_board.specs.declared.state.State as kept
 use Rattle.am_model.specs.Causes.{insert_cause, is_full, is_name_too_many, makes_too_many}
 use Rattle.am_model.specs.Insert.{names_for, same_alert, inserted, after_insert}
 use Rattle.am_board.specs.Group.{AreRouted}
 use Rattle.am_board.specs.Refinement.{state_of, group_state, IsPrepared}
-use Rattle.am_board.specs.Inserting.{IsReservedState, IsPlacementOf, IsFound, place_in, target_of, stamped_alert}
-use Rattle.am_model.specs.State.{State, moment, has_group, is_named, same_name}
+use Rattle.am_board.specs.Inserting.{IsReservedState, IsPlacementOf, AreFound, IsEmptyWithRoom, IsFound, IsToPut, place_in, target_of, stamped_alert}
+use Rattle.am_alerts.specs.RoutingTree.{RoutingTree}
+use Rattle.am_model.specs.State.{State, MemberState, moment, has_group, is_named, same_name}
 use Rattle.am_board.specs.Step.{StateInvariant, LeavesUnchanged, IsAnswer}
 use Rattle.am_model.proofs.lists.Distinct.{all_to, all-weaker}
 use Rattle.am_model.proofs.lists.Places.{none_any, position-map, count_told, count_alike}
@@ -89,23 +89,27 @@ module _ (config : Config) (s : State) (a : AlertData) where
 pub missing_is : (gs : List Group) (name : GroupName) → is_none (position (λ g. same_name name g.name) gs) ≡ not (has_group (map group_state gs) name)
 missing_is gs name = ap (λ o. is_none o) (sym (position-map group_state (is_named name) gs)) ∙ none_any (is_named name) (map group_state gs)
 
-pub made_is : (config : Config) (labels : List Label) (gs : List Group) (ts : List Target) → map (λ t. t.name) ts ≡ names_for config labels → All (IsFound gs) ts → count_by (λ t. is_none t.place) ts ≡ count_by (λ name. not (has_group (map group_state gs) name)) (names_for config labels)
-made_is config labels gs ts e found =
-    count_alike (λ (t : Target). is_none t.place) (λ t. is_none (place_in t.name gs)) ts
-    (all-weaker (IsFound gs) (λ t. is_none t.place ≡ is_none (place_in t.name gs)) (λ t at. ap (λ o. is_none o) at) ts (all_to (IsFound gs) ts found))
-    ∙ (count_told (λ (t : Target). t.name) (λ t. is_none (place_in t.name gs)) (λ name. not (has_group (map group_state gs) name)) (λ t. missing_is gs t.name) ts
+pub made_is : (config : Config) (labels : List Label) (gs : List Group) (ps : List Placement) → map (λ p. p.name) ps ≡ names_for config labels → AreFound gs ps → count_by (λ p. is_none p.place) ps ≡ count_by (λ name. not (has_group (map group_state gs) name)) (names_for config labels)
+made_is config labels gs ps e found =
+    let Is : Placement → Type 0 = λ p. IsFound gs (target_of p) in
+    count_alike (λ (p : Placement). is_none p.place) (λ p. is_none (place_in p.name gs)) ps
+    (all-weaker Is (λ p. is_none p.place ≡ is_none (place_in p.name gs)) (λ p at. ap (λ o. is_none o) at) ps (all_to Is ps found))
+    ∙ (count_told (λ (p : Placement). p.name) (λ p. is_none (place_in p.name gs)) (λ name. not (has_group (map group_state gs) name)) (λ p. missing_is gs p.name) ps
     ∙ ap (count_by (λ name. not (has_group (map group_state gs) name))) e)
 
 pub count_is : (config : Config) (labels : List Label) (ps : List Placement) → map (λ p. p.name) ps ≡ names_for config labels → length ps ≡ length (names_for config labels)
 count_is config labels ps e = sym (length-map ps (λ (p : Placement). p.name)) ∙ ap length e
 
--- the names of placements are those of the groups that they go to
-pub names_placed : (ps : List Placement) (ts : List Target) (names : List GroupName) → map target_of ps ≡ ts → map (λ t. t.name) ts ≡ names → map (λ p. p.name) ps ≡ names
-names_placed ps ts names same e = told ps ∙ (ap (map (λ (t : Target). t.name)) same ∙ e)
-  where
-    told : (qs : List Placement) → map (λ p. p.name) qs ≡ map (λ t. t.name) (map target_of qs)
-    told [] = refl
-    told (q ∷ qs) = ap (λ ns. q.name ∷ ns) (told qs)
+-- what holds of placements that have all that they need
+module _ (tree : RoutingTree) (gs : List Group) (m : MemberState) (ps : List Placement) (are : All (IsToPut tree gs m) ps) where
+  pub are_found : AreFound gs ps
+  are_found i d within = (are i d within).0
+
+  pub are_empty : All IsEmptyWithRoom ps
+  are_empty i d within = (are i d within).1
+
+  pub are_placed : All (IsPlacementOf tree m) ps
+  are_placed i d within = (are i d within).2
 
 -- a state that holds what it held stays
 pub stays_reserved : (config : Config) (old new : kept.State) → StateInvariant config old → IsReservedState old new → LeavesUnchanged config old new
@@ -121,10 +125,10 @@ stays_reserved config old new good kept =
     }
 
 -- the same, as the code counts in what it lent
-pub made_told : (config : Config) (labels : List Label) (gs : List Group) (ts lent : List Target) (made : ℕ) → lent ≡ ts → made ≡ count_by (λ t. is_none t.place) lent → map (λ t. t.name) ts ≡ names_for config labels → All (IsFound gs) ts
+pub made_told : (config : Config) (labels : List Label) (gs : List Group) (ps lent : List Placement) (made : ℕ) → lent ≡ ps → made ≡ count_by (λ p. is_none p.place) lent → map (λ p. p.name) ps ≡ names_for config labels → AreFound gs ps
     → made ≡ count_by (λ name. not (has_group (map group_state gs) name)) (names_for config labels)
-made_told config labels gs ts lent made e told names found =
-    told ∙ (ap (count_by (λ (t : Target). is_none t.place)) e ∙ made_is config labels gs ts names found)
+made_told config labels gs ps lent made e told names found =
+    told ∙ (ap (count_by (λ (p : Placement). is_none p.place)) e ∙ made_is config labels gs ps names found)
 
 -- whether too many groups would be made, in what is kept
 makes_is : (config : Config) (s : kept.State) (a : AlertData) (made : ℕ) → made ≡ (inserted config (state_of s) a).made → makes_too_many config (state_of s) a ≡ nat_lt config.limits.groups (length s.groups.items + made)

@@ -6,7 +6,7 @@ use Rattle.std.proofs.lemmas.List.{get_or-map, map-append, take_more}
 use Rattle.am_model.specs.declared.config.Config.{Config}
 use Rattle.am_board.specs.declared.group.Group.{Group}
 use Rattle.am_model.specs.declared.group.GroupName.{GroupName}
-use Rattle.am_board.specs.declared.insert.Target.{Target}
+use Rattle.am_board.specs.declared.insert.Placement.{Placement}
 use Rattle.am_model.specs.Insert.{same_group, wait_of, new_group, group_with, put_into_group}
 use Rattle.am_board.specs.declared.group.Member.{Member}
 use Rattle.am_board.specs.Inserting.{place_in}
@@ -55,18 +55,18 @@ module _ (config : Config) (t : ℕ) (m : MemberState) where
       ∙ (ap (λ (g : GroupState). upsert same_group g (map group_state gs)) e ∙ sym given)
 
 -- the names so far, with one more
-pub names_more : (f : ℕ → GroupName) (ps : List Target) (p : Target) (routes : List ℕ) (i : ℕ) → i < length routes → map (λ x. x.name) ps ≡ map f (take i routes) → p.name ≡ f (get_or routes i 0) → map (λ x. x.name) (ps ++ p ∷ []) ≡ map f (take (i + 1) routes)
+pub names_more : (f : ℕ → GroupName) (ps : List Placement) (p : Placement) (routes : List ℕ) (i : ℕ) → i < length routes → map (λ x. x.name) ps ≡ map f (take i routes) → p.name ≡ f (get_or routes i 0) → map (λ x. x.name) (ps ++ p ∷ []) ≡ map f (take (i + 1) routes)
 names_more f ps p routes i within before e =
-    map-append (λ (x : Target). x.name) ps (p ∷ [])
+    map-append (λ (x : Placement). x.name) ps (p ∷ [])
     ∙ (ap (λ ns. ns ++ p.name ∷ []) before
     ∙ (ap (λ n. map f (take i routes) ++ n ∷ []) e
     ∙ (sym (map-append f (take i routes) (get_or routes i 0 ∷ []))
     ∙ ap (map f) (sym (take_more routes i 0 within)))))
 
 -- the same, by names that are there
-pub named_more : (ps : List Target) (p : Target) (names : List GroupName) (i : ℕ) → i < length names → map (λ x. x.name) ps ≡ take i names → p.name ≡ get_or names i p.name → map (λ x. x.name) (ps ++ p ∷ []) ≡ take (i + 1) names
+pub named_more : (ps : List Placement) (p : Placement) (names : List GroupName) (i : ℕ) → i < length names → map (λ x. x.name) ps ≡ take i names → p.name ≡ get_or names i p.name → map (λ x. x.name) (ps ++ p ∷ []) ≡ take (i + 1) names
 named_more ps p names i within before e =
-    map-append (λ (x : Target). x.name) ps (p ∷ [])
+    map-append (λ (x : Placement). x.name) ps (p ∷ [])
     ∙ (ap (λ ns. ns ++ p.name ∷ []) before
     ∙ (ap (λ n. take i names ++ n ∷ []) e
     ∙ sym (take_more names i p.name within)))

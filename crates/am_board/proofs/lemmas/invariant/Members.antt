@@ -1,7 +1,8 @@
 -- The alerts of a group under their labels: one is put in, and some are taken out.
-use Rattle.std.proofs.Common.{◌≡◌, ℕ, suc, ◌-◌, Bool, true, false, cond, not, ◌||◌, Option, None, Vec, Global, List, [], ◌∷◌, length, map, filter, count_by, refl, sym, ap, ◌∙◌, subst, arith}
-use Rattle.std.specs.Prelude.{All, IfSome}
+use Rattle.std.proofs.Common.{◌≡◌, ℕ, suc, ◌-◌, ◌≤◌, ◌==◌, Bool, true, false, true≢false, cond, not, ◌||◌, List, [], ◌∷◌, length, map, filter, count_by, refl, sym, ap, ◌∙◌, subst, eqb-true, eq-eqb, arith}
+use Rattle.std.specs.Prelude.{All}
 use Rattle.std.specs.List.{AllByRecursion, list_any}
+use Rattle.std.proofs.lemmas.List.{length-map}
 use Rattle.std.proofs.lemmas.List.Sums.{length-filter}
 use Rattle.am_model.proofs.lists.Alone.{filter-none}
 use Rattle.std.specs.Map.{keys_of, values_of}
@@ -92,9 +93,15 @@ labels_keyed [] h = refl
 labels_keyed (e ∷ es) h = λ i. sym (All-head IsLabelled e es h) i ∷ labels_keyed es (All-tail IsLabelled e es h) i
 
 -- the order is that of the same label sets
-pub order_kept : (order : Option (Vec ℕ Global)) (es fs : List (List Label × Member)) → AreKeyed labels_of es → AreKeyed labels_of fs → keys_of fs ≡ keys_of es → IsOrder order (values_of es) → IsOrder order (values_of fs)
+pub order_kept : (order : List ℕ) (es fs : List (List Label × Member)) → AreKeyed labels_of es → AreKeyed labels_of fs → keys_of fs ≡ keys_of es → IsOrder order (values_of es) → IsOrder order (values_of fs)
 order_kept order es fs keyed still same h =
-    subst (λ ls. IfSome order (λ (places : Vec ℕ Global). places.items ≡ places_in_order ls)) (labels_keyed es keyed ∙ sym same ∙ sym (labels_keyed fs still)) h
+    let sets : map labels_of (values_of es) ≡ map labels_of (values_of fs) = labels_keyed es keyed ∙ sym same ∙ sym (labels_keyed fs still) in
+    let as_many : length (values_of es) ≡ length (values_of fs) = sym (length-map (values_of es) labels_of) ∙ ap length sets ∙ length-map (values_of fs) labels_of in
+    record {
+      first = h.first;
+      within = let within = h.within in omega (arith, within, as_many);
+      sorted = λ whole. h.sorted (whole ∙ sym as_many) ∙ ap places_in_order sets;
+    }
 
 -- where no entry more is there after one was put in, the keys are the same
 pub keys_put : (k : List Label) (m : Member) (es : List (List Label × Member)) → length (insert_entry same_label_set es k m) ≡ length es → keys_of (insert_entry same_label_set es k m) ≡ keys_of es
@@ -105,15 +112,34 @@ keys_put k m (e ∷ es) same =
       | false ↦ λ h. ap (λ ks. e.0 ∷ ks) (keys_put k m es (omega (arith, h)))
     ] same
 
--- one was put in, and the order is kept where no entry came
-pub order_put : (order new : Option (Vec ℕ Global)) (m : Member) (es : List (List Label × Member)) (same : Bool) → AreMembers es → AreMembers (insert_entry same_label_set es m.alert.labels m)
-    → (same ≡ true → length (insert_entry same_label_set es m.alert.labels m) ≡ length es) → new ≡ cond same order None → IsOrder order (values_of es)
-    → IsOrder new (values_of (insert_entry same_label_set es m.alert.labels m))
-order_put order new m es true before after no_more is h =
-    subst (λ o. IsOrder o (values_of (insert_entry same_label_set es m.alert.labels m))) (sym is)
-    (order_kept order es (insert_entry same_label_set es m.alert.labels m) before.keyed after.keyed (keys_put m.alert.labels m es (no_more refl)) h)
-order_put order new m es false before after no_more is h =
-    subst (λ o. IsOrder o (values_of (insert_entry same_label_set es m.alert.labels m))) (sym is) tt
+-- no entry goes where one is put in
+no_fewer : (k : List Label) (m : Member) (es : List (List Label × Member)) → length es ≤ length (insert_entry same_label_set es k m)
+no_fewer k m [] = omega arith
+no_fewer k m (e ∷ es) =
+    let rest = no_fewer k m es in
+    elim (same_label_set k e.0) as (λ b. suc (length es) ≤ length (cond b ((e.0, m) ∷ es) (e ∷ insert_entry same_label_set es k m))) [
+      | true ↦ omega arith
+      | false ↦ omega (arith, rest)
+    ]
+
+-- one was put in: its label set was there, or it is last and its place isn't kept
+pub order_put : (order : List ℕ) (m : Member) (es : List (List Label × Member)) → AreMembers es → AreMembers (insert_entry same_label_set es m.alert.labels m)
+    → IsOrder order (values_of es) → IsOrder order (values_of (insert_entry same_label_set es m.alert.labels m))
+order_put order m es before after h = by (length fs == length es) refl
+  where
+    fs : List (List Label × Member)
+    fs = insert_entry same_label_set es m.alert.labels m
+
+    by : (b : Bool) → (length fs == length es) ≡ b → IsOrder order (values_of fs)
+    by true e = order_kept order es fs before.keyed after.keyed (keys_put m.alert.labels m es (eqb-true (length fs) (length es) e)) h
+    by false e =
+        let differ : (length fs ≡ length es → ⊥) = λ same. true≢false (sym (eq-eqb (length fs) (length es) same) ∙ e) in
+        let within = h.within in
+        record {
+          first = h.first;
+          within = omega (arith, within, no_fewer m.alert.labels m es, length-values es, length-values fs);
+          sorted = λ whole. absurd (differ (omega (arith, whole, within, no_fewer m.alert.labels m es, length-values es, length-values fs)));
+        }
 
 -- ---- none is resolved
 

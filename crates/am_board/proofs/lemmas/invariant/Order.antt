@@ -14,7 +14,9 @@ use Rattle.std.specs.declared.cmp.Ordering.TheVariants.{Less, Equal, Greater}
 use Rattle.std.proofs.lemmas.Bool.{false≢true, and_from, and_parts}
 use Rattle.std.proofs.lemmas.Cmp.{on_total}
 use Rattle.std.proofs.lemmas.List.{length-map, take_more}
+use Rattle.std.proofs.lemmas.List.FromFn.{length-range_with_len}
 use Rattle.std.proofs.lemmas.List.Elements.{filter_map-append}
+use Rattle.std.proofs.lemmas.List.Sorted.{IsPermutation-append_left, IsPermutation-refl, IsPermutation-trans, length_permutation}
 use Rattle.std.proofs.lemmas.Map.Keys.{IsDistinct-tail}
 use Rattle.std.proofs.lemmas.Option.{slice_get-map}
 use Rattle.am_alerts.specs.Labels.{same_label_set, label_set_cmp}
@@ -28,7 +30,7 @@ use Rattle.am_model.proofs.lists.Distinct.{IsDistinct-told, IsDistinct-unmap}
 use Rattle.am_model.proofs.lists.InOrder.{sort_by_is_in_order, in_order-ascends, in_order-map}
 use Rattle.am_board.specs.Refinement.{member_state}
 use Rattle.am_board.specs.Members.{labels_of}
-use Rattle.am_board.specs.Order.{member_cmp, place_cmp, places_in_order}
+use Rattle.am_board.specs.Order.{IsOrder, member_cmp, place_cmp, places_in_order}
 use Rattle.am_board.specs.declared.group.Member.{Member}
 
 -- ---- all places
@@ -76,16 +78,37 @@ places_apart ms apart =
     (subst (IsDistinct (eq_by_cmp (option_cmp label_set_cmp))) (sym (all_there sets)) there)
 
 -- what a sort of all places gives
-pub sorted_places : {F : Type 0} {g : Mut F (Bor ℕ × (Bor ℕ × Unit {0})) Ordering} {f : F} (ms : List Member) (xs ys : List ℕ) → xs ≡ range_with_len 0 (length ms) → IsPermutation xs ys
+pub sorted_places : {F : Type 0} {g : Mut F (Bor ℕ × (Bor ℕ × Unit {0})) Ordering} {f : F} (ms : List Member) (xs ys : List ℕ) → IsPermutation (range_with_len 0 (length ms)) xs → IsPermutation xs ys
     → ((lt : ℕ → ℕ → Bool) → IsStrictWeakOrder lt → ComparesAs g lt f → IsSortedBy lt ys)
     → ((a : Bor ℕ × (Bor ℕ × Unit {0})) (r : Ordering) (f' : F) → Called g f a r f' → (r ≡ place_cmp (map labels_of ms) a.0.now a.1.0.now) × (f' ≡ f))
     → IsDistinct same_member (map member_state ms) → ys ≡ places_in_order (map labels_of ms)
 sorted_places ms xs ys all moved sorted answers apart =
     let sets = map labels_of ms in
-    let here : xs ≡ range_with_len 0 (length sets) = all ∙ ap (range_with_len 0) (sym (length-map ms labels_of)) in
-    sort_by_is_in_order (place_cmp sets) (place_cmp_total sets) xs ys moved sorted answers
-    (subst (IsDistinct (eq_by_cmp (place_cmp sets))) (sym here) (places_apart ms apart))
-    ∙ ap (in_order (place_cmp sets)) here
+    let as_many : range_with_len 0 (length ms) ≡ range_with_len 0 (length sets) = ap (range_with_len 0) (sym (length-map ms labels_of)) in
+    let from : IsPermutation (range_with_len 0 (length sets)) ys =
+    subst (λ all_places. IsPermutation all_places ys) as_many (IsPermutation-trans (range_with_len 0 (length ms)) xs ys all moved) in
+    sort_by_is_in_order (place_cmp sets) (place_cmp_total sets) (range_with_len 0 (length sets)) ys from sorted answers (places_apart ms apart)
+
+-- one place more behind others
+pub one_added : (i : ℕ) (xs ys : List ℕ) → IsPermutation (range_with_len 0 i) xs → ys ≡ xs ++ i ∷ [] → IsPermutation (range_with_len 0 (i + 1)) ys
+one_added i xs ys moved added =
+    subst (λ all_places. IsPermutation all_places ys) (sym (counting i))
+    (subst (IsPermutation (range_with_len 0 i ++ i ∷ [])) (sym added) (IsPermutation-append_left (i ∷ []) (range_with_len 0 i) xs moved))
+
+-- no place is there
+pub none_there : (ms : List Member) → IsOrder [] ms
+none_there [] = record { first = IsPermutation-refl []; within = omega arith; sorted = λ whole. refl }
+none_there (m ∷ ms) = record { first = IsPermutation-refl []; within = omega arith; sorted = λ whole. absurd (omega (arith, whole)) }
+
+-- all places are there, in the order of labels
+pub all_sorted : (ms : List Member) (ps : List ℕ) → ps ≡ places_in_order (map labels_of ms) → IsPermutation (range_with_len 0 (length ms)) ps → IsOrder ps ms
+all_sorted ms ps is moved =
+    let as_many : length ps ≡ length ms = length_permutation (range_with_len 0 (length ms)) ps moved ∙ length-range_with_len 0 (length ms) in
+    record {
+      first = subst (λ n. IsPermutation (range_with_len 0 n) ps) (sym as_many) moved;
+      within = omega (arith, as_many);
+      sorted = λ whole. is;
+    }
 
 -- ---- the alerts at the places
 

@@ -29,7 +29,7 @@ returns c =
       group = c.in_ok-copy.ensures;
       recorded_group = c.in_ok-copy-2.ensures;
       notices = notices;
-      recorded_notices = c.in_ok-new.ensures ∙ c.in_ok-copy_all.ensures ∙ (c.as_slice.ensures.value ∙ notices);
+      recorded = c.in_ok-recorded.ensures ∙ ap (λ ns. record { number = s.next_number; deadline = c.saturating_add-deadline.result; notices = ns }) c.as_slice.ensures.value;
       outcomes = c.in_ok-with_capacity.ensures.items;
       none = c.in_ok-with_capacity.ensures.len;
       room = omega (arith, c.in_ok-with_capacity.ensures.capacity, c.len.ensures);

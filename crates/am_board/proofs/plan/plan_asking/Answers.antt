@@ -1,6 +1,7 @@
-use Rattle.std.proofs.Common.{◌≡◌, ◌∙◌, length, map, sym, ap, arith, rules}
+use Rattle.std.proofs.Common.{◌≡◌, ◌∙◌, length, map, sym, ap, subst, arith, rules}
 use Rattle.std.proofs.lemmas.Bool.Decides.{nat_tests}
-use Rattle.am_board.specs.Beginning.{update_of}
+use Rattle.am_board.specs.Beginning.{AreRising, IsUnmuted, update_of}
+use Rattle.am_board.specs.Refinement.{group_state, state_of}
 use Rattle.am_board.proofs.lemmas.begin.Updates.{no-updates}
 use Rattle.am_board.proofs.plan.plan_asking.Goals as goal
 
@@ -15,3 +16,10 @@ returns c = (
   search rules,
   c.in_ok-planned.ensures,
 )
+
+pub open-requires-clause-rising : goal.open-requires-clause-rising
+open-requires-clause-rising c = subst AreRising (sym c.in_ok-copies.ensures) c.requires.rising
+
+pub open-requires-clause-unmuted : goal.open-requires-clause-unmuted
+open-requires-clause-unmuted c =
+    subst (IsUnmuted c.args.config.now (state_of c.args.state.now) c.args.t (group_state c.args.group.now)) (sym c.in_ok-copies.ensures) c.requires.unmuted

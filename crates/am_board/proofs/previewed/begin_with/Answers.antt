@@ -1,6 +1,5 @@
 use Rattle.std.proofs.Common.{◌≡◌, ◌∙◌, Result, Some, vec_len, sym, ap, subst}
 use Rattle.std.specs.Option.{option_map}
-use Rattle.std.proofs.lemmas.Result.{err_from_is_err_and}
 use Rattle.am_model.specs.Causes.{begin_cause}
 use Rattle.am_model.specs.State.{moment}
 use Rattle.am_model.specs.declared.fault.Fault.{Fault}
@@ -9,53 +8,35 @@ use Rattle.am_board.specs.Beginning.{IsChosen}
 use Rattle.am_board.specs.Refinement.{group_state, state_of}
 use Rattle.am_board.specs.declared.begin.Begun.{Begun}
 use Rattle.am_board.specs.declared.group.Group.{Group}
-use Rattle.am_board.proofs.lemmas.begin.Causes.{IsTold, ended, one_of, planned_err, planned_few, planned_none, planned_room}
-use Rattle.am_board.proofs.lemmas.invariant.Staying.{stays_itself}
+use Rattle.am_board.proofs.lemmas.begin.Causes.{IsTold, ended, planned_few, planned_none, planned_room}
 use Rattle.am_board.proofs.previewed.begin_with.Goals as goal
 use Rattle.am_board.proofs.previewed.begin_with.Goals.{After-begin_planned}
 
-pub plan_previewed-requires-clause-sets : goal.plan_previewed-requires-clause-sets
-plan_previewed-requires-clause-sets c = (c.requires.found (one_of c.args.state.now.groups.items c.args.chosen.place c.requires.place)).sets
-
-pub plan_previewed-requires-clause-unmuted : goal.plan_previewed-requires-clause-unmuted
-plan_previewed-requires-clause-unmuted c d = (c.requires.found d).unmuted
-
-pub plan_previewed-requires-clause-asked : goal.plan_previewed-requires-clause-asked
-plan_previewed-requires-clause-asked c d = c.as_slice-asked.ensures.value ∙ (c.requires.found d).asked
-
-pub returns-in_err-planned : goal.returns-in_err-planned
-returns-in_err-planned c g takes =
-    let p = err_from_is_err_and c.from_residual.result c.from_residual.ensures.1 in
-    rw (p.1, p.2) (
-      planned_err c.args.config.now c.args.id c.args.state.now c.args.chosen g takes c.requires.room c.in_err-planned.field-0.0 c.in_err-planned.ensures,
-      stays_itself c.args.config.now c.args.state.now c.requires.good,
-    )
-
 pub begin_planned-requires-clause-none : goal.begin_planned-requires-clause-none
-begin_planned-requires-clause-none c = planned_none c.args.config.now c.args.id c.args.state.now c.args.chosen c.requires.place c.in_ok-planned.planned c.in_ok-planned.ensures
+begin_planned-requires-clause-none c = planned_none c.args.config.now c.args.id c.args.state.now c.args.chosen c.requires.place c.args.planned (λ d. (c.requires.found d).1)
 
 pub begin_planned-requires-clause-room : goal.begin_planned-requires-clause-room
-begin_planned-requires-clause-room c = planned_room c.args.config.now c.args.id c.args.state.now c.args.chosen c.requires.place c.in_ok-planned.planned c.in_ok-planned.ensures
+begin_planned-requires-clause-room c = planned_room c.args.config.now c.args.id c.args.state.now c.args.chosen c.requires.place c.args.planned (λ d. (c.requires.found d).1)
 
 pub begin_planned-requires-clause-few : goal.begin_planned-requires-clause-few
-begin_planned-requires-clause-few c = planned_few c.args.config.now c.args.id c.args.state.now c.args.chosen c.requires.place c.in_ok-planned.planned c.in_ok-planned.ensures c.requires.good.few
+begin_planned-requires-clause-few c = planned_few c.args.config.now c.args.id c.args.state.now c.args.chosen c.requires.place c.args.planned (λ d. (c.requires.found d).1) c.requires.good.few
 
 -- the begin ends as its plan says
 told_so : (c : After-begin_planned) (g : Group) → IsChosen c.args.config.now c.args.state.now c.args.chosen g
     → IsTold c.args.config.now c.args.id c.args.chosen.pass c.args.chosen.now c.args.state.now c.begin_planned.new.state
     (begin_cause c.args.config.now (vec_len c.args.state.now.history) (state_of c.args.state.now) (moment (state_of c.args.state.now) c.args.chosen.now)) c.begin_planned.result
 told_so c g takes =
-    ended c.args.config.now c.args.id c.args.state.now c.args.chosen g takes c.requires.room c.in_ok-planned.planned c.in_ok-planned.ensures c.begin_planned.new.state c.begin_planned.result
+    ended c.args.config.now c.args.id c.args.state.now c.args.chosen g takes c.requires.room c.args.planned (λ d. (c.requires.found d).1) c.begin_planned.new.state c.begin_planned.result
     (λ plan. c.begin_planned.ensures c.args.config.now g c.requires.good takes plan)
 
 -- the preview that is returned
 shown : (c : After-begin_planned) (g : Group) → IsChosen c.args.config.now c.args.state.now c.args.chosen g
-    → Some c.args.found.preview ≡ preview_at c.args.config.now (state_of c.args.state.now) (moment (state_of c.args.state.now) c.args.chosen.now)
+    → Some c.args.preview ≡ preview_at c.args.config.now (state_of c.args.state.now) (moment (state_of c.args.state.now) c.args.chosen.now)
 shown c g takes =
     let config = c.args.config.now in
     let s = state_of c.args.state.now in
     let t = c.args.chosen.t in
-    ap Some ((c.requires.found g).preview ∙ ap (λ (x : Group). preview_on config s t (reason_of config s t) (group_state x)) (takes.group g))
+    ap Some ((c.requires.found g).0 ∙ ap (λ (x : Group). preview_on config s t (reason_of config s t) (group_state x)) (takes.group g))
     ∙ sym (ap (option_map (preview_on config s t (reason_of config s t))) takes.first)
     ∙ ap (preview_at config s) takes.moment
 

@@ -1,4 +1,4 @@
-use Rattle.std.proofs.Common.{◌≡◌, ◌∙◌, ◌+◌, ◌<◌, ◌≤◌, ℕ, None, Option, Result, MatchResult, length, vec_len, refl, sym, ap, subst, arith}
+use Rattle.std.proofs.Common.{◌≡◌, ◌∙◌, ◌+◌, ◌<◌, ◌≤◌, ℕ, None, Option, Result, Ok, Err, MatchResult, length, slice_index_or, vec_len, sym, ap, subst, arith}
 use Rattle.std.specs.Prelude.{All}
 use Rattle.std.specs.Option.{option_map}
 use Rattle.std.proofs.lemmas.Result.{err_from_is_err_and}
@@ -14,16 +14,17 @@ use Rattle.am_model.specs.declared.fault.Fault.{Fault}
 use Rattle.am_model.specs.declared.preview.Preview.{Preview}
 use Rattle.am_model.specs.declared.record.Call.TheVariants.{Begin}
 use Rattle.am_model.specs.look_back.Preview.{preview_at, preview_on, reason_of}
-use Rattle.am_board.specs.Beginning.{IsChosen}
+use Rattle.am_board.specs.Beginning.{IsChosen, IsPlan}
 use Rattle.am_board.specs.History.{reply_of, IsFresh}
 use Rattle.am_board.specs.LogRows.{log_rows}
-use Rattle.am_board.specs.Preview.{IsGroupPreview}
+use Rattle.am_board.specs.Preview.{IsPreviewedPlan}
 use Rattle.am_board.specs.Refinement.{group_state, state_of}
 use Rattle.am_board.specs.Step.{AppliesCall, IsAnswer, LeavesUnchanged, StateInvariant}
 use Rattle.am_board.specs.declared.begin.Begun.{Begun}
+use Rattle.am_board.specs.declared.begin.ChosenGroup.{ChosenGroup}
 use Rattle.am_board.specs.declared.group.Group.{Group}
 use Rattle.am_board.specs.declared.state.State.{State}
-use Rattle.am_board.proofs.lemmas.begin.Causes.{IsTold, answer-memory, cause-closed, told}
+use Rattle.am_board.proofs.lemmas.begin.Causes.{IsTold, cause-closed, planned_err, told}
 use Rattle.am_board.proofs.lemmas.begin.PlannedFlushes.{members-apart}
 use Rattle.am_board.proofs.lemmas.invariant.GroupNames.{routed_at}
 use Rattle.am_board.proofs.lemmas.invariant.Staying.{stays_itself}
@@ -44,25 +45,25 @@ IsPreviewed config id pass now old new result =
     × (IsFresh id both.0 × (both.1 ≡ preview_at config (state_of old) (moment (state_of old) now))))
     (λ fault. IsAnswer (begin_cause config (vec_len old.history) (state_of old) (moment (state_of old) now)) fault × LeavesUnchanged config old new)
 
-pub of-requires-clause-sources : goal.of-requires-clause-sources
-of-requires-clause-sources c = subst (λ (x : State). AreLearnt c.args.config.now.rules x.known.items c.args.sources.now) (sym c.prepare.ensures) c.requires.sources
+pub preview_and_plan-requires-clause-sources : goal.preview_and_plan-requires-clause-sources
+preview_and_plan-requires-clause-sources c = subst (λ (x : State). AreLearnt c.args.config.now.rules x.known.items c.args.sources.now) (sym c.prepare.ensures) c.requires.sources
 
-pub of-requires-clause-route : goal.of-requires-clause-route
-of-requires-clause-route c =
+pub preview_and_plan-requires-clause-route : goal.preview_and_plan-requires-clause-route
+preview_and_plan-requires-clause-route c =
     let s = c.prepare.new.state in
     let good = subst (StateInvariant c.args.config.now) (sym c.prepare.ensures) c.requires.good in
     let within = subst (λ (x : State). c.in-Some.chosen.place < length x.groups.items) (sym c.prepare.ensures) c.in-Some.ensures.chosen.place in
     routed_at c.args.config.now.routes s.groups.items c.in-Some.chosen.place c.at-group.result.now good.routed within c.at-group.ensures
 
-pub of-requires-clause-apart : goal.of-requires-clause-apart
-of-requires-clause-apart c =
+pub preview_and_plan-requires-clause-apart : goal.preview_and_plan-requires-clause-apart
+preview_and_plan-requires-clause-apart c =
     let s = c.prepare.new.state in
     let good = subst (StateInvariant c.args.config.now) (sym c.prepare.ensures) c.requires.good in
     let within = subst (λ (x : State). c.in-Some.chosen.place < length x.groups.items) (sym c.prepare.ensures) c.in-Some.ensures.chosen.place in
     members-apart s.groups.items c.in-Some.chosen.place c.at-group.result.now good.consistent.members within c.at-group.ensures
 
-pub of-requires-clause-moments : goal.of-requires-clause-moments
-of-requires-clause-moments c = subst (λ (x : State). All (λ row. row.moment ≤ MAX_MOMENT) (log_rows x.log)) (sym c.prepare.ensures) c.requires.moments
+pub preview_and_plan-requires-clause-moments : goal.preview_and_plan-requires-clause-moments
+preview_and_plan-requires-clause-moments c = subst (λ (x : State). All (λ row. row.moment ≤ MAX_MOMENT) (log_rows x.log)) (sym c.prepare.ensures) c.requires.moments
 
 pub begin_with-requires-clause-good : goal.begin_with-requires-clause-good
 begin_with-requires-clause-good c = subst (StateInvariant c.args.config.now) (sym c.prepare.ensures) c.requires.good
@@ -70,14 +71,14 @@ begin_with-requires-clause-good c = subst (StateInvariant c.args.config.now) (sy
 pub begin_with-requires-clause-place : goal.begin_with-requires-clause-place
 begin_with-requires-clause-place c = subst (λ (x : State). c.in-Some.chosen.place < length x.groups.items) (sym c.prepare.ensures) c.in-Some.ensures.chosen.place
 
-pub begin_with-requires-clause-moment : goal.begin_with-requires-clause-moment
-begin_with-requires-clause-moment c = omega (arith, c.requires.good.consistent.clock, c.in-Some.ensures.chosen.moment)
+pub preview_and_plan-requires-clause-moment : goal.preview_and_plan-requires-clause-moment
+preview_and_plan-requires-clause-moment c = omega (arith, c.requires.good.consistent.clock, c.in-Some.ensures.chosen.moment)
 
 pub begin_with-requires-clause-found : goal.begin_with-requires-clause-found
 begin_with-requires-clause-found c d =
     let s = c.prepare.new.state in
     let within = subst (λ (x : State). c.in-Some.chosen.place < length x.groups.items) (sym c.prepare.ensures) c.in-Some.ensures.chosen.place in
-    subst (λ (x : Group). IsGroupPreview c.args.config.now (state_of s) c.in-Some.chosen.t (group_state x) c.in_ok-found.found)
+    subst (λ (x : Group). IsPreviewedPlan c.args.config.now c.args.id (vec_len s.flushes) (state_of s) c.in-Some.chosen.t (group_state x) (Ok c.in_ok-found.found))
     (c.at-group.ensures ∙ sym (get_or_default s.groups.items c.in-Some.chosen.place d c.at-group.result.now within)) c.in_ok-found.ensures
 
 pub returns : goal.returns
@@ -121,12 +122,26 @@ returns-in-Err c =
     (c.begin_nothing.ensures config c.args.id c.requires.good c.moment-t.ensures none) in
     subst (λ (r : Result Begun Fault). IsTold config c.args.id c.args.pass c.args.now s c.begin_nothing.new.state (begin_cause config (vec_len s.history) st (moment st c.args.now)) r) c.in-Err.is all
 
+-- what the begin works out, of the state before it was put in order
+abbrev Plans : Config → ℕ → ChosenGroup → Fault → State → Type 0
+Plans config id chosen fault s =
+    (d : Group) → IsPlan config id (vec_len s.flushes) (state_of s) chosen.t (group_state (slice_index_or s.groups.items chosen.place d)) (Err fault)
+
 pub returns-in_err-found : goal.returns-in_err-found
 returns-in_err-found c =
     let config = c.args.config.now in
     let s = c.args.state.now in
+    let new = c.prepare.new.state in
+    let chosen = c.in-Some.chosen in
+    let takes = c.in-Some.ensures in
+    let fault = c.in_err-found.field-0.0 in
     let p = err_from_is_err_and c.from_residual.result c.from_residual.ensures.1 in
+    let within = subst (λ (x : State). chosen.place < length x.groups.items) (sym c.prepare.ensures) takes.chosen.place in
+    let worked : Plans config c.args.id chosen fault new = λ d.
+    subst (λ (x : Group). IsPlan config c.args.id (vec_len new.flushes) (state_of new) chosen.t (group_state x) (Err fault))
+    (c.at-group.ensures ∙ sym (get_or_default new.groups.items chosen.place d c.at-group.result.now within)) c.in_err-found.ensures in
     rw (p.1, p.2) (
-      answer-memory config s c.args.now (moment (state_of s) c.args.now) refl (c.has_room.ensures.0 c.if-not-has_room.false),
+      subst (λ n. IsAnswer (begin_cause config (vec_len s.history) (state_of s) (moment (state_of s) n)) fault) takes.now
+          (planned_err config c.args.id s chosen takes.group takes.chosen (c.has_room.ensures.0 c.if-not-has_room.false) fault (subst (Plans config c.args.id chosen fault) c.prepare.ensures worked)),
       subst (LeavesUnchanged config s) (sym c.prepare.ensures) (stays_itself config s c.requires.good),
     )

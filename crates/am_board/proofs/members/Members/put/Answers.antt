@@ -1,4 +1,4 @@
-use Rattle.std.proofs.Common.{◌≡◌, false, List, length, map, refl, ap, sym, subst, ◌∙◌, eqb-true, arith}
+use Rattle.std.proofs.Common.{◌≡◌, false, List, map, refl, ap, sym, subst, ◌∙◌}
 use Rattle.std.specs.Prelude.{OnOk}
 use Rattle.std.specs.Map.{values_of}
 use Rattle.indexmap.specs.IndexMap.{insert_entry}
@@ -32,10 +32,8 @@ invariant_of-self c =
     record {
       members = subst AreMembers (sym (entered at)) put;
       sorted =
-          subst (λ (fs : List (List Label × Member)). IsOrder c.keep_where.new.order (values_of fs)) (sym (entered at))
-          (order_put c.self.inside.order c.keep_where.new.order (unmarked c.args.member) es _ c.self.invariant.members put
-          (λ e. omega (arith, eqb-true c.len.result c.len-before.result e, c.len.ensures.len, c.len-before.ensures.len, ap length (entered at)))
-          c.keep_where.ensures c.self.invariant.sorted);
+          subst (λ (fs : List (List Label × Member)). IsOrder c.self.inside.order.items (values_of fs)) (sym (entered at))
+          (order_put c.self.inside.order.items (unmarked c.args.member) es c.self.invariant.members put c.self.invariant.sorted);
     }
 
 pub returns-clause-members : goal.returns-clause-members

@@ -16,7 +16,7 @@ invariant_of-self c =
     (unmarked_at es c.args.j was c.self.invariant.members c.index_mut-member.ensures.value) in
     record {
       members = are;
-      sorted = order_kept c.self.inside.order es _ c.self.invariant.members.keyed are.keyed (keys_set es c.args.j m) c.self.invariant.sorted;
+      sorted = order_kept c.self.inside.order.items es _ c.self.invariant.members.keyed are.keyed (keys_set es c.args.j m) c.self.invariant.sorted;
     }
 
 pub returns-clause-members : goal.returns-clause-members

@@ -8,6 +8,7 @@ use Rattle.am_board.specs.Members.{MemberList}
 use Rattle.am_board.specs.Order.{IsOrder}
 use Rattle.am_board.proofs.lemmas.finish.LeavingAlerts.{others_stay, are_unmarked, nothing_leaves, nothing_counts}
 use Rattle.am_board.proofs.lemmas.invariant.Members.{members_left, members_gone}
+use Rattle.am_board.proofs.lemmas.invariant.Order.{none_there}
 use Rattle.am_board.proofs.members.Members.take_leaving.Goals as goal
 use Rattle.am_board.proofs.members.Members.take_leaving.Goals.{After-retain}
 
@@ -19,7 +20,7 @@ stay c = others_stay c.args.leaving.now c.mark_all.new.members.entries c.retain.
 
 pub invariant_of-self : goal.invariant_of-self
 invariant_of-self c =
-    record { members = are_unmarked c.args.leaving.now c.mark_all.new.members.entries c.retain.new.self.entries c.mark_all.ensures.marks (unmarked_stay ((goal.at.invariant_of-self c).After-retain)) c.mark_all.ensures.keyed; sorted = subst (λ o. IsOrder o (values_of c.retain.new.self.entries)) (sym c.forget.ensures) tt }
+    record { members = are_unmarked c.args.leaving.now c.mark_all.new.members.entries c.retain.new.self.entries c.mark_all.ensures.marks (unmarked_stay ((goal.at.invariant_of-self c).After-retain)) c.mark_all.ensures.keyed; sorted = subst (λ o. IsOrder o (values_of c.retain.new.self.entries)) (sym c.forget.ensures) (none_there (values_of c.retain.new.self.entries)) }
 
 pub returns-clause-members : goal.returns-clause-members
 returns-clause-members c =

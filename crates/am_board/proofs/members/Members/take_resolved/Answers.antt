@@ -10,6 +10,7 @@ use Rattle.am_board.specs.Members.{MemberList}
 use Rattle.am_board.specs.Order.{IsOrder}
 use Rattle.am_board.specs.declared.group.Member.{Member}
 use Rattle.am_board.proofs.lemmas.invariant.Members.{all_stay, none_over, are_left, members_left, members_gone}
+use Rattle.am_board.proofs.lemmas.invariant.Order.{none_there}
 use Rattle.am_board.proofs.members.Members.take_resolved.Goals as goal
 use Rattle.am_board.proofs.members.Members.take_resolved.Goals.{After-retain}
 
@@ -18,7 +19,7 @@ stay c = filter-RetainsPairs _ _ _ (λ k v b w g call. search rules) _ _ c.retai
 
 pub invariant_of-self : goal.invariant_of-self
 invariant_of-self c =
-    record { members = are_left (λ (m : MemberState). is_resolved m.alert c.args.t) c.self.inside.members.entries c.retain.new.self.entries (stay ((goal.at.invariant_of-self c).After-retain)) c.self.invariant.members; sorted = subst (λ o. IsOrder o (values_of c.retain.new.self.entries)) (sym c.forget.ensures) tt }
+    record { members = are_left (λ (m : MemberState). is_resolved m.alert c.args.t) c.self.inside.members.entries c.retain.new.self.entries (stay ((goal.at.invariant_of-self c).After-retain)) c.self.invariant.members; sorted = subst (λ o. IsOrder o (values_of c.retain.new.self.entries)) (sym c.forget.ensures) (none_there (values_of c.retain.new.self.entries)) }
 
 pub returns-clause-members : goal.returns-clause-members
 returns-clause-members c =

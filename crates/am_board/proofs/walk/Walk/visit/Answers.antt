@@ -6,6 +6,7 @@ use Rattle.am_alerts.specs.AlertData.{AlertData}
 use Rattle.am_alerts.specs.declared.labels.Label.{Label}
 use Rattle.am_mute.specs.Mute.{is_muted, mute_cause_of}
 use Rattle.am_mute.specs.declared.mute.MuteCause.{MuteCause}
+use Rattle.am_board.specs.Beginning.{copies_at}
 use Rattle.am_board.specs.Refinement.{state_of}
 use Rattle.am_board.specs.Walk.{cause_for, firing_if, listed_if, muted_if, resolved_if}
 use Rattle.am_board.proofs.lemmas.begin.Walks.{cause-none, firing-muted, resolved-muted}
@@ -15,15 +16,15 @@ use Rattle.am_board.proofs.walk.Walk.visit.Goals as goal
 pub returns-then-wants_causes : goal.returns-then-wants_causes
 returns-then-wants_causes c =
     let t = c.args.t in
-    let a = c.args.alert.now in
+    let a = c.args.member.now.alert in
     let s = state_of c.args.state.now in
     let rules = c.args.rules.now in
     let old = c.args.self.now in
     let found : c.in_ok-cause.cause ≡ cause_for rules s t a =
     c.in_ok-cause.ensures ∙ ap (λ (ls : List Label). mute_cause_of ls t s.silences rules s.known) c.labels-labels.ensures.labels in
     record {
-      firing = subst (λ (o : Option MuteCause). OnOk c.add.result (c.add.new.self.firing.items ≡ old.firing.items ++ firing_if t a o)) found c.add.ensures.firing;
-      resolved = subst (λ (o : Option MuteCause). OnOk c.add.result (c.add.new.self.resolved.items ≡ old.resolved.items ++ resolved_if t a o)) found c.add.ensures.resolved;
+      firing = subst (λ (o : Option MuteCause). OnOk c.add.result (copies_at t c.add.new.self.firing.items ≡ copies_at t old.firing.items ++ firing_if t a o)) found c.add.ensures.firing;
+      resolved = subst (λ (o : Option MuteCause). OnOk c.add.result (copies_at t c.add.new.self.resolved.items ≡ copies_at t old.resolved.items ++ resolved_if t a o)) found c.add.ensures.resolved;
       muted =
           subst (λ (b : Bool). OnOk c.add.result (c.add.new.self.muted.items ≡ old.muted.items ++ listed_if b c.args.place (cause_for rules s t a))) (sym c.if-wants_causes.true)
           (subst (λ (o : Option MuteCause). OnOk c.add.result (c.add.new.self.muted.items ≡ old.muted.items ++ cons_option (muted_if c.args.place o) [])) found c.add.ensures.muted);
@@ -32,7 +33,7 @@ returns-then-wants_causes c =
 pub returns-then-branch : goal.returns-then-branch
 returns-then-branch c =
     let t = c.args.t in
-    let a = c.args.alert.now in
+    let a = c.args.member.now.alert in
     let s = state_of c.args.state.now in
     let rules = c.args.rules.now in
     let old = c.args.self.now in
@@ -41,15 +42,15 @@ returns-then-branch c =
     ∙ sym (ap (λ (ls : List Label). is_muted ls t s.silences rules s.known) c.labels-labels.ensures.labels)
     ∙ sym c.in_ok-is_muted.ensures ∙ c.if-branch.true in
     record {
-      firing = sym (ap (λ (l : List AlertData). old.firing.items ++ l) (firing-muted t a (cause_for rules s t a) muted) ∙ append-nil old.firing.items);
-      resolved = sym (ap (λ (l : List AlertData). old.resolved.items ++ l) (resolved-muted t a (cause_for rules s t a) muted) ∙ append-nil old.resolved.items);
+      firing = sym (ap (λ (l : List AlertData). copies_at t old.firing.items ++ l) (firing-muted t a (cause_for rules s t a) muted) ∙ append-nil (copies_at t old.firing.items));
+      resolved = sym (ap (λ (l : List AlertData). copies_at t old.resolved.items ++ l) (resolved-muted t a (cause_for rules s t a) muted) ∙ append-nil (copies_at t old.resolved.items));
       muted = sym (ap (λ (b : Bool). old.muted.items ++ listed_if b c.args.place (cause_for rules s t a)) c.if-wants_causes.false ∙ append-nil old.muted.items);
     }
 
 pub returns : goal.returns
 returns c =
     let t = c.args.t in
-    let a = c.args.alert.now in
+    let a = c.args.member.now.alert in
     let s = state_of c.args.state.now in
     let rules = c.args.rules.now in
     let old = c.args.self.now in
@@ -59,8 +60,8 @@ returns c =
     ∙ sym (ap (λ (ls : List Label). is_muted ls t s.silences rules s.known) c.labels-labels.ensures.labels)
     ∙ sym c.in_ok-is_muted.ensures ∙ c.if-branch.false) in
     record {
-      firing = subst (λ (o : Option MuteCause). OnOk c.add-2.result (c.add-2.new.self.firing.items ≡ old.firing.items ++ firing_if t a o)) none c.add-2.ensures.firing;
-      resolved = subst (λ (o : Option MuteCause). OnOk c.add-2.result (c.add-2.new.self.resolved.items ≡ old.resolved.items ++ resolved_if t a o)) none c.add-2.ensures.resolved;
+      firing = subst (λ (o : Option MuteCause). OnOk c.add-2.result (copies_at t c.add-2.new.self.firing.items ≡ copies_at t old.firing.items ++ firing_if t a o)) none c.add-2.ensures.firing;
+      resolved = subst (λ (o : Option MuteCause). OnOk c.add-2.result (copies_at t c.add-2.new.self.resolved.items ≡ copies_at t old.resolved.items ++ resolved_if t a o)) none c.add-2.ensures.resolved;
       muted =
           subst (λ (b : Bool). OnOk c.add-2.result (c.add-2.new.self.muted.items ≡ old.muted.items ++ listed_if b c.args.place (cause_for rules s t a))) (sym c.if-wants_causes.false)
           c.add-2.ensures.muted;

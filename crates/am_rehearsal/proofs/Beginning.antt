@@ -3,6 +3,7 @@ use Rattle.std.proofs.Common.{◌≡◌, ℕ, true, false, List, [], length, Som
 use Rattle.std.proofs.lemmas.List.{append-nil}
 use Rattle.am_board.specs.History.{BoardData}
 use Rattle.am_model.specs.declared.fault.Fault.TheVariants.{TooManyOpen}
+use Rattle.am_model.specs.Records.{flush_reply}
 use Rattle.am_model.specs.declared.record.Reply.{Reply}
 use Rattle.am_model.specs.declared.record.Reply.TheVariants as reply
 use Rattle.am_model.specs.Ticket.{TicketData}
@@ -36,7 +37,7 @@ module _ (r : Setting) (c : Scene) (at : ℕ) where
     pub begin_flush : (t : TicketData) (begin : ℕ) (d : Scene) → IsTaken c.board c.events at b es (Flush t) → begin ≡ length (begin_indices c.events)
         → IsSendingAdded r at t begin (scene_of b es c.plans ss at c.maintenance true c.blocked) d → IsDone r c at d step.Begin
     begin_flush t begin d flush count added =
-        let told : Reply = reply.Flush t.number t.group t.deadline t.notices in
+        let told : Reply = flush_reply t.number t.group t.deadline t.notices in
         let fresh : TicketData = record { desk = c.board.id; number = t.number; group = t.group; deadline = t.deadline; notices = t.notices; outcomes = [] } in
         let is : t ≡ fresh =
         λ i. record {

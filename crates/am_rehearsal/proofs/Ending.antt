@@ -157,7 +157,7 @@ notices_in (reply.Inserted inserted) = 0
 notices_in (reply.Silenced silenced) = 0
 notices_in reply.NothingDue = 0
 notices_in (reply.Quiet group removed) = 0
-notices_in (reply.Flush number group deadline notices) = length notices
+notices_in (reply.Flush group opened) = length opened.notices
 notices_in (reply.Finished finished) = 0
 notices_in (reply.Maintained maintained) = 0
 notices_in (reply.Forgotten forgotten) = 0
@@ -287,8 +287,9 @@ module _ (r : Setting) (c d : Scene) (whole : c.board.handed ≡ []) where
     replied (reply.Quiet group removed) told room is =
         falls_to (after_taking c at (reply.Quiet group removed)) is
         (falls_recorded limit records _ flight flight comes comes goes 1 room (length_push c.board.history (entry 0 (call.Begin at) (reply.Quiet group removed))) (omega arith))
-    replied (reply.Flush number group deadline notices) told room sent =
-        let flush : Reply = reply.Flush number group deadline notices in
+    replied (reply.Flush group opened) told room sent =
+        let flush : Reply = reply.Flush group opened in
+        let notices : List NoticeData = opened.notices in
         let s : SendingData = sent.0 in
         let taking : Scene = after_taking c at flush in
         let count : length s.ends ≡ length notices = ends_counted (answers_for r taking.board group) r.span.cut at 0 notices s.ends sent.3 in

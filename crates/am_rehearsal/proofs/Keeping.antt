@@ -129,8 +129,8 @@ module _ (r : Setting) where
     replied : (at : ℕ) (told : Reply) → IsReplied r c at d told → Stays
     replied at reply.NothingDue is = ap all_inputs is ∙ ap (λ (i : InputTrace). both i c.plans) (begun_same c.board at reply.NothingDue)
     replied at (reply.Quiet group removed) is = ap all_inputs is ∙ ap (λ (i : InputTrace). both i c.plans) (begun_same c.board at (reply.Quiet group removed))
-    replied at (reply.Flush number group deadline notices) sent =
-        ap all_inputs sent.4 ∙ ap (λ (i : InputTrace). both i c.plans) (begun_same c.board at (reply.Flush number group deadline notices))
+    replied at (reply.Flush group opened) sent =
+        ap all_inputs sent.4 ∙ ap (λ (i : InputTrace). both i c.plans) (begun_same c.board at (reply.Flush group opened))
     replied at (reply.Inserted inserted) is = absurd is
     replied at (reply.Silenced silenced) is = absurd is
     replied at (reply.Finished finished) is = absurd is

@@ -20,7 +20,7 @@ use Rattle.am_rehearsal.specs.Laws.{RehearsalsHaveOnePlay}
 use Rattle.am_rehearsal.specs.Next.{next}
 use Rattle.am_rehearsal.specs.Play.{LeadsIn}
 use Rattle.am_rehearsal.specs.Scene.{Scene, SendingData, Setting, opening_scene}
-use Rattle.am_rehearsal.specs.Steps.{IsBegun, IsDone, IsPlanDone, IsReplied, IsSendingAdded, Steps, after_end, after_finish, after_taking, answers_for, with_sending}
+use Rattle.am_rehearsal.specs.Steps.{IsBegun, IsDone, IsPlanDone, IsReplied, IsSendingAdded, Steps, after_end, after_finish, after_taking, answers_for, ticket_of, with_sending}
 use Rattle.am_rehearsal.specs.Taking.{why_not}
 use Rattle.am_rehearsal.specs.EventOrder.{begin_indices}
 use Rattle.am_rehearsal.specs.declared.next.End.{End}
@@ -72,9 +72,8 @@ module _ (r : Setting) where
     replied_once : (at : ℕ) (told : Reply) → IsReplied r c at d told → IsReplied r c at e told → d ≡ e
     replied_once at reply.NothingDue a b = a ∙ sym b
     replied_once at (reply.Quiet group removed) a b = a ∙ sym b
-    replied_once at (reply.Flush number group deadline notices) a b =
-        let ticket : TicketData = record { desk = c.board.id; number = number; group = group; deadline = deadline; notices = notices; outcomes = [] } in
-        added_once at ticket (length (begin_indices c.events)) (after_taking c at (reply.Flush number group deadline notices)) d e a b
+    replied_once at (reply.Flush group opened) a b =
+        added_once at (ticket_of c.board.id group opened) (length (begin_indices c.events)) (after_taking c at (reply.Flush group opened)) d e a b
     replied_once at (reply.Inserted inserted) a b = absurd a
     replied_once at (reply.Silenced silenced) a b = absurd a
     replied_once at (reply.Finished finished) a b = absurd a

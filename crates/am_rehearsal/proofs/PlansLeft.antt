@@ -52,7 +52,7 @@ module _ (r : Setting) where
     replied : (at : ℕ) (told : Reply) → IsReplied r c at d told → Leaves
     replied at reply.NothingDue is = same_plans _ is refl
     replied at (reply.Quiet group removed) is = same_plans _ is refl
-    replied at (reply.Flush number group deadline notices) sent = same_plans _ sent.4 refl
+    replied at (reply.Flush group opened) sent = same_plans _ sent.4 refl
     replied at (reply.Inserted inserted) is = absurd is
     replied at (reply.Silenced silenced) is = absurd is
     replied at (reply.Finished finished) is = absurd is

@@ -1,5 +1,5 @@
 -- PreviewLog: what the begins of a board were to do, while it is played.
-use Rattle.std.specs.Prelude.{◌≡◌, ◌<◌, ℕ, Bool, true, false, List, [], ◌∷◌, length, Option, Some, None}
+use Rattle.std.specs.Prelude.{◌≡◌, ◌<◌, Bool, true, false, List, [], ◌∷◌, length, Option, Some, None}
 use Rattle.am_rehearsal.specs.declared.preview_log.WaitingBegin.{WaitingBegin}
 use Rattle.am_terms.specs.declared.event.PreviewedBegin.{PreviewedBegin}
 

@@ -9,6 +9,7 @@ use Rattle.am_model.specs.declared.group.GroupName.{GroupName}
 use Rattle.am_model.specs.declared.notice.Report.{Report}
 use Rattle.am_model.specs.declared.record.Call.{Call}
 use Rattle.am_model.specs.declared.record.Call.TheVariants as call
+use Rattle.am_model.specs.declared.record.Opened.{Opened}
 use Rattle.am_model.specs.declared.record.Reply.{Reply}
 use Rattle.am_model.specs.declared.record.Reply.TheVariants as reply
 use Rattle.am_model.specs.Begin.{begun}
@@ -124,15 +125,25 @@ IsSendingAdded r at ticket begin c d =
     (s : SendingData) × (s.ticket ≡ ticket) × (s.begin ≡ begin)
     × AreEndsOf (answers_for r c.board ticket.group) r.span.cut at 0 ticket.notices s.ends × (d ≡ with_sending s c)
 
+-- the ticket of a flush that a board's begin opened
+abbrev pub ticket_of : ℕ → GroupName → Opened → TicketData
+ticket_of desk group opened =
+    record {
+      desk = desk;
+      number = opened.number;
+      group = group;
+      deadline = opened.deadline;
+      notices = opened.notices;
+      outcomes = [];
+    }
+
 -- what a begin does that gets this reply
 abbrev pub IsReplied : Setting → Scene → ℕ → Scene → Reply → Type 0
 IsReplied r c at d reply.NothingDue = d ≡ after_nothing c at
 IsReplied r c at d (reply.Quiet group removed) = d ≡ after_taking c at (reply.Quiet group removed)
-IsReplied r c at d (reply.Flush number group deadline notices) =
-    let ticket : TicketData =
-    record { desk = c.board.id; number = number; group = group; deadline = deadline; notices = notices; outcomes = [] }
-    in
-    IsSendingAdded r at ticket (length (begin_indices c.events)) (after_taking c at (reply.Flush number group deadline notices)) d
+IsReplied r c at d (reply.Flush group opened) =
+    IsSendingAdded r at (ticket_of c.board.id group opened) (length (begin_indices c.events))
+    (after_taking c at (reply.Flush group opened)) d
 IsReplied r c at d (reply.Inserted inserted) = ⊥
 IsReplied r c at d (reply.Silenced silenced) = ⊥
 IsReplied r c at d (reply.Finished finished) = ⊥

@@ -8,7 +8,7 @@ use Rattle.am_model.specs.declared.record.Reply.{Reply}
 use Rattle.am_model.specs.declared.record.Reply.TheVariants as reply
 use Rattle.am_model.specs.Begin.{begun}
 use Rattle.am_model.specs.Causes.{begin_cause}
-use Rattle.am_model.specs.Records.{entry}
+use Rattle.am_model.specs.Records.{entry, flush_reply}
 use Rattle.am_model.specs.State.{moment}
 use Rattle.am_board.specs.History.{BoardData, records_at, state_at, with_record}
 use Rattle.am_board.specs.declared.begin.Begun.{Begun as Answer}
@@ -50,7 +50,7 @@ IsTaken old events at new events_since Quiet =
     (group : GroupName) × (removed : ℕ) × IsBeginBy old events at new events_since (reply.Quiet group removed)
 IsTaken old events at new events_since (Flush t) =
     (t.desk ≡ old.id) × (t.outcomes ≡ [])
-    × IsBeginBy old events at new events_since (reply.Flush t.number t.group t.deadline t.notices)
+    × IsBeginBy old events at new events_since (flush_reply t.number t.group t.deadline t.notices)
 
 -- what a begin came to is what the board answered
 abbrev pub IsOwn : Answer → Taken → Type 0

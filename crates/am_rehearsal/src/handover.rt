@@ -5,7 +5,7 @@
 //! a silence's id is the one that counts, and each is looked up once.
 ghost use Rattle.std.specs.Prelude.{◌≡◌, ◌++◌, ◌∷◌, ◌&&◌, ◌||◌, [], IfOk, OnOk, if◌then◌else◌, not, reverse};
 ghost use Rattle.am_rehearsal.specs.Handover.{handed_on, keeps_silences, loads, planned_at, replaces, set_again, still_counts};
-ghost use Rattle.am_rehearsal.specs.Handover.{is_recent, window_of};
+ghost use Rattle.am_rehearsal.specs.Handover.{window_of};
 ghost use Rattle.am_rehearsal.specs.Seen.{is_seen, SeesNothing};
 ghost use Rattle.am_terms.specs.declared.rehearsal.Action.{Action};
 

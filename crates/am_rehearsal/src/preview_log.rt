@@ -2,6 +2,10 @@
 //!
 //! A begin that was made can't be undone, so it is added without memory: the newest one waits as it is, and becomes one
 //! that shares its preview before the next one is made.
+//!
+//! Nearly every preview differs in its time alone from an earlier one of its group, and shares the rest with it. A look-up of the
+//! group's name would hash it each time. But groups are flushed round after round in nearly the same order. So the first begin to
+//! look at is the one that followed the begin found last. The name is looked up only where this guess is wrong, as for a new group.
 ghost use Rattle.std.specs.Prelude.{◌≡◌, ◌<◌, ◌++◌, ◌∷◌, [], IfOk, IfSome, MatchResult, OnOk, true, length};
 ghost use Rattle.am_rehearsal.specs.PreviewLog.{IsReady};
 
@@ -13,18 +17,17 @@ use am_terms::shared_preview::SharedPreview;
 use std::alloc::{AllocError, Global};
 use std::collections::HashMap;
 use std::marker::Model;
+use std::mem::replace;
 
 /// The previewed begins, in their order, and whether none of them waits.
 #[derive(Drop)]
 pub(crate) struct PreviewLog {
-    alloc: Global,
     /// How many begins there are.
     count: u32,
     begins: Vec<PreviewedBegin>,
     /// The newest begin, until it is among the others.
     waiting: Option<WaitingBegin>,
-    /// For each group one of its begins, whose preview others of the group share. It only saves memory.
-    sources: HashMap<GroupName, usize, Seed>,
+    sources: Sources,
 }
 
 /// A begin whose preview shares nothing.
@@ -32,6 +35,16 @@ pub(crate) struct PreviewLog {
 pub(crate) struct WaitingBegin {
     place: usize,
     preview: Preview,
+}
+
+/// Where a begin is looked for whose preview the next one shares. It only saves memory and time.
+#[derive(Drop)]
+struct Sources {
+    alloc: Global,
+    /// The position of the begin to look at first.
+    guess: usize,
+    /// For each group the position of one of its begins: the newest that wasn't guessed.
+    noted: HashMap<GroupName, usize, Seed>,
 }
 
 impl Model for PreviewLog {
@@ -51,11 +64,10 @@ impl PreviewLog {
         ensures { result.items ≡ [] }
     {
         PreviewLog {
-            alloc,
             count: 0,
             begins: Vec::new(alloc),
             waiting: None,
-            sources: HashMap::with_hasher(alloc, seed),
+            sources: Sources::new(alloc, seed),
         }
     }
 
@@ -92,7 +104,6 @@ impl PreviewLog {
     {
         self.settle()?;
         let PreviewLog {
-            alloc: _,
             count: _,
             begins,
             waiting: _,
@@ -111,12 +122,7 @@ impl PreviewLog {
             return Ok(());
         };
         let WaitingBegin { place, preview } = waiting;
-        match shared(
-            self.alloc,
-            self.begins.as_slice(),
-            &mut self.sources,
-            preview,
-        ) {
+        match self.sources.share(self.begins.as_slice(), preview) {
             Ok(preview) => {
                 self.begins.push_reserved(PreviewedBegin { place, preview });
                 Ok(())
@@ -129,39 +135,57 @@ impl PreviewLog {
     }
 }
 
-/// Returns a preview as one that shares what it can with those of these begins. It is handed back where memory is refused.
-fn shared(
-    alloc: Global,
-    begins: &[PreviewedBegin],
-    sources: &mut HashMap<GroupName, usize, Seed>,
-    preview: Preview,
-) -> Result<SharedPreview, Preview>
-    ensures { MatchResult result (λ shared. shared ≡ preview) (λ back. back ≡ preview) }
-{
-    match sources.get_mut(&preview.group) {
-        Some(source) => shared_with(alloc, begins, source, preview),
-        None => {
-            add_source(alloc, &preview.group, begins.len(), sources);
-            SharedPreview::new(alloc, preview)
+impl Sources {
+    /// Returns the sources of no begins.
+    fn new(alloc: Global, seed: Seed) -> Sources {
+        Sources {
+            alloc,
+            guess: 0,
+            noted: HashMap::with_hasher(alloc, seed),
         }
     }
-}
 
-/// Returns a preview as one that shares what it can with that of its group's source. Where it shares nothing, its begin is the
-/// source from now on.
-fn shared_with(
-    alloc: Global,
-    begins: &[PreviewedBegin],
-    source: &mut usize,
-    preview: Preview,
-) -> Result<SharedPreview, Preview>
-    ensures { MatchResult result (λ shared. shared ≡ preview) (λ back. back ≡ preview) }
-{
-    match again(begins, *source, &preview) {
-        Some(preview) => Ok(preview),
-        None => {
-            *source = begins.len();
-            SharedPreview::new(alloc, preview)
+    /// Returns the preview of the begin after these ones, as one that shares what it can with theirs. It is handed back where
+    /// memory is refused.
+    fn share(
+        &mut self,
+        begins: &[PreviewedBegin],
+        preview: Preview,
+    ) -> Result<SharedPreview, Preview>
+        ensures { MatchResult result (λ shared. shared ≡ preview) (λ back. back ≡ preview) }
+    {
+        match self.find(begins, &preview) {
+            Some(shared) => Ok(shared),
+            None => SharedPreview::new(self.alloc, preview),
+        }
+    }
+
+    /// Returns the preview of the begin after these ones, as one that shares all but its time with one of theirs, if such a one
+    /// is found.
+    fn find(&mut self, begins: &[PreviewedBegin], preview: &Preview) -> Option<SharedPreview>
+        ensures { IfSome result (λ shared. shared ≡ preview.now) }
+    {
+        let guessed = again(begins, self.guess, preview);
+        if guessed.is_some() {
+            self.guess = self.guess.saturating_add(1);
+            return guessed;
+        }
+        let source = self.note(&preview.group, begins.len())?;
+        self.guess = source.saturating_add(1);
+        again(begins, source, preview)
+    }
+
+    /// Notes the position of a begin of a group, and returns the one noted before, if there is one. Where memory is refused for a
+    /// group's first, none is noted.
+    fn note(&mut self, group: &GroupName, position: usize) -> Option<usize> {
+        match self.noted.get_mut(group) {
+            Some(noted) => Some(replace(noted, position)),
+            None => {
+                if let Ok(group) = group.copy(self.alloc) {
+                    let _ = self.noted.insert(group, position);
+                }
+                None
+            }
         }
     }
 }
@@ -171,16 +195,4 @@ fn again(begins: &[PreviewedBegin], source: usize, preview: &Preview) -> Option<
     ensures { IfSome result (λ shared. shared ≡ preview.now) }
 {
     begins.get(source)?.preview.again(preview).ok()?
-}
-
-/// Makes the begin at a position the source of a group that has none. It stays so where memory is refused.
-fn add_source(
-    alloc: Global,
-    group: &GroupName,
-    position: usize,
-    sources: &mut HashMap<GroupName, usize, Seed>,
-) {
-    if let Ok(group) = group.copy(alloc) {
-        let _ = sources.insert(group, position);
-    }
 }

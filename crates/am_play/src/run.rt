@@ -118,7 +118,7 @@ fn read(alloc: Global, input: &[u8]) -> Result<Scenario, RunFault>
     ensures refused { IfErr result (Refuses input.now) }
 {
     let value = parse(alloc, input)?;
-    Ok(read_scenario(alloc, &value)?)
+    Ok(read_scenario(alloc, value)?)
 }
 
 /// Plays a scenario on a desk of its own, of the id `BOARD_ID`, and makes its report.

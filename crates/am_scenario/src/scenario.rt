@@ -9,6 +9,7 @@ use am_model::config::Config;
 use am_pool::MAX_WORKERS;
 
 mod call;
+mod items;
 mod read;
 mod script;
 

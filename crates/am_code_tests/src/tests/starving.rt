@@ -171,7 +171,7 @@ fn play<R: AllocGlobal + Threads + Wait + Sync>(
 
 fn read(alloc: Global, text: &str) -> Result<Scenario, InputFault> {
     match parse(alloc, text.as_bytes()) {
-        Ok(value) => read_scenario(alloc, &value),
+        Ok(value) => read_scenario(alloc, value),
         Err(_) => Err(InputFault::NoMemory),
     }
 }

@@ -5,11 +5,12 @@ use Rattle.serde_json.specs.Data.{Data, Members}
 use Rattle.serde_json.specs.Find.{as_object, get_member}
 use Rattle.serde_json.specs.View.{members_view, view}
 use Rattle.serde_json.specs.declared.value.Value.{Value}
-use Rattle.am_cli.proofs.Decoding.{all_sure, as_listed, as_told, as_told_in, found, handed_on, listed_in, told_in}
+use Rattle.am_cli.proofs.Decoding.{all_sure, as_told, as_told_in, found, handed_on, told_in}
 use Rattle.am_cli.proofs.Members.{first, second}
 use Rattle.am_cli.specs.Configured.{DecodesToConfig, config_compares_texts}
 use Rattle.am_cli.specs.declared.reader.Dialect.{Dialect}
 use Rattle.am_cli.specs.declared.reader.Dialect.TheVariants.{Lenient}
+use Rattle.am_scenario.proofs.Lists.{among_members, out_of_members}
 use Rattle.am_scenario.specs.Decoding.{DecodesToPhase, DecodesToScenario, HasScenario, phase_compares_texts, scenario_compares_texts}
 use Rattle.am_scenario.specs.declared.scenario.Scenario.{Scenario}
 use Rattle.am_scenario.proofs.scenario.read.read_scenario.Goals as goal
@@ -23,7 +24,7 @@ inside value members scenario is told = found ⊥ (λ ms. HasScenario ms scenari
 
 pub returns-clause-told : goal.returns-clause-told
 returns-clause-told c =
-    let value = view c.args.value.now in
+    let value = view c.args.value in
     let members : Members = members_view c.in_ok-top.top.members in
     let is : Some members ≡ as_object value = c.in_ok-top.ensures.members ∙ ap (λ (v : Value). as_object (view v)) c.top-reader.ensures.value in
     let lenient : c.in_ok-top.top.dialect ≡ Lenient = c.in_ok-top.ensures.dialect ∙ c.top-reader.ensures.dialect in
@@ -32,13 +33,12 @@ returns-clause-told c =
           c.in_ok-config.config c.in_ok-required.ensures.value (c.in_ok-required.ensures.dialect ∙ lenient) c.in_ok-config.ensures.told;
       workers = c.in_ok-workers.ensures.told;
       scripts = c.in_ok-scripts.ensures.told;
-      phases = as_listed DecodesToPhase Lenient c.in_ok-required-2.field-0.dialect (view c.in_ok-required-2.field-0.value) (get_member (codes "phases") members)
-          c.in_ok-phases.phases.items c.in_ok-required-2.ensures.value (c.in_ok-required-2.ensures.dialect ∙ lenient) c.in_ok-phases.ensures.told;
+      phases = among_members ⊥ (DecodesToPhase Lenient) (codes "phases") value members c.in_ok-phases.phases.items is c.in_ok-phases.ensures.told;
     })
 
 pub returns-in_err-config-clause-refused : goal.returns-in_err-config-clause-refused
 returns-in_err-config-clause-refused c =
-    let value = view c.args.value.now in
+    let value = view c.args.value in
     let members = members_view c.in_ok-top.top.members in
     let is : Some members ≡ as_object value = c.in_ok-top.ensures.members ∙ ap (λ (v : Value). as_object (view v)) c.top-reader.ensures.value in
     let lenient : c.in_ok-top.top.dialect ≡ Lenient = c.in_ok-top.ensures.dialect ∙ c.top-reader.ensures.dialect in
@@ -51,7 +51,7 @@ returns-in_err-config-clause-refused c =
 
 pub returns-in_err-workers-clause-refused : goal.returns-in_err-workers-clause-refused
 returns-in_err-workers-clause-refused c =
-    let value = view c.args.value.now in
+    let value = view c.args.value in
     let members = members_view c.in_ok-top.top.members in
     let is : Some members ≡ as_object value = c.in_ok-top.ensures.members ∙ ap (λ (v : Value). as_object (view v)) c.top-reader.ensures.value in
     handed_on (Tells value) c.from_residual-in_err-workers.result c.in_err-workers.field-0.0 c.from_residual-in_err-workers.ensures.1
@@ -59,7 +59,7 @@ returns-in_err-workers-clause-refused c =
 
 pub returns-in_err-scripts-clause-refused : goal.returns-in_err-scripts-clause-refused
 returns-in_err-scripts-clause-refused c =
-    let value = view c.args.value.now in
+    let value = view c.args.value in
     let members = members_view c.in_ok-top.top.members in
     let is : Some members ≡ as_object value = c.in_ok-top.ensures.members ∙ ap (λ (v : Value). as_object (view v)) c.top-reader.ensures.value in
     handed_on (Tells value) c.from_residual-in_err-scripts.result c.in_err-scripts.field-0.0 c.from_residual-in_err-scripts.ensures.1
@@ -67,13 +67,11 @@ returns-in_err-scripts-clause-refused c =
 
 pub returns-in_err-phases-clause-refused : goal.returns-in_err-phases-clause-refused
 returns-in_err-phases-clause-refused c =
-    let value = view c.args.value.now in
+    let value = view c.args.value in
     let members = members_view c.in_ok-top.top.members in
     let is : Some members ≡ as_object value = c.in_ok-top.ensures.members ∙ ap (λ (v : Value). as_object (view v)) c.top-reader.ensures.value in
-    let lenient : c.in_ok-top.top.dialect ≡ Lenient = c.in_ok-top.ensures.dialect ∙ c.top-reader.ensures.dialect in
     handed_on (Tells value) c.from_residual-in_err-phases.result c.in_err-phases.field-0.0 c.from_residual-in_err-phases.ensures.1
     (λ refusal x told. c.in_err-phases.ensures.refused refusal x.phases.items (
-      listed_in DecodesToPhase Lenient c.in_ok-required-2.field-0.dialect (view c.in_ok-required-2.field-0.value) (get_member (codes "phases") members) x.phases.items
-          c.in_ok-required-2.ensures.value (c.in_ok-required-2.ensures.dialect ∙ lenient) (inside value members x is told).phases,
+      out_of_members ⊥ (DecodesToPhase Lenient) (codes "phases") value members x.phases.items is (inside value members x is told).phases,
       second (config_compares_texts x.config) (list_all phase_compares_texts x.phases.items) told.1,
     ))

@@ -1,9 +1,10 @@
 //! Matchers. Routes, silences and inhibition rules are made of them.
 //!
 //! A pattern of plain texts with bars between them, as `critical|warning`, isn't built: a match
-//! compares the value with each text. Any other is built once, by `Matcher::new`, at most 10 MiB. What searches for it isn't stored: the kit's `regex::Matcher` borrows the pattern, so no
-//! value can keep both. Each search changes it, so threads could not share it. `Matcher::matches`
-//! makes it anew and takes an allocator.
+//! compares the value with each text. Any other is built once, by `Matcher::new`, at most 10 MiB.
+//! What searches for it isn't stored: the kit's `regex::Matcher` borrows the pattern, so no value
+//! can keep both. Each search changes it, so threads could not share it. `Matcher::matches` makes it
+//! anew and takes an allocator.
 //! Where one list of matchers meets many label sets, `Searchers` keeps it from one to the next.
 ghost use Rattle.std.specs.Prelude.{◌≡◌, ◌⊎◌, Err, IfErr, IfOk, IfSome, IsOk, IsTrue, None, option_copied};
 ghost use Rattle.am_alerts.specs.Labels.{value_of};

@@ -1,5 +1,5 @@
 //! `SystemZones`: the files of time zones of the system, for what `am_input` reads. The commands make it.
-ghost use Rattle.std.specs.Prelude.{◌≤◌, ◌<◌, length};
+ghost use Rattle.std.specs.Prelude.{◌<◌};
 
 use am_cli::device::Source;
 use am_console::files::{FileFault, open};

@@ -1,5 +1,5 @@
 -- The zones of members, one after the other.
-use Rattle.std.proofs.Common.{◌++◌, List, [], ◌∷◌, subst, sym, ◌≡◌, Option, Some, None}
+use Rattle.std.proofs.Common.{◌++◌, List, [], ◌∷◌, subst, sym, ◌≡◌, Option, Some}
 use Rattle.std.specs.Prelude.{◌≤◌, IsSomeAnd}
 use Rattle.serde_json.proofs.Views.{Entry}
 use Rattle.serde_json.specs.Data.{Data, Members}

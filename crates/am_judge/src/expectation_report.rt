@@ -1,5 +1,5 @@
 //! The report on expectations. `am_rehearse` prints it.
-ghost use Rattle.std.specs.Prelude.{◌≡◌, ◌++◌, IfOk, OnOk, codes, decimal, option_copied, string_bytes};
+ghost use Rattle.std.specs.Prelude.{◌≡◌, ◌++◌, IfOk, OnOk, option_copied, string_bytes};
 ghost use Rattle.am_judge.specs.ExpectationReport.{answer_text, expectations_text, judged_text, name_text};
 
 mod came;

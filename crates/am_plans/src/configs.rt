@@ -1,7 +1,6 @@
 //! The configurations under which a story is played. Outages and expectations are checked by them.
-ghost use Rattle.std.specs.Prelude.{◌≡◌, is_some, find};
+ghost use Rattle.std.specs.Prelude.{◌≡◌, is_some};
 ghost use Rattle.std.specs.List.{list_any};
-ghost use Rattle.std.specs.Str.{bytes_eq};
 ghost use Rattle.am_plans.specs.Configs.{configs_in};
 ghost use Rattle.am_plans.specs.Decoding.{has_place, some_has_place};
 

@@ -4,7 +4,7 @@
 //! rule the numbers below one are gone, each into the list of one pass. The others are in the
 //! queue, in order. A pass has parts of the right to know all. Whoever has every part and finds the
 //! queue empty knows that each number was taken once.
-ghost use Rattle.std.specs.Prelude.{◌≡◌, ◌+◌, ◌-◌, ◌<◌, [], ◌∷◌, ◌++◌, length, IfSome, IfNone, IfOk};
+ghost use Rattle.std.specs.Prelude.{◌≡◌, ◌+◌, ◌-◌, ◌<◌, [], ◌++◌, length, IfSome, IfNone, IfOk};
 ghost use Rattle.crossbeam_queue.specs.Passes.{view, IsPassOf, ruled_capacity};
 ghost use Rattle.am_pool.specs.declared.limits.TheConstants.{ALL_PARTS};
 ghost use Rattle.am_pool.specs.Dealt.{hand, IsAll, IsTake};

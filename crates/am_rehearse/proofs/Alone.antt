@@ -1,5 +1,5 @@
 -- A rehearsal without handovers is played by one dispatcher.
-use Rattle.std.proofs.Common.{◌≡◌, ◌<◌, ◌∷◌, ◌++◌, [], ℕ, List, Option, None, ap, arith, length, subst}
+use Rattle.std.proofs.Common.{◌≡◌, ◌<◌, ◌∷◌, ◌++◌, [], ℕ, List, None, ap, arith, length, subst}
 use Rattle.std.proofs.lemmas.List.{length-append}
 use Rattle.am_rehearsal.specs.Parts.{PartData}
 use Rattle.am_rehearsal.specs.Playing.{ArePlayed}

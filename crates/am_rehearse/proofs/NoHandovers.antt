@@ -1,5 +1,5 @@
 -- Members that tell no handovers tell none in any other way.
-use Rattle.std.proofs.Common.{◌≡◌, ◌∙◌, ◌++◌, ◌∷◌, ℕ, zero, suc, List, [], Option, Some, None, MatchOption, ap, codes, length, refl, subst, sym}
+use Rattle.std.proofs.Common.{◌≡◌, ◌∙◌, ◌++◌, ◌∷◌, ℕ, List, [], Option, Some, None, MatchOption, ap, codes, length, refl, subst, sym}
 use Rattle.serde_json.specs.Data.{Data, Items, no_items, item, Members}
 use Rattle.serde_json.specs.Find.{as_array, get_member}
 use Rattle.am_cli.specs.Decoding.{DecodeEach, HasOr}

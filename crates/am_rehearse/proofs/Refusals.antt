@@ -1,8 +1,7 @@
 -- Refusals that are handed on, and what they exclude.
 use Rattle.std.proofs.Common.{◌≡◌, ◌≢◌, ◌∙◌, ◌⊎◌, inl, inr, ℕ, zero, suc, List, [], ◌∷◌, Option, Some, None, Result, Ok, Err, MatchOption, ap, map, slice_get}
-use Rattle.std.proofs.Common.{refl, subst, sym, true, false, codes}
+use Rattle.std.proofs.Common.{refl, subst, sym, true, codes}
 use Rattle.std.specs.Prelude.{IfErr, IsSomeAnd, IsTrue}
-use Rattle.std.specs.List.{AllByRecursion}
 use Rattle.std.specs.Result.{IsErrAnd}
 use Rattle.serde_json.specs.Data.{Data, Members}
 use Rattle.serde_json.specs.Find.{as_object, get_member}
@@ -22,7 +21,6 @@ use Rattle.am_input.specs.declared.form.Form.{Form}
 use Rattle.am_input.specs.declared.form.Form.TheVariants.{Story, Own, Alertmanager}
 use Rattle.am_input.specs.declared.input.Changes.{Changes}
 use Rattle.am_input.specs.declared.input.Input.{Input}
-use Rattle.am_input.specs.declared.input.Output.{Output}
 use Rattle.am_model.specs.Config.{config_fault}
 use Rattle.am_model.specs.declared.config.Config.{Config}
 use Rattle.am_input.specs.Handovers.{AreHandoversIn, AreToldBy, IsConfigAt, last_reload}
@@ -33,7 +31,6 @@ use Rattle.am_rehearsal.specs.Parts.{PartData, after, parts_from, whole_part}
 use Rattle.am_rehearsal.specs.Playing.{IsWhyNotPart, last_board}
 use Rattle.am_rehearsal.specs.declared.play.PlayFault.{PlayFault}
 use Rattle.am_rehearsal.specs.declared.play.PlayFault.TheVariants as play
-use Rattle.am_rehearsal.specs.declared.playing.PartFault.{PartFault}
 use Rattle.am_terms.specs.declared.handover.Handover.{Handover}
 use Rattle.am_terms.specs.declared.rehearsal.Rehearsal.{Rehearsal}
 use Rattle.am_yaml.specs.Document.{IsReadAs, Refuses as RefusesText}

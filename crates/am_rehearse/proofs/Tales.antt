@@ -1,5 +1,5 @@
 -- What is told of a rehearsal that was played, and what is written of it.
-use Rattle.std.proofs.Common.{◌≡◌, ◌++◌, ℕ, Bool, List, Option, Result, Ok, Err, IfOk, OnOk, is_ok, subst, sym, if◌then◌else◌}
+use Rattle.std.proofs.Common.{◌≡◌, ◌++◌, ℕ, Bool, List, Option, Result, Ok, Err, IfOk, OnOk, is_ok, subst, if◌then◌else◌}
 use Rattle.am_terms.specs.declared.handover.Handover.{Handover}
 use Rattle.am_terms.specs.declared.rehearsal.Rehearsal.{Rehearsal}
 use Rattle.am_rehearse.specs.declared.wanted.Wanted.{Wanted}

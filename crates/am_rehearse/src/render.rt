@@ -1,6 +1,6 @@
 //! What is printed of a rehearsal that was played, one dispatcher after another. `run` calls it.
-ghost use Rattle.std.specs.Prelude.{◌≡◌, ◌==◌, ◌&&◌, ◌++◌, IfErr, IfOk, OnOk, Some, None, false, not, if◌then◌else◌};
-ghost use Rattle.std.specs.Prelude.{drop, length, map, option_map, string_bytes};
+ghost use Rattle.std.specs.Prelude.{◌≡◌, ◌&&◌, ◌++◌, IfErr, IfOk, OnOk, Some, None, false, not, if◌then◌else◌};
+ghost use Rattle.std.specs.Prelude.{drop, map, option_map, string_bytes};
 ghost use Rattle.std.specs.List.{AllByRecursion, list_all};
 ghost use Rattle.am_input.specs.Request.{times_from};
 ghost use Rattle.am_judge.specs.Expectation.{is_met, unmet_from};

@@ -1,5 +1,5 @@
 //! `Findings`: what looking back on a rehearsal finds of its alerts. `report` calls it.
-ghost use Rattle.std.specs.Prelude.{◌≡◌, ◌≤◌, IfOk, option_copied};
+ghost use Rattle.std.specs.Prelude.{◌≡◌, IfOk, option_copied};
 ghost use Rattle.am_undelivered.specs.Undelivered.{alert_route_mute, findings_of, fired_for, is_among, last_mute};
 
 use crate::durations::Durations;

@@ -2,9 +2,9 @@
 //! were added.
 //!
 //! Invariant: each group has the last flush that found its route muted.
-ghost use Rattle.std.specs.Prelude.{◌≡◌, ◌++◌, ◌∷◌, [], ◌≤◌, IfOk, OnOk, Some, option_copied};
+ghost use Rattle.std.specs.Prelude.{◌≡◌, ◌++◌, ◌∷◌, [], ◌≤◌, IfOk, OnOk, Some};
 ghost use Rattle.am_alerts.specs.RoutingTree.{last_of};
-ghost use Rattle.am_undelivered.specs.Undelivered.{alert_route_mute, last_route_mute, mute_among, mute_at};
+ghost use Rattle.am_undelivered.specs.Undelivered.{alert_route_mute, last_route_mute, mute_at};
 ghost use Rattle.am_undelivered.specs.Undelivered.{mute_end, mute_since, route_mute_of};
 
 use am_alerts::alert::Alert;

@@ -100,6 +100,6 @@ fn ask_update(probe: &Probe, row: &LogRow<u64>) {
     let shared = row.firing.share();
     probe.tell(&shared.is_ok());
     probe.ask("needs_update");
-    let is_needed = needs_update(Some(row), &[1], &[2], true, 50, 100);
+    let is_needed = needs_update(Some(row), &[&1], &[&2], true, 50, 100);
     probe.tell(&is_needed);
 }

@@ -10,7 +10,7 @@ ghost use Rattle.am_board.specs.History.{IsFresh, kept_of, opening, reply_of, st
 ghost use Rattle.am_lines.specs.Fault.{IsUnmade};
 ghost use Rattle.am_lines.specs.Reply.{flush_tokens, reply_tokens};
 ghost use Rattle.am_lines.specs.View.{due_tokens, group_view_tokens, listed, outlook_tokens, row_tokens};
-ghost use Rattle.am_dispatch.specs.Session.{Begins, Does, Finishes, IsSame, KeepsTicket, Leaves};
+ghost use Rattle.am_dispatch.specs.Session.{Begins, Does, Finishes, KeepsTicket, Leaves};
 ghost use Rattle.am_dispatch.specs.Session.{Loads, Makes, Notes, Opens, Reports, Takes};
 ghost use Rattle.am_dispatch.specs.Session.{TellsSummary, taken_tokens};
 ghost use Rattle.am_dispatch.specs.Ticket.{ticket_tokens};

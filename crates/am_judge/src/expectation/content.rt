@@ -1,6 +1,6 @@
 //! Whether a notice has the content that an expectation wants. `expectation` and `expectation_report` call it.
 ghost use Rattle.std.specs.Prelude.{◌≡◌, IfOk, option_copied};
-ghost use Rattle.std.specs.List.{list_all, list_any};
+ghost use Rattle.std.specs.List.{list_all};
 ghost use Rattle.am_judge.specs.Expectation.{are_as_wanted, has_as_wanted, has_content, has_match, have_just};
 ghost use Rattle.am_judge.specs.Expectation.{is_listed, is_sent_as_wanted, is_sent_for};
 ghost use Rattle.am_timeline.specs.Playback.{has_set};

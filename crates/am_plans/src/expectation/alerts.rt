@@ -1,6 +1,6 @@
 //! Whether a story has the alerts of an expectation. `expectation` calls it.
-ghost use Rattle.std.specs.Prelude.{◌≡◌, ◌&&◌, IfErr, OnOk, false, nat_le, option_copied, true};
-ghost use Rattle.std.specs.List.{list_all, list_any};
+ghost use Rattle.std.specs.Prelude.{◌≡◌, ◌&&◌, IfErr, OnOk, false, option_copied, true};
+ghost use Rattle.std.specs.List.{list_all};
 ghost use Rattle.am_plans.specs.Decoding.{Denies};
 ghost use Rattle.am_plans.specs.Expected.{are_inserted, has_alerts, has_insert, inserts_set, is_matched, says_none};
 ghost use Rattle.am_plans.specs.Expected.{wants_none};

@@ -1,7 +1,6 @@
 //! Whether a configuration of a story has the receiver and the integration of an expectation. `expectation` calls it.
 ghost use Rattle.std.specs.Prelude.{◌≡◌, IfErr, OnOk, false, true};
 ghost use Rattle.std.specs.List.{list_any};
-ghost use Rattle.std.specs.Str.{bytes_eq};
 ghost use Rattle.am_plans.specs.Expected.{has_integration, has_kind, has_target, is_named, is_target};
 ghost use Rattle.am_plans.specs.Expected.{some_has_target};
 ghost use Rattle.am_plans.specs.Configs.{configs_in};

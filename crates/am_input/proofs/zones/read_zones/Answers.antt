@@ -1,4 +1,4 @@
-use Rattle.std.proofs.Common.{◌≡◌, ◌∙◌, ap, arith, codes, length, sym}
+use Rattle.std.proofs.Common.{ap, arith, codes, length}
 use Rattle.std.specs.Prelude.{⊤, ◌≤◌}
 use Rattle.serde_json.proofs.Views.{members_len-members_view}
 use Rattle.serde_json.specs.Find.{get_member}

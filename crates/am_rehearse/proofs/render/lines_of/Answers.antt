@@ -1,4 +1,4 @@
-use Rattle.std.proofs.Common.{◌≡◌, ◌∙◌, List, ap, string_bytes, subst, if◌then◌else◌}
+use Rattle.std.proofs.Common.{◌≡◌, ◌∙◌, List, ap, if◌then◌else◌}
 use Rattle.am_terms.specs.declared.event.Event.{Event}
 use Rattle.am_timeline.specs.Changed.{changed}
 use Rattle.am_timeline.specs.Filtered.{filtered, left_of}

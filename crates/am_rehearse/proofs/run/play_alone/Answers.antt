@@ -1,7 +1,6 @@
-use Rattle.std.proofs.Common.{◌≡◌, ◌∷◌, ◌++◌, [], List, ap, arith, length, subst}
+use Rattle.std.proofs.Common.{◌≡◌, ◌∷◌, ◌++◌, [], List, arith, subst}
 use Rattle.std.proofs.lemmas.Grind.{common_steps}
 use Rattle.am_rehearsal.specs.Parts.{whole_part}
-use Rattle.am_rehearsal.specs.declared.playing.PlayedPart.{PlayedPart}
 use Rattle.am_rehearse.specs.Faults.{RefusesPlay}
 use Rattle.am_rehearse.specs.Printed.{PlaysThrough}
 use Rattle.am_rehearse.proofs.Alone.{last_played, some_played}

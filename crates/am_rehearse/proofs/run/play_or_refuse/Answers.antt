@@ -1,8 +1,7 @@
-use Rattle.std.proofs.Common.{None, List, Result, IfErr, IfOk, subst}
+use Rattle.std.proofs.Common.{None, List, IfErr, IfOk, subst}
 use Rattle.am_rehearsal.specs.Parts.{PartData, parts_from, whole_part}
 use Rattle.am_rehearsal.specs.Playing.{ArePlayed, IsWhyNotParts}
-use Rattle.am_rehearse.specs.Faults.{RefusesPlay}
-use Rattle.am_rehearse.proofs.Refusals.{passed, unplayed}
+use Rattle.am_rehearse.proofs.Refusals.{unplayed}
 use Rattle.am_rehearse.proofs.run.play_or_refuse.Goals as goal
 use Rattle.am_terms.specs.declared.rehearsal.Outage.{Outage}
 

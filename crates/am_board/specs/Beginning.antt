@@ -1,5 +1,5 @@
 -- Beginning: between the code of a begin and the definition Begin. What it finds in its group, and the flush that it opens.
-use Rattle.std.specs.Prelude.{◌≡◌, ℕ, ◌&&◌, Bool, IsTrue, List, [], filter, map, Some, if◌then◌else◌, ◌≢◌, ◌*◌, ◌≤◌, ◌<◌, ◌⊎◌, min}
+use Rattle.std.specs.Prelude.{◌≡◌, ℕ, ◌&&◌, true, false, Bool, IsTrue, List, [], filter, map, Some, if◌then◌else◌, ◌≢◌, ◌*◌, ◌≤◌, ◌<◌, ◌⊎◌, min}
 use Rattle.std.specs.Prelude.{IfSome, All, Option, None, Result, Ok, Err, vec_len, vec_capacity, ◌+◌, not, nat_le, length, slice_index_or}
 use Rattle.std.specs.Borrow.{Bor}
 use Rattle.am_alerts.specs.AlertData.{AlertData, is_resolved}
@@ -8,6 +8,9 @@ use Rattle.am_alerts.specs.declared.labels.Label.{Label}
 use Rattle.am_mute.specs.Inhibit.{RuleData}
 use Rattle.am_mute.specs.Mute.{is_muted}
 use Rattle.am_nflog.specs.Members.{is_ascending, is_empty}
+use Rattle.am_board.specs.Due.{key_of}
+use Rattle.am_board.specs.DueOrder.{has_key, IsKeyBehind}
+use Rattle.am_board.specs.declared.due.DueKey.{DueKey}
 use Rattle.am_board.specs.declared.dedup.Update.{Update}
 use Rattle.am_model.specs.declared.config.Config.{Config}
 use Rattle.am_model.specs.declared.config.Integration.{Integration}
@@ -166,6 +169,16 @@ first_of flushes t groups = least due_cmp (filter (may_take flushes t) groups)
 abbrev pub IsFirst : List Group → Option ℕ → Option GroupState → Type 0
 IsFirst groups None first = first ≡ None
 IsFirst groups (Some i) first = (d : Group) → first ≡ Some (group_state (slice_index_or groups i d))
+
+-- of the groups that may be taken and have their key among these, the one at this place is the first, or there is none
+abbrev pub IsFirstOfKeys : List FlushState → ℕ → List Group → List DueKey → Option ℕ → Type 0
+IsFirstOfKeys flushes t groups keys None =
+    All (λ g. may_take flushes t (group_state g) ≡ true → has_key keys (key_of g) ≡ false) groups
+IsFirstOfKeys flushes t groups keys (Some i) =
+    (i < length groups)
+    × ((d : Group) → may_take flushes t (group_state (slice_index_or groups i d)) ≡ true)
+    × ((d : Group) → All (λ g. may_take flushes t (group_state g) ≡ true → IsTrue (has_key keys (key_of g))
+    → IsKeyBehind (key_of (slice_index_or groups i d)) (key_of g)) groups)
 
 -- a begin takes this group, at the moment of the call
 pub record IsChosen (config : Config) (s : kept.State) (chosen : ChosenGroup) (g : Group) : Type 0 where

@@ -1,32 +1,24 @@
 -- Due: the keys of the set of due times, and what the set has while it is complete.
-use Rattle.std.specs.Prelude.{◌≡◌, ◌<◌, ℕ, Bool, true, false, Option, Some, None, List, All, IsTrue, length, slice_index_or}
-use Rattle.std.specs.List.{list_any, IsDistinct}
+use Rattle.std.specs.Prelude.{◌≡◌, ◌<◌, ◌||◌, ℕ, Bool, true, false, Option, Some, None, List}
+use Rattle.std.specs.Prelude.{All, IsTrue, length, slice_index_or}
+use Rattle.std.specs.List.{IsDistinct}
 use Rattle.std.specs.Map.{keys_of, values_of}
-use Rattle.std.specs.Ordering.{is_eq, on, flip_args, then_cmp, nat_cmp}
-use Rattle.std.specs.declared.cmp.Ordering.{Ordering}
-use Rattle.am_model.specs.State.{FlushState, is_flushing, name_cmp, same_name}
+use Rattle.am_model.specs.State.{FlushState, is_flushing, same_name}
 use Rattle.am_model.specs.declared.group.GroupName.{GroupName}
+use Rattle.am_board.specs.DueOrder.{has_key, key_at}
 use Rattle.am_board.specs.declared.due.DueKey.{DueKey}
 use Rattle.am_board.specs.declared.due.DueSet.{DueSet}
 use Rattle.am_board.specs.declared.group.Group.{Group}
 use Rattle.am_board.specs.GroupList.{name_of}
 use Rattle.am_board.specs.Keyed.{AreKeyed}
 
--- the order of keys: by due moment, then by name, in reverse
-abbrev pub key_cmp : DueKey → DueKey → Ordering
-key_cmp = flip_args (then_cmp (on (λ k. k.due) nat_cmp) (on (λ k. k.name) name_cmp))
-
--- whether a key is among these
-abbrev pub has_key : List DueKey → DueKey → Bool
-has_key keys key = list_any (λ k. is_eq (key_cmp key k)) keys
+-- whether a key is in the ring or in the tree
+abbrev pub holds_key : DueSet → DueKey → Bool
+holds_key set key = has_key set.ring key || has_key set.tree.keys key
 
 -- the set has a key, if it is whole
 abbrev pub HasKey : DueSet → DueKey → Type 0
-HasKey set key = IsTrue set.whole → IsTrue (has_key set.keys.keys key)
-
--- the key of the group of a name that is due at this moment
-abbrev pub key_at : GroupName → ℕ → DueKey
-key_at name due = record { due = due; name = name }
+HasKey set key = IsTrue set.whole → IsTrue (holds_key set key)
 
 -- the key of a group
 abbrev pub key_of : Group → DueKey

@@ -1,15 +1,38 @@
--- The laws of the order of keys of the set of due times.
-use Rattle.std.specs.Prelude.{◌≡◌, Bool, ◌&&◌, ◌==◌, Some}
+-- The keys of the set of due times: their order, and its laws.
+use Rattle.std.specs.Prelude.{◌≡◌, ◌⊎◌, ℕ, Bool, List, ◌&&◌, ◌==◌, Some}
 use Rattle.std.specs.Cmp.{IsPartialOrder, IsTotalOrder, back_total, both_tied, nat_eq_equiv, po, unsigned_ties}
-use Rattle.std.specs.Ordering.{eq_by_cmp, nat_cmp}
+use Rattle.std.specs.List.{list_any}
+use Rattle.std.specs.List.Sorted.{IsStrictlySortedBy}
+use Rattle.std.specs.Ordering.{eq_by_cmp, is_eq, on, flip_args, then_cmp, nat_cmp}
+use Rattle.std.specs.declared.cmp.Ordering.{Ordering}
+use Rattle.std.specs.declared.cmp.Ordering.TheVariants.{Less}
 use Rattle.std.proofs.Common.{◌∙◌}
 use Rattle.std.proofs.lemmas.Cmp.{nat_cmp_total, on_total, then_total}
 use Rattle.am_alerts.specs.LabelOrder.{label_set_cmp_total, same_label_set-cmp, same_label_set_equiv}
 use Rattle.am_alerts.specs.Labels.{label_set_cmp}
 use Rattle.am_model.specs.State.{name_cmp, same_name}
 use Rattle.am_model.specs.declared.group.GroupName.{GroupName}
-use Rattle.am_board.specs.Due.{key_cmp}
 use Rattle.am_board.specs.declared.due.DueKey.{DueKey}
+
+-- the order of keys: by due moment, then by name, in reverse
+abbrev pub key_cmp : DueKey → DueKey → Ordering
+key_cmp = flip_args (then_cmp (on (λ k. k.due) nat_cmp) (on (λ k. k.name) name_cmp))
+
+-- whether a key is among these
+abbrev pub has_key : List DueKey → DueKey → Bool
+has_key keys key = list_any (λ k. is_eq (key_cmp key k)) keys
+
+-- the key of the group of a name that is due at this moment
+abbrev pub key_at : GroupName → ℕ → DueKey
+key_at name due = record { due = due; name = name }
+
+-- the keys rise: the one that is due first comes first
+abbrev pub AreRising : List DueKey → Type 0
+AreRising = IsStrictlySortedBy (flip_args key_cmp)
+
+-- the key q is k, or due after it
+abbrev pub IsKeyBehind : DueKey → DueKey → Type 0
+IsKeyBehind k q = (q ≡ k) ⊎ (key_cmp q k ≡ Less)
 
 name_cmp_total : IsTotalOrder name_cmp
 name_cmp_total =

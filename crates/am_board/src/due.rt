@@ -1,20 +1,26 @@
 //! The set of due times: keys of groups by due time and name. `groups` keeps it.
 //!
+//! Why two lists: a begin takes the key that is due first, and puts the group's key back behind all
+//! others, mostly. So keys that come behind all others go to a ring, which takes them out at its
+//! front without a search. Other keys, as those of new groups, go to a tree.
+//!
 //! Why keys can be stale: the invariant (specs/Due.antt) says only that each group has its key
 //! while the set is complete. A begin that meets a key checks that the group is there and due at
 //! the key's time. A call that changes a due time removes the old key, and a maintenance by which
 //! groups go rebuilds the set, so stale keys don't pile up. A finish never allocates, so it doesn't
 //! touch the set: a group with an open flush keeps its key, and a begin passes over it.
 //!
-//! Why the order is reversed: a tree's node is searched from its first key on. A begin takes the
-//! key that is due first and puts one back that is due late, mostly. At the end the one is taken
-//! without a search, and near the start the place of the other is found by few comparisons.
+//! Why the tree's order is reversed: a tree's node is searched from its first key on, and a begin
+//! takes the tree's last key without a search.
 ghost use Rattle.std.specs.Prelude.{◌≡◌, ◌-◌, IfSome, Some, false, length, refl, slice_get, true};
 ghost use Rattle.am_model.specs.State.{same_name};
-ghost use Rattle.am_board.specs.Due.{key_at, key_cmp, AreDue, HasKey};
-ghost use Rattle.am_board.specs.DueOrder.{key_cmp_total, key_po, same_key-ties};
+ghost use Rattle.am_board.specs.Due.{AreDue, HasKey};
+ghost use Rattle.am_board.specs.DueOrder.{key_at, key_cmp, key_cmp_total, key_po, same_key-ties};
 ghost use Rattle.am_board.specs.declared.due.DueKey.{DueKey};
 
+pub(crate) mod ring;
+
+use crate::due::ring::DueRing;
 use crate::group::{Group, GroupName};
 use std::alloc::Global;
 use std::cmp::Ordering;
@@ -55,15 +61,17 @@ impl Ord for DueKey {
     }
 }
 
-/// The due times of groups, the one that is due first last. A key can be stale: its group is gone,
-/// or due at another time.
+/// The due times of groups. A key can be stale: its group is gone, or due at another time.
 ///
 /// The set only saves time: no call fails because a key lacks memory. The set is incomplete then,
 /// and isn't used until it is rebuilt.
 #[derive(Debug, Drop)]
 pub(crate) struct DueSet {
     alloc: Global,
-    pub(crate) keys: BTreeSet<DueKey>,
+    /// Keys that came behind all others.
+    pub(crate) ring: DueRing,
+    /// The other keys, the one that is due first last.
+    pub(crate) tree: BTreeSet<DueKey>,
     /// Whether each group has its key here.
     pub(crate) whole: bool,
 }
@@ -73,7 +81,8 @@ impl DueSet {
     pub(crate) fn new(alloc: Global) -> DueSet {
         DueSet {
             alloc,
-            keys: BTreeSet::new(alloc),
+            ring: DueRing::new(alloc),
+            tree: BTreeSet::new(alloc),
             whole: true,
         }
     }
@@ -104,7 +113,7 @@ impl DueSet {
         match self.take(name, from) {
             Some(mut key) => {
                 key.due = to;
-                self.insert(key);
+                self.append(key);
             }
             None => self.lose(),
         }
@@ -117,22 +126,27 @@ impl DueSet {
         ensures key { IfSome result (λ key. key ≡ key_at name.now due) }
         ensures keeps { (key : DueKey) → same_name key.name name.now ≡ false → HasKey self.old key → HasKey self.new key }
     {
-        if self.is_last(name, due) {
-            return self.keys.pop_last();
+        if self.ring.is_front(name, due) {
+            return self.ring.pop_front();
         }
-        let Ok(name) = name.copy(self.alloc) else {
+        if self.is_last(name, due) {
+            return self.tree.pop_last();
+        }
+        let Ok(copy) = name.copy(self.alloc) else {
             return None;
         };
-        let key = DueKey { due, name };
-        self.keys.remove(&key);
+        let key = DueKey { due, name: copy };
+        if !self.tree.remove(&key) {
+            self.ring.remove(name, due);
+        }
         Some(key)
     }
 
-    /// Whether the last key, which is due first, is that of the group of this name.
+    /// Whether the tree's last key, which is due first, is that of the group of this name.
     fn is_last(&self, name: &GroupName, due: u64) -> bool
-        ensures { result ≡ true → slice_get self.now.keys.keys (length self.now.keys.keys - 1) ≡ Some (key_at name.now due) }
+        ensures { result ≡ true → slice_get self.now.tree.keys (length self.now.tree.keys - 1) ≡ Some (key_at name.now due) }
     {
-        match self.keys.last() {
+        match self.tree.last() {
             Some(key) => key.due == due && key.name == *name,
             None => false,
         }
@@ -152,19 +166,35 @@ impl DueSet {
     fn renew(&mut self, groups: &[Group])
         ensures { AreDue self.new groups.now }
     {
-        self.keys.clear();
+        self.ring.clear();
+        self.tree.clear();
         self.whole = true;
         for group in groups {
             self.put(&group.name, group.due);
         }
     }
 
-    /// Puts a key in, if there is memory for it.
+    /// Puts a key in, if there is memory for it: behind all others, if it comes there.
+    fn append(&mut self, key: DueKey)
+        ensures has { HasKey self.new key }
+        ensures keeps { (other : DueKey) → HasKey self.old other → HasKey self.new other }
+    {
+        if !self.ring.is_behind(&key) {
+            self.insert(key);
+            return;
+        }
+        match self.ring.push(key) {
+            Ok(_) => {}
+            Err(_) => self.lose(),
+        }
+    }
+
+    /// Puts a key into the tree, if there is memory for it.
     fn insert(&mut self, key: DueKey)
         ensures has { HasKey self.new key }
         ensures keeps { (other : DueKey) → HasKey self.old other → HasKey self.new other }
     {
-        match self.keys.insert(key) {
+        match self.tree.insert(key) {
             Ok(_) => {}
             Err(_) => self.lose(),
         }
@@ -175,6 +205,7 @@ impl DueSet {
         ensures { self.new.whole ≡ false }
     {
         self.whole = false;
-        self.keys.clear();
+        self.ring.clear();
+        self.tree.clear();
     }
 }

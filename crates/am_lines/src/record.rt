@@ -9,7 +9,7 @@ use crate::parts::put_alert;
 use crate::reply::{begin, end, write_reply};
 use crate::request::outcome_word;
 use am_alerts::alert::Alert;
-use am_alerts::matcher::{MatcherParts, Operator};
+use am_alerts::matcher::MatcherParts;
 use am_model::config::Config;
 use am_model::record::{Call, Record};
 use am_model::views::RowView;

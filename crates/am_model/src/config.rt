@@ -19,7 +19,7 @@ use am_alerts::sequence::Sequence;
 use am_alerts::spans::shut_until;
 use am_alerts::text::Text;
 use am_mute::inhibit::InhibitRule;
-use std::alloc::{AllocError, Global};
+use std::alloc::AllocError;
 use thiserror::Error;
 
 /// The greatest number of receivers of a configuration.

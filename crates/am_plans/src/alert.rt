@@ -12,7 +12,6 @@ use crate::span::Span;
 use am_alerts::labels::Labels;
 use am_cli::fault::{FaultKind, InputFault};
 use am_cli::labels::read_labels;
-use am_cli::place::JsonPointer;
 use am_cli::reader::{FromJson, Object, Reader};
 
 /// A label set, and when an alert with it fires.

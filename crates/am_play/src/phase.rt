@@ -37,7 +37,6 @@ use am_board::notice::Report;
 use am_cli::fault::{FaultKind, InputFault};
 use am_desk::{CloseFault, Closed, Desk, Name, NotOpen, OwnTicket, Pass};
 use am_pool::PoolFault;
-use am_retry::Outcome;
 use am_scenario::scenario::{Lane, Phase};
 use std::alloc::Global;
 use std::sync::Wait;

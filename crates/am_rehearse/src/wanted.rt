@@ -1,7 +1,6 @@
 //! `Wanted`: what the command line wants to see of a rehearsal, and the seed for its hashes. `run` prints it.
 use am_seed::Seed;
 use am_timeline::filtered::Filter;
-use std::alloc::Global;
 
 /// What the command line wants to see of a rehearsal, besides the output that it names, and the seed for its hashes.
 #[derive(Drop)]

@@ -21,7 +21,7 @@ use am_alerts::labels::Labels;
 use am_board::config::Config;
 use am_board::group::GroupName;
 use am_board::notice::{Notice, Report};
-use am_board::record::{Call, Record, Reply};
+use am_board::record::{Record, Reply};
 use am_board::views::{GroupView, RowView};
 use am_model::outcome::{outcome_of, outcomes_in};
 use am_retry::Outcome;

@@ -3,7 +3,7 @@ use am_cli::fault::{FaultKind, InputFault};
 use am_cli::reader::{Object, Reader};
 use jiff::Timestamp;
 use serde_json::Value;
-use std::alloc::{AllocError, Global};
+use std::alloc::AllocError;
 
 /// The last millisecond of the year 9999.
 const LAST: u64 = 253_402_300_799_999;

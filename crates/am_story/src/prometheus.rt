@@ -7,7 +7,6 @@ use crate::labels::read_labels;
 use crate::moment::read_seconds;
 use am_cli::fault::{FaultKind, InputFault};
 use am_cli::reader::{Object, Reader};
-use serde_json::Value;
 use std::alloc::{AllocError, Global};
 
 /// The step where no series has two samples: a minute, in milliseconds.

@@ -13,9 +13,10 @@ use am_mute::mute::MuteCause;
 pub(crate) fn are_like(one: &Preview, other: &Preview) -> bool
     ensures { IsTrue result ↔ IsLike one.now other.now }
 {
-    are_same_reasons(one.reasons.as_slice(), other.reasons.as_slice())
+    // (groups differ most often, and cost least)
+    is_same_group(&one.group, &other.group)
+        && are_same_reasons(one.reasons.as_slice(), other.reasons.as_slice())
         && are_same_muted(one.muted.as_slice(), other.muted.as_slice())
-        && is_same_group(&one.group, &other.group)
 }
 
 fn are_same_reasons(some: &[Reason], others: &[Reason]) -> bool

@@ -24,7 +24,6 @@ use crate::frame::Frame;
 use crate::playback::{Playback, notices_at};
 use am_model::group::GroupName;
 use am_model::notice::Notice;
-use am_model::record::Record;
 use am_seed::Seed;
 use am_terms::clock::TimeFormat;
 use am_terms::event::PreviewedBegin;

@@ -7,7 +7,7 @@ use crate::requests::values::{alert, config, matchers};
 use crate::words::both;
 use am_alerts::alert::Alert;
 use am_board::begin::Begun;
-use am_board::config::{Config, Limits};
+use am_board::config::Config;
 use am_desk::{Blank, Brand, CloseFault, Closed, Desk, Name, OwnTicket, Pass};
 use am_mute::silence::Silence;
 use std::alloc::{AllocError, Global};

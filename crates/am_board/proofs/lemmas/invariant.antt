@@ -4,6 +4,7 @@ pub mod Causes
 pub mod Closing
 pub mod GroupNameCache
 pub mod DueKeys
+pub mod DueRings
 pub mod GroupNames
 pub mod Keyed
 pub mod Learnt

@@ -1,8 +1,8 @@
 //! The group that a begin takes. `begin`, `preview` and `next_due` call `Groups::first_due`.
 //!
-//! It looks through the set of due times and skips stale keys and groups with an open flush. While
-//! the set is incomplete it walks over all groups. Both give the definitions' `least` of the groups
-//! that a begin may take.
+//! It looks through both lists of the set of due times, skips stale keys and groups with an open
+//! flush, and takes the earlier of the two that it finds. While the set is incomplete it walks over
+//! all groups. Both give the definitions' `least` of the groups that a begin may take.
 ghost use Rattle.std.specs.Prelude.{◌≡◌, ◌<◌, All, IfSome, IsTrue, length, map, slice_index_or};
 ghost use Rattle.std.specs.List.{IsDistinct};
 ghost use Rattle.std.specs.Map.{keys_of, values_of};
@@ -11,15 +11,16 @@ ghost use Rattle.std.specs.Ordering.{is_gt};
 ghost use Rattle.am_model.specs.Begin.{due_cmp};
 ghost use Rattle.am_model.specs.Lists.{lesser};
 ghost use Rattle.am_model.specs.State.{same_name};
-ghost use Rattle.am_board.specs.Beginning.{may_take, first_of, IsFirst};
-ghost use Rattle.am_board.specs.Due.{has_key, key_of, IsCurrent, IsFree};
+ghost use Rattle.am_board.specs.Beginning.{may_take, first_of, IsFirst, IsFirstOfKeys};
+ghost use Rattle.am_board.specs.Due.{holds_key, key_of, IsCurrent, IsFree};
 ghost use Rattle.am_board.specs.GroupList.{name_of};
 ghost use Rattle.am_board.specs.Refinement.{group_state, flush_state};
 ghost use Rattle.am_board.specs.Keyed.{AreKeyed};
 ghost use Rattle.am_board.specs.declared.group.Group.{Group};
 
 use super::Groups;
-use crate::due::DueKey;
+use crate::due::ring::DueRing;
+use crate::due::{DueKey, DueSet};
 use crate::flush::{OpenFlush, is_open};
 use crate::group::{Group, GroupName};
 use am_seed::Seed;
@@ -35,7 +36,7 @@ impl Groups {
         ensures first { IsFirst self.now.items result (first_of (map flush_state flushes.now) t (map group_state self.now.items)) }
     {
         if self.due.whole {
-            first_by_keys(&self.groups, &self.due.keys, flushes, t)
+            first_by_keys(&self.groups, &self.due, flushes, t)
         } else {
             first_by_walk(self.groups.values().as_slice(), flushes, t)
         }
@@ -43,23 +44,64 @@ impl Groups {
 }
 
 /// Returns the place of the group to take at `t`, by the complete set of keys.
-///
-/// It is the group of the first key that isn't stale and whose group has no open flush, if it is
-/// due. The key that is due first stands last.
 fn first_by_keys(
     groups: &IndexMap<GroupName, Group, Seed>,
-    keys: &BTreeSet<DueKey>,
+    due: &DueSet,
     flushes: &[OpenFlush],
     t: u64,
 ) -> Option<usize>
     requires keyed { AreKeyed name_of groups.now.entries }
     requires distinct { IsDistinct same_name (keys_of groups.now.entries) }
-    requires keys { All (λ g. IsTrue (has_key keys.now.keys (key_of g))) (values_of groups.now.entries) }
+    requires keys { All (λ g. IsTrue (holds_key due.now (key_of g))) (values_of groups.now.entries) }
     ensures within { IfSome result (λ i. i < length (values_of groups.now.entries)) }
     ensures first { IsFirst (values_of groups.now.entries) result
         (first_of (map flush_state flushes.now) t (map group_state (values_of groups.now.entries))) }
 {
-    for key in keys.iter().rev() {
+    let in_ring = first_in_ring(groups, &due.ring, flushes, t);
+    let in_tree = first_in_tree(groups, &due.tree, flushes, t);
+    match in_ring {
+        Some(i) => Some(earlier(groups.values().as_slice(), i, in_tree)),
+        None => in_tree,
+    }
+}
+
+/// The place of the group to take at `t` of those that have their keys in the ring.
+///
+/// It is the group of the first key that isn't stale and whose group has no open flush, if it is
+/// due.
+fn first_in_ring(
+    groups: &IndexMap<GroupName, Group, Seed>,
+    ring: &DueRing,
+    flushes: &[OpenFlush],
+    t: u64,
+) -> Option<usize>
+    requires keyed { AreKeyed name_of groups.now.entries }
+    requires distinct { IsDistinct same_name (keys_of groups.now.entries) }
+    ensures { IsFirstOfKeys (map flush_state flushes.now) t (values_of groups.now.entries) ring.now result }
+{
+    for key in ring.iter() {
+        if key.due > t {
+            return None;
+        }
+        if let Some(place) = free_place(groups, key, flushes) {
+            return Some(place);
+        }
+    }
+    None
+}
+
+/// The same of those that have their keys in the tree. The key that is due first stands last.
+fn first_in_tree(
+    groups: &IndexMap<GroupName, Group, Seed>,
+    tree: &BTreeSet<DueKey>,
+    flushes: &[OpenFlush],
+    t: u64,
+) -> Option<usize>
+    requires keyed { AreKeyed name_of groups.now.entries }
+    requires distinct { IsDistinct same_name (keys_of groups.now.entries) }
+    ensures { IsFirstOfKeys (map flush_state flushes.now) t (values_of groups.now.entries) tree.now.keys result }
+{
+    for key in tree.iter().rev() {
         if key.due > t {
             return None;
         }

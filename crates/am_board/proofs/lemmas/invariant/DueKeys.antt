@@ -23,7 +23,8 @@ use Rattle.am_model.proofs.states.InOrder.{same_name-ties}
 use Rattle.am_board.specs.declared.due.DueKey.{DueKey}
 use Rattle.am_board.specs.declared.due.DueSet.{DueSet}
 use Rattle.am_board.specs.declared.group.Group.{Group}
-use Rattle.am_board.specs.Due.{has_key, key_at, key_cmp, key_of, HasKey, AreDue, IsTied}
+use Rattle.am_board.specs.Due.{key_of, HasKey, AreDue, IsTied}
+use Rattle.am_board.specs.DueOrder.{has_key, key_at, key_cmp}
 use Rattle.am_board.specs.Group.{names_of}
 use Rattle.am_board.specs.GroupList.{name_of}
 use Rattle.am_board.specs.Keyed.{AreKeyed}

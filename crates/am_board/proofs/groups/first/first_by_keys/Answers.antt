@@ -1,60 +1,37 @@
-use Rattle.std.proofs.Common.{◌≡◌, ◌∷◌, ◌++◌, [], List, get_or, map, sym, ap, subst, ◌∙◌}
-use Rattle.std.specs.Iterator.Adapters.{rev_source}
-use Rattle.std.specs.List.Sorted.{IsStrictlySortedBy}
-use Rattle.std.specs.Map.{values_of}
-use Rattle.std.specs.Map.Iter.{TakesLast, deref}
-use Rattle.am_board.specs.Due.{has_key, key_cmp, key_of}
-use Rattle.am_board.specs.Refinement.{flush_state}
-use Rattle.am_board.specs.declared.due.DueKey.{DueKey}
-use Rattle.am_board.proofs.lemmas.begin.DueWalk.{AreAhead, rest_sorted, walk_ends, walk_late, walk_passes, walk_takes}
+use Rattle.std.proofs.Common.{◌≡◌, List, Some, get_or, map, sym, ap, subst, ◌∙◌}
+use Rattle.std.specs.List.{IsDistinct}
+use Rattle.std.specs.Map.{keys_of, values_of}
+use Rattle.std.specs.Option.{option_map}
+use Rattle.am_model.specs.Begin.{due_cmp}
+use Rattle.am_model.specs.Lists.{lesser}
+use Rattle.am_model.specs.State.{GroupState, same_name}
+use Rattle.am_model.specs.declared.group.GroupName.{GroupName}
+use Rattle.am_board.specs.Group.{names_of}
+use Rattle.am_board.specs.GroupList.{name_of}
+use Rattle.am_board.specs.Keyed.{AreKeyed}
+use Rattle.am_board.specs.Refinement.{flush_state, group_state}
+use Rattle.am_board.specs.declared.group.Group.{Group}
+use Rattle.am_board.proofs.lemmas.begin.DueWalk.{first_in_tree, first_of_both}
+use Rattle.am_board.proofs.lemmas.invariant.DueKeys.{names-keys}
 use Rattle.am_board.proofs.groups.first.first_by_keys.Goals as goal
-use Rattle.am_board.proofs.groups.first.first_by_keys.Goals.{In-Some}
 
--- the keys that are left are those that are left after the next one, and it
-left : (c : In-Some) → rev_source c.loop-key.key-iterator ≡ rev_source c.next.new.self ++ c.in-Some.key.now ∷ []
-left c =
-    subst (λ r. TakesLast deref (rev_source c.loop-key.key-iterator) r (rev_source c.next.new.self)) c.in-Some.is
-    c.next.ensures.steps
+distinct : (es : List (GroupName × Group)) → AreKeyed name_of es → IsDistinct same_name (keys_of es) → IsDistinct same_name (names_of (values_of es))
+distinct es keyed apart = subst (IsDistinct same_name) (sym (names-keys es keyed)) apart
 
-sorted : (c : In-Some) → IsStrictlySortedBy key_cmp (rev_source c.next.new.self ++ c.in-Some.key.now ∷ [])
-sorted c = subst (IsStrictlySortedBy key_cmp) (left c) c.loop-key.invariant.2
+pub returns-in-Some-clause-first : goal.returns-in-Some-clause-first
+returns-in-Some-clause-first c d =
+    let es = c.args.groups.now.entries in
+    let gs = values_of es in
+    let other = c.first_in_tree-in_tree.result in
+    let told : group_state (get_or gs c.earlier.result d) ≡ lesser due_cmp (group_state (get_or gs c.in-Some.i d)) (option_map (λ j. group_state (get_or gs j d)) other) =
+    subst (λ (xs : List Group). group_state (get_or xs c.earlier.result d) ≡ lesser due_cmp (group_state (get_or xs c.in-Some.i d)) (option_map (λ j. group_state (get_or xs j d)) other))
+    (c.as_slice.ensures ∙ c.values.ensures.rest) (c.earlier.ensures.lesser d) in
+    first_of_both (map flush_state c.args.flushes.now) c.args.t gs c.args.due.now.ring c.args.due.now.tree.keys
+    (distinct es c.requires.keyed c.requires.distinct) c.requires.keys c.in-Some.i other d c.in-Some.ensures c.first_in_tree-in_tree.ensures
+    ∙ sym (ap (λ (g : GroupState). Some g) told)
 
-ahead : (c : In-Some) → AreAhead (map flush_state c.args.flushes.now) c.args.t (values_of c.args.groups.now.entries) (rev_source c.next.new.self ++ c.in-Some.key.now ∷ [])
-ahead c = subst (AreAhead (map flush_state c.args.flushes.now) c.args.t (values_of c.args.groups.now.entries)) (left c) c.loop-key.invariant.3
-
-pub loop-key-init : goal.loop-key-init
-loop-key-init c =
-    let all = ap rev_source c.into_iter-key-iterator.ensures.into_iter_gives ∙ c.rev-key-items.ensures.source ∙ c.iter.ensures.rest in (
-      tt,
-      tt,
-      subst (IsStrictlySortedBy key_cmp) (sym all) c.iter.ensures.ordered,
-      λ j d within may.
-          ap (λ (keys : List DueKey). has_key keys (key_of (get_or (values_of c.args.groups.now.entries) j d))) all
-          ∙ c.requires.keys j d within,
-    )
-
-pub returns-then-key-t-clause-first : goal.returns-then-key-t-clause-first
-returns-then-key-t-clause-first c =
-    let at = (goal.at.returns-then-key-t-clause-first c).In-Some in
-    walk_late (map flush_state c.args.flushes.now) c.args.t (values_of c.args.groups.now.entries) c.in-Some.key.now (rev_source c.next.new.self) (sorted at) c.if-key-t.true (ahead at)
-
-pub returns-in-Some-free_place-clause-first : goal.returns-in-Some-free_place-clause-first
-returns-in-Some-free_place-clause-first c =
-    let at = (goal.at.returns-in-Some-free_place-clause-first c).In-Some in
-    walk_takes (map flush_state c.args.flushes.now) c.args.t (values_of c.args.groups.now.entries) c.in-Some.key.now (rev_source c.next.new.self) c.in-Some-free_place.place (sorted at) c.in-Some-free_place.ensures c.if-key-t.false (ahead at)
-
-pub loop-key-preserved : goal.loop-key-preserved
-loop-key-preserved c =
-    let at = (goal.at.loop-key-preserved c).In-Some in (
-      tt,
-      tt,
-      rest_sorted c.in-Some.key.now (rev_source c.next.new.self) (sorted at),
-      walk_passes (map flush_state c.args.flushes.now) c.args.t (values_of c.args.groups.now.entries) c.in-Some.key.now (rev_source c.next.new.self) c.in_default.ensures (ahead at),
-    )
-
-pub returns-clause-first : goal.returns-clause-first
-returns-clause-first c =
-    let over =
-    (subst (λ r. TakesLast deref (rev_source c.loop-key.key-iterator) r (rev_source c.next.new.self))
-    c.in-None.is c.next.ensures.steps).0 in
-    walk_ends (map flush_state c.args.flushes.now) c.args.t (values_of c.args.groups.now.entries) (subst (AreAhead (map flush_state c.args.flushes.now) c.args.t (values_of c.args.groups.now.entries)) over c.loop-key.invariant.3)
+pub returns-in-None-clause-first : goal.returns-in-None-clause-first
+returns-in-None-clause-first c =
+    let es = c.args.groups.now.entries in
+    first_in_tree (map flush_state c.args.flushes.now) c.args.t (values_of es) c.args.due.now.ring c.args.due.now.tree.keys
+    (distinct es c.requires.keyed c.requires.distinct) c.requires.keys c.first_in_tree-in_tree.result c.in-None.ensures c.first_in_tree-in_tree.ensures

@@ -2,15 +2,15 @@ use Rattle.std.proofs.Common.{map}
 use Rattle.std.specs.Iterator.Adapters.{rev_source}
 use Rattle.std.specs.List.Sorted.{IsStrictlySortedBy}
 use Rattle.std.specs.Map.{values_of}
-use Rattle.am_board.specs.Due.{key_cmp}
+use Rattle.am_board.specs.DueOrder.{key_cmp}
 use Rattle.am_board.specs.Refinement.{flush_state}
 use Rattle.am_board.proofs.lemmas.begin.DueWalk.{AreAhead}
-use Rattle.am_board.proofs.groups.first.first_by_keys.Given as goal
+use Rattle.am_board.proofs.groups.first.first_in_tree.Given as goal
 
--- the keys that are left are in order, and each group that may be taken has its own among them
+-- the keys that are left are in order, and each group that may be taken and has its key in the tree has it among them
 abbrev pub invariant-loop-key : goal.invariant-loop-key
 invariant-loop-key l =
     (goal.iterator-loop-key).can_next l.key-iterator
     × (goal.iterator-loop-key).is_finite l.key-iterator
     × IsStrictlySortedBy key_cmp (rev_source l.key-iterator)
-    × AreAhead (map flush_state l.flushes) l.t (values_of l.groups.entries) (rev_source l.key-iterator)
+    × AreAhead (map flush_state l.flushes) l.t (values_of l.groups.entries) l.tree.keys (rev_source l.key-iterator)

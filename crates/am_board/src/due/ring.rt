@@ -1,0 +1,121 @@
+//! Keys of due times in order, the one that is due first at the front. `due` puts keys here that
+//! come behind all others: that takes one comparison and no search.
+ghost use Rattle.std.specs.Prelude.{◌≡◌, ◌∷◌, [], ◌++◌, IfSome, Some, false, if◌then◌else◌, is_ok, slice_get, true};
+ghost use Rattle.std.specs.Option.{option_to_list};
+ghost use Rattle.std.specs.VecDeque.Iter.{deque_iter_rest};
+ghost use Rattle.am_model.specs.State.{same_name};
+ghost use Rattle.am_board.specs.DueOrder.{has_key, key_at, AreRising};
+ghost use Rattle.am_board.specs.declared.due.DueKey.{DueKey};
+
+use super::DueKey;
+use crate::group::GroupName;
+use std::alloc::{AllocFailed, Global};
+use std::collections::VecDeque;
+use std::collections::vec_deque::Iter;
+use std::marker::Model;
+
+/// Keys in the order in which they are due. Contracts see their list.
+#[derive(Debug, Drop)]
+pub(crate) struct DueRing {
+    keys: VecDeque<DueKey>,
+}
+
+impl Model for DueRing {
+    ghost use Rattle.std.specs.Prelude.{List};
+    ghost use Rattle.am_board.specs.DueOrder.{AreRising};
+    ghost use Rattle.am_board.specs.declared.due.DueKey.{DueKey};
+
+    ghost Value = { List DueKey };
+
+    ghost view = { λ r. r.keys.items };
+
+    ghost invariant = { λ r. AreRising r.keys.items };
+}
+
+impl DueRing {
+    /// No keys.
+    pub(crate) fn new(alloc: Global) -> DueRing
+        ensures { result ≡ [] }
+    {
+        DueRing {
+            keys: VecDeque::new(alloc),
+        }
+    }
+
+    /// The keys, the one that is due first at the front.
+    pub(crate) fn iter(&self) -> Iter<'_, DueKey>
+        ensures rest { deque_iter_rest result ≡ self.now }
+        ensures rising { AreRising self.now }
+    {
+        self.keys.iter()
+    }
+
+    /// Whether a key comes behind all others.
+    pub(crate) fn is_behind(&self, key: &DueKey) -> bool
+        ensures { result ≡ true → AreRising (self.now ++ key.now ∷ []) }
+    {
+        match self.keys.back() {
+            Some(last) => key.cmp(last).is_lt(),
+            None => true,
+        }
+    }
+
+    /// Puts a key at the back that comes behind all others, if there is memory for it.
+    pub(crate) fn push(&mut self, key: DueKey) -> Result<(), AllocFailed<DueKey>>
+        requires { AreRising (self.old ++ key ∷ []) }
+        ensures { self.new ≡ (if is_ok result then self.old ++ key ∷ [] else self.old) }
+    {
+        self.keys.push_back(key)
+    }
+
+    /// Whether the key that is due first is that of the group of this name.
+    pub(crate) fn is_front(&self, name: &GroupName, due: u64) -> bool
+        ensures { result ≡ true → slice_get self.now 0 ≡ Some (key_at name.now due) }
+    {
+        match self.keys.front() {
+            Some(key) => key.due == due && key.name == *name,
+            None => false,
+        }
+    }
+
+    /// Takes out the key that is due first.
+    pub(crate) fn pop_front(&mut self) -> Option<DueKey>
+        ensures { self.old ≡ option_to_list result ++ self.new }
+    {
+        self.keys.pop_front()
+    }
+
+    /// Takes out a key, if it is here.
+    pub(crate) fn remove(&mut self, name: &GroupName, due: u64)
+        ensures { (key : DueKey) → same_name key.name name.now ≡ false → has_key self.new key ≡ has_key self.old key }
+    {
+        if let Some(i) = self.place(name, due) {
+            self.keys.remove(i);
+        }
+    }
+
+    /// The place of the key of the group of this name.
+    ///
+    /// Only keys stand before it whose groups have open flushes, mostly.
+    fn place(&self, name: &GroupName, due: u64) -> Option<usize>
+        ensures { IfSome result (λ i. slice_get self.now i ≡ Some (key_at name.now due)) }
+    {
+        for i in 0..self.keys.len() {
+            let key = &self.keys[i];
+            if key.due > due {
+                return None;
+            }
+            if key.due == due && key.name == *name {
+                return Some(i);
+            }
+        }
+        None
+    }
+
+    /// Drops all keys.
+    pub(crate) fn clear(&mut self)
+        ensures { self.new ≡ [] }
+    {
+        self.keys.clear();
+    }
+}

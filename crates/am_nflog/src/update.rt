@@ -62,10 +62,8 @@ pub fn update_reason<N: Ord, F: Lends<N>>(
 ) -> UpdateReason
     requires firing_ascending { IsTrue (is_ascending N.cmp (map F.lent firing.now)) }
     requires resolved_ascending { IsTrue (is_ascending N.cmp (map F.lent resolved.now)) }
-    ensures {
-        result
-            ≡ update_reason N.eq (option_copied logged.entry) (map F.lent firing.now) (map F.lent resolved.now) send_resolved repeat t
-    }
+    ensures { result
+        ≡ update_reason N.eq (option_copied logged.entry) (map F.lent firing.now) (map F.lent resolved.now) send_resolved repeat t }
 {
     let Some(row) = logged else {
         return unlogged(firing);

@@ -70,8 +70,8 @@ abbrev pub lent_labels : Bor Member → List Label
 lent_labels m = m.now.alert.labels
 
 -- what a flush at t copies of what is unmuted
-abbrev pub unmuted_in : ℕ → UnmutedMembers → Unmuted
-unmuted_in t found = record { firing = copies_at t found.firing.items; resolved = copies_at t found.resolved.items }
+abbrev pub copies_of : ℕ → UnmutedMembers → Unmuted
+copies_of t found = record { firing = copies_at t found.firing.items; resolved = copies_at t found.resolved.items }
 
 -- the label sets of what is unmuted
 abbrev pub alert_sets_of : Unmuted → AlertSets

@@ -26,7 +26,7 @@ abbrev pub AreFirst : List ℕ → Type 0
 AreFirst places = IsPermutation (range_with_len 0 (length places)) places
 
 -- the places of the first alerts are kept, and if those of all are, they are in the order of labels
-pub record IsOrder (order : List ℕ) (members : List Member) : Type 0 where
+pub record ArePlaces (order : List ℕ) (members : List Member) : Type 0 where
   pub first : AreFirst order
   pub within : length order ≤ length members
   pub sorted : length order ≡ length members → order ≡ places_in_order (map labels_of members)

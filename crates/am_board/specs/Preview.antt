@@ -4,7 +4,7 @@ use Rattle.am_model.specs.Begin.{asked_of}
 use Rattle.am_model.specs.State.{GroupState, State}
 use Rattle.am_model.specs.declared.config.Config.{Config}
 use Rattle.am_model.specs.look_back.Preview.{preview_on, reason_of}
-use Rattle.am_board.specs.Beginning.{AreRising, IsPlan, IsUnmuted, unmuted_in, update_of}
+use Rattle.am_board.specs.Beginning.{AreRising, IsPlan, IsUnmuted, copies_of, update_of}
 use Rattle.am_model.specs.declared.fault.Fault.{Fault}
 use Rattle.am_model.specs.declared.preview.Preview.{Preview}
 use Rattle.am_board.specs.declared.plan.PlannedFlush.{PlannedFlush}
@@ -13,8 +13,8 @@ use Rattle.am_board.specs.declared.preview.GroupPreview.{GroupPreview}
 -- what a preview at t finds in a group: what is shown is what the definitions give, and what a begin works on is theirs
 pub record IsGroupPreview (config : Config) (s : State) (t : ℕ) (g : GroupState) (p : GroupPreview) : Type 0 where
   pub preview : p.preview ≡ preview_on config s t (reason_of config s t) g
-  pub unmuted : IsUnmuted config s t g (unmuted_in t p.unmuted)
-  pub rising : AreRising (unmuted_in t p.unmuted)
+  pub unmuted : IsUnmuted config s t g (copies_of t p.unmuted)
+  pub rising : AreRising (copies_of t p.unmuted)
   pub asked : p.asked.items ≡ map update_of (asked_of config s t g)
 
 -- what a begin at t with its preview works out of a group: what is shown, and its plan; or the fault of the plan

@@ -11,7 +11,7 @@ ghost use Rattle.am_alerts.specs.RoutingTree.{last_of};
 ghost use Rattle.am_model.specs.Configured.{HaveFewIntegrations, integrations_of};
 ghost use Rattle.am_model.specs.declared.config.TheConstants.{MAX_INTEGRATIONS};
 ghost use Rattle.am_model.specs.look_back.Reasons.{reason_of_update};
-ghost use Rattle.am_board.specs.Beginning.{AreRising, alert_sets_of, unmuted_in};
+ghost use Rattle.am_board.specs.Beginning.{AreRising, alert_sets_of, copies_of};
 ghost use Rattle.am_board.specs.Dedup.{EndsInTime, AreDecided, reason_among, reason_for, reason_told_by};
 ghost use Rattle.am_board.specs.Refinement.{state_of};
 ghost use Rattle.am_board.specs.LogRows.{log_rows};
@@ -51,12 +51,12 @@ pub(crate) fn decide(
     unmuted: &UnmutedMembers,
     t: u64,
 ) -> Result<Decided, AllocError>
-    requires rising { AreRising (unmuted_in t unmuted.now) }
+    requires rising { AreRising (copies_of t unmuted.now) }
     requires route { group.now.route ≤ last_of config.now.routes }
     requires few { HaveFewIntegrations config.now }
     requires moments { All (λ row. row.moment ≤ MAX_MOMENT) (log_rows state.now.log) }
     ensures { IfOk result
-        (AreDecided (reason_for config.now (state_of state.now) group.now muted_until (alert_sets_of (unmuted_in t unmuted.now)) t)
+        (AreDecided (reason_for config.now (state_of state.now) group.now muted_until (alert_sets_of (copies_of t unmuted.now)) t)
         (integrations_of config.now group.now)) }
 {
     let route = config.routes.route(group.route);
@@ -109,11 +109,11 @@ fn decide_each(
     repeat_interval: u64,
     t: u64,
 ) -> Result<Decided, AllocError>
-    requires rising { AreRising (unmuted_in t unmuted.now) }
+    requires rising { AreRising (copies_of t unmuted.now) }
     requires few { length integrations.now ≤ MAX_INTEGRATIONS }
     requires fits { All (λ row. row.moment + repeat_interval + 1 < 2 ^ 64) (log_rows log.now) }
     ensures { IfOk result
-        (AreDecided (reason_among (log_rows log.now) group.now (alert_sets_of (unmuted_in t unmuted.now)) repeat_interval t)
+        (AreDecided (reason_among (log_rows log.now) group.now (alert_sets_of (copies_of t unmuted.now)) repeat_interval t)
         (enumerate_from 0 integrations.now)) }
 {
     let mut reasons = Vec::with_capacity(alloc, integrations.len())?;
@@ -146,10 +146,10 @@ fn reason(
     repeat_interval: u64,
     t: u64,
 ) -> Reason
-    requires rising { AreRising (unmuted_in t unmuted.now) }
+    requires rising { AreRising (copies_of t unmuted.now) }
     requires fits { IfSome (option_copied logged) (λ row. row.moment + repeat_interval + 1 < 2 ^ 64) }
     ensures { result
-        ≡ reason_told_by (option_copied logged.entry) (alert_sets_of (unmuted_in t unmuted.now)) send_resolved repeat_interval t }
+        ≡ reason_told_by (option_copied logged.entry) (alert_sets_of (copies_of t unmuted.now)) send_resolved repeat_interval t }
 {
     if unmuted.is_empty() {
         return Reason::NothingLeft;

@@ -1,11 +1,12 @@
-//! Inserts: `Board::insert` calls `put_alert`. An alert that is known, and that all its groups have,
-//! is written in place (`again`). For any other one `put_routed` finds the groups first and changes
-//! the state last.
+//! Inserts: `Board::insert` calls `put_alert`. An alert is written in place (`again`) if it is known,
+//! the names of its groups are cached, they are at most 32, and each of them has it. For any other
+//! one `put_routed` finds the groups first and changes the state last.
 //!
-//! Then memory is allocated in this order. First comes, for each group, its name and all that the
-//! insert puts into it (`find_placements`), in one list, since a list more would cost each insert.
-//! Each name is found once. Next comes the list for the name cache. Then, if no limit is passed, comes
-//! the capacity of the history, the known alerts, the groups and each group (`reserve_insert`).
+//! Then memory is allocated in this order. First comes the list of routes, unless the names are cached.
+//! Next comes, for each group, its name and all that the insert puts into it (`find_placements`), in
+//! one list, since a list more would cost each insert. Each name is found once. Next comes the list
+//! for the name cache. Then, if no limit is passed, comes the capacity of the history, the known
+//! alerts, the groups and each group (`reserve_insert`).
 //! From the first change on nothing can fail. Groups are added last, and no two routes have one
 //! group, so no place that was found moves, and each group needs capacity for one alert. At the end
 //! the names are cached, if memory allows. `Board::insert` then has a new label set learned by the

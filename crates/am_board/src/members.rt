@@ -35,7 +35,8 @@ use std::marker::Model;
 #[derive(Debug, Drop)]
 pub(crate) struct Members {
     members: IndexMap<Labels, Member, Seed>,
-    /// Their places in the order of their labels, without those that came since. None after a label set left.
+    /// Their places in the order of their labels, without those that came since. Empty after a
+    /// label set left.
     order: Vec<usize>,
     /// Where those that no silence mutes are noted, in this order.
     noted: NotedPlace,

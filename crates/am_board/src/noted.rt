@@ -12,7 +12,7 @@ ghost use Rattle.std.specs.Prelude.{◌≡◌, map};
 ghost use Rattle.std.specs.List.{IsDistinct};
 ghost use Rattle.am_model.specs.Insert.{same_member};
 ghost use Rattle.am_board.specs.Refinement.{member_state};
-ghost use Rattle.am_board.specs.Order.{IsOrder};
+ghost use Rattle.am_board.specs.Order.{ArePlaces};
 
 use crate::group::Member;
 use crate::order::{is_whole, ordered};
@@ -42,7 +42,7 @@ pub(crate) fn note_members(
     limit: usize,
 ) -> NotedPlace
     requires apart { IsDistinct same_member (map member_state members.now) }
-    requires known { IsOrder order.now members.now }
+    requires known { ArePlaces order.now members.now }
     ensures { silences.new ≡ silences.old }
 {
     let Some(place) = silences.start_noting(last, t, limit) else {

@@ -3,7 +3,7 @@
 //!
 //! A label set that comes is last in the group. Its place isn't in the list until the next begin, which
 //! adds it behind the others and sorts. The sort finds that the others are in their order, so they cost
-//! one comparison each.
+//! at most two comparisons each. Above 20 alerts it takes a buffer for the time of the sort.
 //!
 //! It only saves time. Where its memory is refused, each use computes it again.
 ghost use Rattle.std.specs.Prelude.{◌≡◌, ◌≤◌, ◌==◌, [], IfOk, IfSome, IsPermutation, OnOk, length, map, slice_get};
@@ -13,7 +13,7 @@ ghost use Rattle.am_model.specs.Insert.{same_member};
 ghost use Rattle.am_model.specs.Lists.{in_order};
 ghost use Rattle.am_board.specs.Refinement.{member_state};
 ghost use Rattle.am_board.specs.Members.{labels_of};
-ghost use Rattle.am_board.specs.Order.{AreFirst, IsOrder, member_cmp, place_cmp, places_in_order};
+ghost use Rattle.am_board.specs.Order.{AreFirst, ArePlaces, member_cmp, place_cmp, places_in_order};
 
 use crate::group::Member;
 use am_alerts::labels::Labels;
@@ -23,8 +23,8 @@ use std::cmp::Ordering;
 /// Completes the places in the order of labels. Where memory is refused, none is there.
 pub(crate) fn renew(order: &mut Vec<usize>, members: &[Member])
     requires apart { IsDistinct same_member (map member_state members.now) }
-    requires known { IsOrder order.old.items members.now }
-    ensures { IsOrder order.new.items members.now }
+    requires known { ArePlaces order.old.items members.now }
+    ensures { ArePlaces order.new.items members.now }
 {
     if is_whole(order.as_slice(), members) {
         return;
@@ -35,7 +35,7 @@ pub(crate) fn renew(order: &mut Vec<usize>, members: &[Member])
     }
 }
 
-/// Forgets the places.
+/// Forgets the places. The list keeps its memory, as the group's table does: the next begin fills it.
 pub(crate) fn forget(order: &mut Vec<usize>)
     ensures { order.new.items ≡ [] }
 {
@@ -51,7 +51,7 @@ pub(crate) fn is_whole(order: &[usize], members: &[Member]) -> bool
 
 /// The places, if all are there.
 pub(crate) fn stored<'o>(order: &'o [usize], members: &[Member]) -> Option<&'o [usize]>
-    requires { IsOrder order.now members.now }
+    requires { ArePlaces order.now members.now }
     ensures { IfSome (option_copied result) (λ places. places ≡ places_in_order (map labels_of members.now)) }
 {
     if is_whole(order, members) {
@@ -68,7 +68,7 @@ pub(crate) fn ordered<'m>(
     members: &'m [Member],
 ) -> Result<Vec<&'m Member>, AllocError>
     requires apart { IsDistinct same_member (map member_state members.now) }
-    requires known { IsOrder order.now members.now }
+    requires known { ArePlaces order.now members.now }
     ensures { IfOk result (λ found. map (λ m. m.now) found.items ≡ in_order member_cmp members.now) }
 {
     match stored(order, members) {

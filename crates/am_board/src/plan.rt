@@ -11,7 +11,7 @@ ghost use Rattle.am_alerts.specs.RoutingTree.{last_of};
 ghost use Rattle.am_model.specs.Begin.{asked_of};
 ghost use Rattle.am_model.specs.Configured.{HaveFewIntegrations};
 ghost use Rattle.am_board.specs.Beginning.{AreRising, IsFlushAsking, IsUnmuted, alert_sets_of, asked_for_update};
-ghost use Rattle.am_board.specs.Beginning.{update_of, notice_of_update, IsPlannedFlush, IsPlan, unmuted_in};
+ghost use Rattle.am_board.specs.Beginning.{update_of, notice_of_update, IsPlannedFlush, IsPlan, copies_of};
 ghost use Rattle.am_model.specs.Insert.{same_member};
 ghost use Rattle.am_board.specs.LogRows.{log_rows};
 ghost use Rattle.am_board.specs.Refinement.{state_of, group_state};
@@ -29,7 +29,7 @@ use crate::state::State;
 use crate::unmuted::{Unmuted, UnmutedMembers, leaving_at};
 use crate::walk::Walk;
 use am_alerts::limits::MAX_MOMENT;
-use am_alerts::sequence::{Sequence, copy_all};
+use am_alerts::sequence::copy_all;
 use am_model::boxed::Boxed;
 use am_mute::sources::Sources;
 use am_nflog::LogKey;
@@ -119,8 +119,8 @@ pub(crate) fn plan_asking(
 ) -> Result<Option<PlannedFlush>, Fault>
     requires route { group.now.name.route ≤ last_of config.now.routes }
     requires moment { t ≤ MAX_MOMENT }
-    requires rising { AreRising (unmuted_in t unmuted.now) }
-    requires unmuted { IsUnmuted config.now (state_of state.now) t (group_state group.now) (unmuted_in t unmuted.now) }
+    requires rising { AreRising (copies_of t unmuted.now) }
+    requires unmuted { IsUnmuted config.now (state_of state.now) t (group_state group.now) (copies_of t unmuted.now) }
     requires asked { asked.now ≡ map update_of (asked_of config.now (state_of state.now) t (group_state group.now)) }
     ensures { IsPlan config.now id (vec_len state.now.flushes) (state_of state.now) t (group_state group.now) result }
 {

@@ -13,7 +13,7 @@ ghost use Rattle.am_model.specs.Configured.{HaveFewIntegrations, route_muted};
 ghost use Rattle.am_model.specs.Insert.{same_member};
 ghost use Rattle.am_model.specs.State.{moment};
 ghost use Rattle.am_model.specs.look_back.Preview.{muted_of, preview, preview_at};
-ghost use Rattle.am_board.specs.Beginning.{IsUnmuted, unmuted_in};
+ghost use Rattle.am_board.specs.Beginning.{IsUnmuted, copies_of};
 ghost use Rattle.am_board.specs.Refinement.{group_state, state_of};
 ghost use Rattle.am_board.specs.LogRows.{log_rows};
 ghost use Rattle.am_board.specs.Preview.{IsGroupPreview};
@@ -151,7 +151,7 @@ fn muted_and_unmuted<'m>(
     requires until { until ≡ route_muted config.now group.now.name t }
     ensures muted { IfOk result (λ both. both.0 ≡ muted_of config.now (state_of state.now) t (group_state group.now)) }
     ensures unmuted { IfOk result (λ both.
-        IsUnmuted config.now (state_of state.now) t (group_state group.now) (unmuted_in t both.1)) }
+        IsUnmuted config.now (state_of state.now) t (group_state group.now) (copies_of t both.1)) }
 {
     let rules = config.rules.as_slice();
     let members = &group.members;

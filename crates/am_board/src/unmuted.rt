@@ -10,7 +10,7 @@ ghost use Rattle.std.specs.List.{IsDistinct};
 ghost use Rattle.am_alerts.specs.AlertData.{is_resolved};
 ghost use Rattle.am_nflog.specs.Members.{is_empty};
 ghost use Rattle.am_model.specs.Begin.{alert_cmp, copied, label_sets};
-ghost use Rattle.am_board.specs.Beginning.{AreRising, alert_sets_of, copies_at, leaving_member, sent_where, unmuted_in};
+ghost use Rattle.am_board.specs.Beginning.{AreRising, alert_sets_of, copies_at, leaving_member, sent_where, copies_of};
 ghost use Rattle.am_model.specs.Insert.{same_alert};
 ghost use Rattle.am_model.specs.Lists.{in_order};
 
@@ -43,14 +43,14 @@ impl<'m> UnmutedMembers<'m> {
     }
 
     pub(crate) fn is_empty(&self) -> bool
-        ensures { (t : ℕ) → result ≡ (is_empty (unmuted_in t self.now).firing && is_empty (unmuted_in t self.now).resolved) }
+        ensures { (t : ℕ) → result ≡ (is_empty (copies_of t self.now).firing && is_empty (copies_of t self.now).resolved) }
     {
         self.firing.is_empty() && self.resolved.is_empty()
     }
 
     /// What a flush at `t` copies of this.
     pub(crate) fn copies(&self, alloc: Global, t: u64) -> Result<Unmuted, AllocError>
-        ensures { IfOk result (λ unmuted. unmuted ≡ unmuted_in t self.now) }
+        ensures { IfOk result (λ unmuted. unmuted ≡ copies_of t self.now) }
     {
         Ok(Unmuted {
             firing: copies_at(alloc, self.firing.as_slice(), t)?,

@@ -22,21 +22,7 @@ pub fn write_reply(config: &Config, reply: &Reply, answer: &mut Answer) -> Resul
         Reply::Silenced(silenced) => write_silenced(silenced, answer),
         Reply::NothingDue => write_named("nothing_due", answer),
         Reply::Quiet { group, removed } => write_quiet(config, group, *removed, answer),
-        Reply::Flush { group, opened } => {
-            let Opened {
-                number,
-                deadline,
-                notices,
-            } = opened.get();
-            write_flush(
-                config,
-                *number,
-                group,
-                *deadline,
-                notices.as_slice(),
-                answer,
-            )
-        }
+        Reply::Flush { group, opened } => write_begun(config, group, opened.get(), answer),
         Reply::Finished(x) => write_counts(
             "finished", "logged", x.logged, "removed", x.removed, answer,
         ),
@@ -116,6 +102,31 @@ fn write_quiet(
     answer.put(config, "group", group)?;
     answer.put_number("removed", removed as u64)?;
     end(answer)
+}
+
+/// Writes a flush of the group that a begin opened.
+fn write_begun(
+    config: &Config,
+    group: &GroupName,
+    opened: &Opened,
+    answer: &mut Answer,
+) -> Result<(), AllocError>
+    ensures { OnOk result (answer.new
+        ≡ answer.old ++ flush_tokens config.now opened.now.number group.now opened.now.deadline opened.now.notices) }
+{
+    let Opened {
+        number,
+        deadline,
+        notices,
+    } = opened;
+    write_flush(
+        config,
+        *number,
+        group,
+        *deadline,
+        notices.as_slice(),
+        answer,
+    )
 }
 
 /// Writes that a flush was opened, with its ticket and its notices.

@@ -16,8 +16,10 @@ use std::sync::Wait;
 /// The id of the desk.
 const HOME: u64 = 3;
 
-/// How an insert is named that takes memory.
+/// How calls are named that take memory.
 const INSERT: &str = "with memory: Desk::insert";
+const SILENCE: &str = "with memory: Desk::silence";
+const BEGIN: &str = "with memory: Desk::begin";
 
 pub fn make_calls<R: Wait>(probe: &Probe, rt: &R, alloc: Global) -> Result<(), AllocError> {
     let (config, blank) = both(limited(alloc), blank(alloc))?;
@@ -71,62 +73,18 @@ fn play<N: Name, R: Wait>(
     zero: &mut Pass<N>,
     one: &mut Pass<N>,
 ) -> Result<(), AllocError> {
-    insert(
-        probe,
-        rt,
-        alloc,
-        desk,
-        zero,
-        INSERT,
-        alert(alloc, "1", None)?,
-    );
-    insert(
-        probe,
-        rt,
-        alloc,
-        desk,
-        zero,
-        INSERT,
-        alert(alloc, "2", None)?,
-    );
-    silence(
-        probe,
-        rt,
-        alloc,
-        desk,
-        zero,
-        "with memory: Desk::silence",
-        silence_of(alloc, 1)?,
-    );
+    let first = alert(alloc, "1", None)?;
+    let second = alert(alloc, "2", None)?;
+    let ended = alert(alloc, "1", Some(40_000))?;
+    let silenced = silence_of(alloc, 1)?;
+    insert(probe, rt, alloc, desk, zero, INSERT, first);
+    insert(probe, rt, alloc, desk, zero, INSERT, second);
+    silence(probe, rt, alloc, desk, zero, SILENCE, silenced);
     refuse_more(probe, rt, alloc, desk, zero)?;
-    flush(
-        probe,
-        rt,
-        alloc,
-        desk,
-        zero,
-        "with memory: Desk::begin",
-        30_000,
-    );
+    flush(probe, rt, alloc, desk, zero, BEGIN, 30_000);
     look(probe, desk, zero, one);
-    insert(
-        probe,
-        rt,
-        alloc,
-        desk,
-        one,
-        INSERT,
-        alert(alloc, "1", Some(40_000))?,
-    );
-    flush(
-        probe,
-        rt,
-        alloc,
-        desk,
-        one,
-        "with memory: Desk::begin",
-        330_000,
-    );
+    insert(probe, rt, alloc, desk, one, INSERT, ended);
+    flush(probe, rt, alloc, desk, one, BEGIN, 330_000);
     look(probe, desk, zero, one);
     refuse_all(probe, rt, alloc, desk, zero)
 }

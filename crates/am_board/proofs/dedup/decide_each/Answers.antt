@@ -4,7 +4,7 @@ use Rattle.std.specs.List.{enumerate_from}
 use Rattle.am_model.specs.declared.reason.Reason.{Reason}
 use Rattle.am_model.specs.look_back.Reasons.{asks}
 use Rattle.am_board.specs.declared.dedup.Update.{Update}
-use Rattle.am_board.specs.Beginning.{alert_sets_of, unmuted_in}
+use Rattle.am_board.specs.Beginning.{alert_sets_of, copies_of}
 use Rattle.am_board.specs.LogRows.{log_rows}
 use Rattle.am_board.specs.Dedup.{reason_among, reason_told_by}
 use Rattle.am_board.proofs.lemmas.begin.Previews.{reasons-more, kept-entry, kept-holds}
@@ -25,10 +25,10 @@ loop-integration-preserved c =
     let i = c.loop-integration.integration-index in
     let one = c.integration-item.result in
     let within : i < length c.args.integrations.now = omega arith in
-    let reason = reason_among (log_rows c.args.log.now) c.args.group.now (alert_sets_of (unmuted_in c.args.t c.args.unmuted.now)) c.args.repeat_interval c.args.t in
+    let reason = reason_among (log_rows c.args.log.now) c.args.group.now (alert_sets_of (copies_of c.args.t c.args.unmuted.now)) c.args.repeat_interval c.args.t in
     let entry = kept-entry _ (λ a b. refl) c.args.log.now c.loop-integration.key c.args.group.now i c.get-row.ensures.distinct inv.group inv.integration in
     let is : c.reason-reason.result ≡ reason (i, one) =
-    c.reason-reason.ensures ∙ ap (λ o. reason_told_by o (alert_sets_of (unmuted_in c.args.t c.args.unmuted.now)) one.send_resolved c.args.repeat_interval c.args.t) (c.get-row.ensures.row ∙ sym entry) in
+    c.reason-reason.ensures ∙ ap (λ o. reason_told_by o (alert_sets_of (copies_of c.args.t c.args.unmuted.now)) one.send_resolved c.args.repeat_interval c.args.t) (c.get-row.ensures.row ∙ sym entry) in
     let same : asks (reason (i, one)) ≡ c.asks.result = ap asks (sym is) ∙ sym c.asks.ensures in
     record {
       group = inv.group;

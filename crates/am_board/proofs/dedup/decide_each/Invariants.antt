@@ -1,7 +1,7 @@
 use Rattle.std.proofs.Common.{◌≡◌, filter, map, take}
 use Rattle.std.specs.List.{enumerate_from}
 use Rattle.am_model.specs.look_back.Reasons.{asks}
-use Rattle.am_board.specs.Beginning.{alert_sets_of, unmuted_in, update_of}
+use Rattle.am_board.specs.Beginning.{alert_sets_of, copies_of, update_of}
 use Rattle.am_board.specs.Dedup.{reason_among}
 use Rattle.am_board.specs.LogRows.{log_rows}
 use Rattle.am_board.proofs.dedup.decide_each.Given as goal
@@ -11,6 +11,6 @@ abbrev pub invariant-loop-integration : goal.invariant-loop-integration
 invariant-loop-integration l = record {
   group : l.key.group ≡ l.group;
   integration : l.key.integration ≡ l.integration-index;
-  reasons : l.reasons.items ≡ map (reason_among (log_rows l.log) l.group (alert_sets_of (unmuted_in l.t l.unmuted)) l.repeat_interval l.t) (enumerate_from 0 (take l.integration-index l.integrations));
-  asked : l.asked.items ≡ map update_of (filter (λ i. asks (reason_among (log_rows l.log) l.group (alert_sets_of (unmuted_in l.t l.unmuted)) l.repeat_interval l.t i)) (enumerate_from 0 (take l.integration-index l.integrations)));
+  reasons : l.reasons.items ≡ map (reason_among (log_rows l.log) l.group (alert_sets_of (copies_of l.t l.unmuted)) l.repeat_interval l.t) (enumerate_from 0 (take l.integration-index l.integrations));
+  asked : l.asked.items ≡ map update_of (filter (λ i. asks (reason_among (log_rows l.log) l.group (alert_sets_of (copies_of l.t l.unmuted)) l.repeat_interval l.t i)) (enumerate_from 0 (take l.integration-index l.integrations)));
 }

@@ -7,7 +7,7 @@ use Rattle.am_nflog.specs.Needed.{update_reason}
 use Rattle.am_model.specs.declared.reason.Reason.{Reason}
 use Rattle.am_model.specs.declared.reason.Reason.TheVariants.{NothingLeft}
 use Rattle.am_model.specs.look_back.Reasons.{reason_of_update}
-use Rattle.am_board.specs.Beginning.{alert_sets_of, copies_at, lent_labels, unmuted_in}
+use Rattle.am_board.specs.Beginning.{alert_sets_of, copies_at, lent_labels, copies_of}
 use Rattle.am_board.specs.declared.group.Member.{Member}
 use Rattle.am_board.proofs.lemmas.begin.Lent.{labels-lent, lent-rise}
 use Rattle.am_board.proofs.lemmas.begin.Updates.{empty-label_sets}
@@ -27,7 +27,7 @@ pub returns : goal.returns
 returns c =
     let t = c.args.t in
     let found = c.args.unmuted.now in
-    let sets = alert_sets_of (unmuted_in t found) in
+    let sets = alert_sets_of (copies_of t found) in
     let some : (is_empty sets.firing && is_empty sets.resolved) ≡ false =
     (λ i. empty-label_sets (copies_at t found.firing.items) i && empty-label_sets (copies_at t found.resolved.items) i)
     ∙ sym (c.is_empty.ensures t) ∙ c.if-is_empty.false in

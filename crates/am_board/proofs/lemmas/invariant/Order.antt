@@ -30,7 +30,7 @@ use Rattle.am_model.proofs.lists.Distinct.{IsDistinct-told, IsDistinct-unmap}
 use Rattle.am_model.proofs.lists.InOrder.{sort_by_is_in_order, in_order-ascends, in_order-map}
 use Rattle.am_board.specs.Refinement.{member_state}
 use Rattle.am_board.specs.Members.{labels_of}
-use Rattle.am_board.specs.Order.{IsOrder, member_cmp, place_cmp, places_in_order}
+use Rattle.am_board.specs.Order.{ArePlaces, member_cmp, place_cmp, places_in_order}
 use Rattle.am_board.specs.declared.group.Member.{Member}
 
 -- ---- all places
@@ -96,12 +96,12 @@ one_added i xs ys moved added =
     (subst (IsPermutation (range_with_len 0 i ++ i ∷ [])) (sym added) (IsPermutation-append_left (i ∷ []) (range_with_len 0 i) xs moved))
 
 -- no place is there
-pub none_there : (ms : List Member) → IsOrder [] ms
+pub none_there : (ms : List Member) → ArePlaces [] ms
 none_there [] = record { first = IsPermutation-refl []; within = omega arith; sorted = λ whole. refl }
 none_there (m ∷ ms) = record { first = IsPermutation-refl []; within = omega arith; sorted = λ whole. absurd (omega (arith, whole)) }
 
 -- all places are there, in the order of labels
-pub all_sorted : (ms : List Member) (ps : List ℕ) → ps ≡ places_in_order (map labels_of ms) → IsPermutation (range_with_len 0 (length ms)) ps → IsOrder ps ms
+pub all_sorted : (ms : List Member) (ps : List ℕ) → ps ≡ places_in_order (map labels_of ms) → IsPermutation (range_with_len 0 (length ms)) ps → ArePlaces ps ms
 all_sorted ms ps is moved =
     let as_many : length ps ≡ length ms = length_permutation (range_with_len 0 (length ms)) ps moved ∙ length-range_with_len 0 (length ms) in
     record {

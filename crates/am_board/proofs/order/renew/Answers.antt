@@ -1,5 +1,5 @@
 use Rattle.std.proofs.Common.{sym, subst}
-use Rattle.am_board.specs.Order.{IsOrder}
+use Rattle.am_board.specs.Order.{ArePlaces}
 use Rattle.am_board.proofs.lemmas.invariant.Order.{all_sorted, none_there}
 use Rattle.am_board.proofs.order.renew.Goals as goal
 
@@ -7,4 +7,4 @@ pub returns-in-Ok : goal.returns-in-Ok
 returns-in-Ok c = all_sorted c.args.members.now c.complete.new.places.items c.in-Ok.ensures.sorted c.in-Ok.ensures.all
 
 pub returns-in-Err : goal.returns-in-Err
-returns-in-Err c = subst (λ ps. IsOrder ps c.args.members.now) (sym c.forget.ensures) (none_there c.args.members.now)
+returns-in-Err c = subst (λ ps. ArePlaces ps c.args.members.now) (sym c.forget.ensures) (none_there c.args.members.now)

@@ -1,7 +1,7 @@
 use Rattle.std.proofs.Common.{◌∙◌, Bor, Global, Vec, None, [], sym, ap, refl, true, false}
 use Rattle.std.specs.Prelude.{is_some}
 use Rattle.am_model.specs.Configured.{route_muted}
-use Rattle.am_board.specs.Beginning.{AreRising, IsUnmuted, alert_sets_of, copies_at, unmuted_in}
+use Rattle.am_board.specs.Beginning.{AreRising, IsUnmuted, alert_sets_of, copies_at, copies_of}
 use Rattle.am_board.specs.declared.group.Member.{Member}
 use Rattle.am_board.specs.Refinement.{group_state, state_of}
 use Rattle.am_board.proofs.lemmas.begin.Reasons.{asked_are}
@@ -19,17 +19,17 @@ returns-then-is_some c =
     nothing-asks config s c.args.t g (record { firing = []; resolved = [] }) (nothing_found config s c.args.t g [] [] shut refl refl) true refl refl
 
 -- what isn't muted
-is_unmuted : (c : After-into_unmuted-unmuted) → IsUnmuted c.args.config.now (state_of c.args.state.now) c.args.t (group_state c.args.group.now) (unmuted_in c.args.t c.into_unmuted-unmuted.result)
+is_unmuted : (c : After-into_unmuted-unmuted) → IsUnmuted c.args.config.now (state_of c.args.state.now) c.args.t (group_state c.args.group.now) (copies_of c.args.t c.into_unmuted-unmuted.result)
 is_unmuted c =
-    is_walked c.args.config.now (state_of c.args.state.now) c.args.t c.args.group.now c.requires.apart c.as_slice-rules.result.now false c.in_ok-walk.walk (unmuted_in c.args.t c.into_unmuted-unmuted.result)
+    is_walked c.args.config.now (state_of c.args.state.now) c.args.t c.args.group.now c.requires.apart c.as_slice-rules.result.now false c.in_ok-walk.walk (copies_of c.args.t c.into_unmuted-unmuted.result)
     (not_muted (route_muted c.args.config.now c.args.group.now.name c.args.t) (sym (c.is_some.ensures ∙ ap is_some c.route_muted.ensures) ∙ c.if-is_some.false))
     c.as_slice-rules.ensures c.in_ok-walk.ensures (ap (λ (v : Vec (Bor Member) Global). copies_at c.args.t v.items) c.into_unmuted-unmuted.ensures.firing)
     (ap (λ (v : Vec (Bor Member) Global). copies_at c.args.t v.items) c.into_unmuted-unmuted.ensures.resolved)
 
 -- its label sets rise
-rises : (c : After-into_unmuted-unmuted) → AreRising (unmuted_in c.args.t c.into_unmuted-unmuted.result)
+rises : (c : After-into_unmuted-unmuted) → AreRising (copies_of c.args.t c.into_unmuted-unmuted.result)
 rises c =
-    unmuted-rises c.args.config.now (state_of c.args.state.now) c.args.t (group_state c.args.group.now) (unmuted_in c.args.t c.into_unmuted-unmuted.result) c.requires.apart
+    unmuted-rises c.args.config.now (state_of c.args.state.now) c.args.t (group_state c.args.group.now) (copies_of c.args.t c.into_unmuted-unmuted.result) c.requires.apart
     (is_unmuted c)
 
 pub decide-requires-clause-rising : goal.decide-requires-clause-rising
@@ -38,7 +38,7 @@ decide-requires-clause-rising c =
 
 pub returns-then-is_empty : goal.returns-then-is_empty
 returns-then-is_empty c =
-    nothing-asks c.args.config.now (state_of c.args.state.now) c.args.t (group_state c.args.group.now) (unmuted_in c.args.t c.into_unmuted-unmuted.result)
+    nothing-asks c.args.config.now (state_of c.args.state.now) c.args.t (group_state c.args.group.now) (copies_of c.args.t c.into_unmuted-unmuted.result)
     (is_unmuted (goal.at.returns-then-is_empty c).After-into_unmuted-unmuted) c.is_empty.result (c.is_empty.ensures c.args.t) c.if-is_empty.true
 
 pub plan_asking-requires-clause-rising : goal.plan_asking-requires-clause-rising
@@ -50,7 +50,7 @@ plan_asking-requires-clause-unmuted c = is_unmuted (goal.at.plan_asking-requires
 pub plan_asking-requires-clause-asked : goal.plan_asking-requires-clause-asked
 plan_asking-requires-clause-asked c =
     c.as_slice-asked.ensures.value
-    ∙ asked_are c.args.config.now (state_of c.args.state.now) c.args.t (group_state c.args.group.now) (unmuted_in c.args.t c.into_unmuted-unmuted.result)
-    (is_unmuted (goal.at.plan_asking-requires-clause-asked c).After-into_unmuted-unmuted) (alert_sets_of (unmuted_in c.args.t c.into_unmuted-unmuted.result)) refl None
+    ∙ asked_are c.args.config.now (state_of c.args.state.now) c.args.t (group_state c.args.group.now) (copies_of c.args.t c.into_unmuted-unmuted.result)
+    (is_unmuted (goal.at.plan_asking-requires-clause-asked c).After-into_unmuted-unmuted) (alert_sets_of (copies_of c.args.t c.into_unmuted-unmuted.result)) refl None
     (sym (not_muted (route_muted c.args.config.now c.args.group.now.name c.args.t) (sym (c.is_some.ensures ∙ ap is_some c.route_muted.ensures) ∙ c.if-is_some.false)))
     c.in_ok-decided.decided c.in_ok-decided.ensures

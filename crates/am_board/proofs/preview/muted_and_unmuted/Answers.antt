@@ -3,7 +3,7 @@ use Rattle.std.specs.Prelude.{is_some}
 use Rattle.std.specs.List.{filter_map}
 use Rattle.am_model.specs.Configured.{route_muted}
 use Rattle.am_model.specs.look_back.Preview.{muted_of}
-use Rattle.am_board.specs.Beginning.{copies_at, unmuted_in}
+use Rattle.am_board.specs.Beginning.{copies_at, copies_of}
 use Rattle.am_board.specs.Members.{labels_of}
 use Rattle.am_board.specs.Order.{places_in_order}
 use Rattle.am_board.specs.Refinement.{group_state, state_of}
@@ -30,7 +30,7 @@ returns-then-is_some-clause-muted c = muted_are (goal.at.returns-then-is_some-cl
 
 pub returns-then-is_some-clause-unmuted : goal.returns-then-is_some-clause-unmuted
 returns-then-is_some-clause-unmuted c =
-    let none = unmuted_in c.args.t c.nothing.result in
+    let none = copies_of c.args.t c.nothing.result in
     nothing_found c.args.config.now (state_of c.args.state.now) c.args.t (group_state c.args.group.now) none.firing none.resolved
     (sym (c.is_some.ensures ∙ ap is_some c.requires.until) ∙ c.if-is_some.true)
     (ap (copies_at c.args.t) c.nothing.ensures.firing) (ap (copies_at c.args.t) c.nothing.ensures.resolved)
@@ -41,6 +41,6 @@ returns-clause-muted c = muted_are (goal.at.returns-clause-muted c).In_ok-muted
 pub returns-clause-unmuted : goal.returns-clause-unmuted
 returns-clause-unmuted c =
     is_walked c.args.config.now (state_of c.args.state.now) c.args.t c.args.group.now c.requires.apart c.as_slice-rules.result.now true c.in_ok-walk.walk
-    (unmuted_in c.args.t (record { firing = c.in_ok-walk.walk.firing; resolved = c.in_ok-walk.walk.resolved }))
+    (copies_of c.args.t (record { firing = c.in_ok-walk.walk.firing; resolved = c.in_ok-walk.walk.resolved }))
     (not_muted (route_muted c.args.config.now c.args.group.now.name c.args.t) (sym (c.is_some.ensures ∙ ap is_some c.requires.until) ∙ c.if-is_some.false))
     c.as_slice-rules.ensures c.in_ok-walk.ensures refl refl

@@ -1,14 +1,18 @@
 //! What the delivered notices of two rehearsals of one story differ in, as text. `am_rehearse` prints it.
 //!
-//! Two notices are the same if they are for one integration of one receiver and tell the same alerts. Of the same notices
-//! those of one time are paired first. Of what is left the first of one rehearsal is paired with the first of the other,
-//! and so on: these have moved. Cost: the notices of both, sorted.
+//! Two notices are the same if they are for one integration of one receiver and tell the same alerts. One integration is
+//! the one of the same kind that has as many of its kind before it in its receiver: one of another kind beside it changes
+//! its position, and nothing here. Of the same notices those of one time are paired first. Of what is left the first of
+//! one rehearsal is paired with the first of the other, and so on: these have moved. An alert is told if a delivered
+//! notice has it, as firing or as resolved, as for `am_undelivered`. Cost: the notices of both, sorted.
 use crate::alerts::push_alerts;
 use crate::groups::push_integration;
 use crate::line::push_sent_reason;
 use crate::playback::Playback;
 use crate::sent::{Sent, expiry_before, sent_of};
 use crate::shown::{push_set, push_text};
+use am_alerts::alert::Alert;
+use am_model::config::{Integration, kind_at};
 use am_terms::clock::{TimeFormat, push_column};
 use std::alloc::{AllocError, Global};
 use std::cmp::Ordering;
@@ -40,8 +44,10 @@ struct Told {
     /// When its sending ended, in milliseconds.
     at: u64,
     receiver: String,
-    /// The receiver and the integration.
+    /// The receiver and the integration, as they are printed.
     target: String,
+    /// The receiver and the integration, by its rank within its kind.
+    ranked: String,
     alerts: String,
     /// Why it was sent.
     reason: String,
@@ -54,7 +60,7 @@ struct Difference {
     line: String,
 }
 
-/// An alert that a delivered notice tells as firing.
+/// An alert that a delivered notice tells, as firing or as resolved.
 #[derive(Drop)]
 struct Heard {
     side: Side,
@@ -84,7 +90,7 @@ struct HourCounts {
     counts: Counts,
 }
 
-/// The notices that tell an alert as firing.
+/// The notices that tell an alert.
 #[derive(Drop)]
 struct AlertCounts<'t> {
     alert: &'t str,
@@ -126,9 +132,9 @@ pub fn compare_notices<C: TimeFormat>(
 
 /// The same notices follow each other by time, and of one time the old ones come first.
 fn by_content(one: &Told, other: &Told) -> Ordering {
-    one.target
+    one.ranked
         .as_str()
-        .cmp(other.target.as_str())
+        .cmp(other.ranked.as_str())
         .then(one.alerts.as_str().cmp(other.alerts.as_str()))
         .then(one.at.cmp(&other.at))
         .then(number(one.side).cmp(&number(other.side)))
@@ -158,7 +164,7 @@ fn number(side: Side) -> u8 {
     }
 }
 
-/// Adds the delivered notices of a rehearsal, and the alerts that they tell as firing.
+/// Adds the delivered notices of a rehearsal, and the alerts that they tell.
 fn add_notices<C: TimeFormat>(
     alloc: Global,
     side: Side,
@@ -171,7 +177,8 @@ fn add_notices<C: TimeFormat>(
         if let Some(sent) = sent_of(playback, event) {
             if sent.is_delivered() {
                 told.push(told_by(alloc, side, playback, clock, &sent)?)?;
-                add_heard(alloc, side, &sent, heard)?;
+                add_heard(alloc, side, sent.notice.firing.as_slice(), heard)?;
+                add_heard(alloc, side, sent.notice.resolved.as_slice(), heard)?;
             }
         }
     }
@@ -195,7 +202,9 @@ fn told_by<C: TimeFormat>(
     )?;
     let mut target = receiver.clone()?;
     target.push(' ')?;
+    let mut ranked = target.clone()?;
     push_integration(config, &notice.group, place, &mut target)?;
+    push_ranked(config.integrations_of(&notice.group), place, &mut ranked)?;
     let mut alerts = String::new(alloc);
     push_alerts("; firing ", notice.firing.as_slice(), &mut alerts)?;
     push_alerts("; resolved ", notice.resolved.as_slice(), &mut alerts)?;
@@ -208,19 +217,35 @@ fn told_by<C: TimeFormat>(
         at: sent.report.ended,
         receiver,
         target,
+        ranked,
         alerts,
         reason,
     })
 }
 
+/// Adds the kind of the integration at a place, `/`, and how many of its kind come before it.
+fn push_ranked(
+    integrations: &[Integration],
+    place: usize,
+    out: &mut String,
+) -> Result<(), AllocError> {
+    let kind = kind_at(integrations, place);
+    let mut rank = 0usize;
+    for (other, integration) in integrations.iter().enumerate() {
+        if other < place && integration.kind.as_str() == kind {
+            rank = rank.saturating_add(1);
+        }
+    }
+    write!(out, "{kind}/{rank}")
+}
+
 fn add_heard(
     alloc: Global,
     side: Side,
-    sent: &Sent<'_>,
+    alerts: &[Alert],
     heard: &mut Vec<Heard>,
 ) -> Result<(), AllocError> {
-    let notice = sent.notice;
-    for alert in notice.firing.as_slice() {
+    for alert in alerts {
         let mut text = String::new(alloc);
         push_set(alert.labels(), &mut text)?;
         heard.push(Heard { side, alert: text })?;
@@ -230,7 +255,7 @@ fn add_heard(
 
 /// Returns whether two notices are the same, at whatever time.
 fn is_same(one: &Told, other: &Told) -> bool {
-    one.target.as_str() == other.target.as_str() && one.alerts.as_str() == other.alerts.as_str()
+    one.ranked.as_str() == other.ranked.as_str() && one.alerts.as_str() == other.alerts.as_str()
 }
 
 /// Returns the lines on what differs among notices in the order of `by_content`.

@@ -13,6 +13,7 @@ use crate::sent::{Sent, expiry_before, sent_of};
 use crate::shown::{push_set, push_text};
 use am_alerts::alert::Alert;
 use am_model::config::{Integration, kind_at};
+use am_model::notice::Notice;
 use am_terms::clock::{TimeFormat, push_column};
 use std::alloc::{AllocError, Global};
 use std::cmp::Ordering;
@@ -177,8 +178,7 @@ fn add_notices<C: TimeFormat>(
         if let Some(sent) = sent_of(playback, event) {
             if sent.is_delivered() {
                 told.push(told_by(alloc, side, playback, clock, &sent)?)?;
-                add_heard(alloc, side, sent.notice.firing.as_slice(), heard)?;
-                add_heard(alloc, side, sent.notice.resolved.as_slice(), heard)?;
+                add_heard(alloc, side, sent.notice, heard)?;
             }
         }
     }
@@ -239,7 +239,18 @@ fn push_ranked(
     write!(out, "{kind}/{rank}")
 }
 
+/// Adds the alerts that a delivered notice tells, as firing and as resolved.
 fn add_heard(
+    alloc: Global,
+    side: Side,
+    notice: &Notice,
+    heard: &mut Vec<Heard>,
+) -> Result<(), AllocError> {
+    add_alerts(alloc, side, notice.firing.as_slice(), heard)?;
+    add_alerts(alloc, side, notice.resolved.as_slice(), heard)
+}
+
+fn add_alerts(
     alloc: Global,
     side: Side,
     alerts: &[Alert],

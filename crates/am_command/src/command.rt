@@ -85,7 +85,7 @@ const PLAY: [Word; 13] = [
     (
         "no-failures",
         Takes::Nothing,
-        "With --output notices, leaves out those that failed",
+        "Prints the notices, without those that failed",
     ),
     (
         "all",

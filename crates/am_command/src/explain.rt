@@ -82,11 +82,11 @@ pub fn explain(
 }
 
 fn missing(alloc: Global, top: &Value, spot: &Spot<'_>) -> Result<String, AllocError> {
-    let name = spot.name.as_str();
-    if name == "config" {
-        return missing_config(alloc, top);
+    match spot.name.as_str() {
+        "config" => missing_config(alloc, top),
+        "values" => format!(in alloc; "`values` is missing; give the answer to a range query"),
+        name => format!(in alloc; "`{name}` is missing"),
     }
-    format!(in alloc; "`{name}` is missing")
 }
 
 /// Says that a story has no configuration; where it looks like a configuration itself, that a story has to be round it.
@@ -105,7 +105,7 @@ fn wrong_type(alloc: Global, spot: &Spot<'_>) -> Result<String, AllocError> {
     let found = kind_in_words(spot.value);
     let wanted = match spot.wanted {
         Some(wanted) => wanted,
-        None if spot.name.is_empty() => Wanted::Object,
+        None if spot.name.is_empty() => wanted_at_top(spot.value),
         None => return format!(in alloc; "another kind of value is wanted here, not {found}"),
     };
     let words = in_words(wanted, spot.item.is_some());
@@ -118,6 +118,14 @@ fn wrong_type(alloc: Global, spot: &Spot<'_>) -> Result<String, AllocError> {
         _ => "",
     };
     format!(in alloc; "{words} {verb} wanted here, not {found}{hint}")
+}
+
+/// Returns what is wanted of a whole file in place of this value: a list where it has fields.
+fn wanted_at_top(value: Option<&Value>) -> Wanted {
+    match value {
+        Some(Value::Object(_)) => Wanted::Objects,
+        _ => Wanted::Object,
+    }
 }
 
 fn is_text(wanted: Wanted) -> bool {

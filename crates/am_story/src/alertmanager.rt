@@ -3,7 +3,7 @@ use crate::incident::{Incident, SeenAlert, SeenSilence, SeenSpan};
 use crate::labels::read_labels;
 use crate::moment::{optional_time, required_time};
 use crate::yaml::escape_of;
-use am_cli::fault::InputFault;
+use am_cli::fault::{FaultKind, InputFault};
 use am_cli::reader::{Object, Reader};
 use std::alloc::AllocError;
 
@@ -24,15 +24,25 @@ pub fn read_alerts(reader: &Reader<'_, '_>) -> Result<Incident, InputFault> {
     })
 }
 
-/// Adds the alerts, and returns when the last of them was updated.
+/// Adds the alerts that fired for some time, and returns when the last of all was updated.
 fn push_alerts(reader: &Reader<'_, '_>, alerts: &mut Vec<SeenAlert>) -> Result<u64, InputFault> {
     let mut latest = 0u64;
     for (index, value) in reader.array()?.iter().enumerate() {
         let (alert, updated) = read_alert(&reader.item(index, value))?;
         latest = latest.max(updated);
-        alerts.push(alert)?;
+        if has_fired(&alert) {
+            alerts.push(alert)?;
+        }
     }
     Ok(latest)
+}
+
+/// Returns whether an alert has no end, or one behind its start.
+fn has_fired(alert: &SeenAlert) -> bool {
+    alert
+        .spans
+        .iter()
+        .any(|span| span.to.is_none_or(|to| to > span.from))
 }
 
 /// Takes the ends away that come behind a time.
@@ -46,23 +56,24 @@ fn drop_ends_behind(time: u64, spans: &mut Vec<SeenSpan>) {
     }
 }
 
-/// Reads an alert, and when it was updated last.
+/// Reads an alert, and when it was updated last. It has a label at least.
 fn read_alert(reader: &Reader<'_, '_>) -> Result<(SeenAlert, u64), InputFault> {
     let alert = reader.object()?;
     let (span, updated) = read_times(&alert)?;
     let mut spans = Vec::new(alert.alloc());
     spans.push(span)?;
-    let labels = read_labels(&alert.required("labels")?.object()?, &[])?;
+    let set = alert.required("labels")?;
+    let labels = read_labels(&set.object()?, &[])?;
+    if labels.is_empty() {
+        return Err(set.refuse(FaultKind::BadValue));
+    }
     Ok((SeenAlert { labels, spans }, updated))
 }
 
 /// Reads the span of an alert, and when it was updated last.
 fn read_times(alert: &Object<'_, '_>) -> Result<(SeenSpan, u64), InputFault> {
     let from = required_time(alert, "startsAt")?;
-    let to = match optional_time(alert, "endsAt")? {
-        None => None,
-        Some(to) => Some(to.max(from)),
-    };
+    let to = optional_time(alert, "endsAt")?;
     let updated = optional_time(alert, "updatedAt")?.unwrap_or(from);
     Ok((SeenSpan { from, to }, updated.max(from)))
 }

@@ -11,6 +11,9 @@ until: 0s
 alerts: []
 ";
 
+/// How long a story lasts at most: 366 days, in milliseconds.
+const LONGEST: u64 = 31_622_400_000;
+
 /// What happened, in milliseconds since 1970.
 #[derive(Drop)]
 pub struct Incident {
@@ -52,6 +55,17 @@ impl Incident {
             }
         }
         start
+    }
+
+    /// Returns when the first alert fired, if that is too long before the end for a story.
+    pub fn too_early(&self, alloc: Global) -> Result<Option<String>, AllocError> {
+        let start = self.start();
+        if self.end.saturating_sub(start) <= LONGEST {
+            return Ok(None);
+        }
+        let mut time = String::new(alloc);
+        push_time(start, &mut time)?;
+        Ok(Some(time))
     }
 
     /// Returns the story, in YAML, without a configuration. It starts when the first alert fired; where none fired, it is
@@ -111,14 +125,15 @@ fn push_span(span: SeenSpan, start: u64, out: &mut String) -> Result<(), AllocEr
     out.push_str("}\n")
 }
 
-/// Adds the silences, if there are any.
+/// Adds the silences that last beyond the start, if there are any.
 fn push_silences(silences: &[SeenSilence], start: u64, out: &mut String) -> Result<(), AllocError> {
-    if silences.is_empty() {
-        return Ok(());
-    }
-    out.push_str("silences:\n")?;
+    let mut head = "silences:\n";
     for silence in silences {
-        push_silence(silence, start, out)?;
+        if silence.to > silence.from.max(start) {
+            out.push_str(head)?;
+            push_silence(silence, start, out)?;
+            head = "";
+        }
     }
     Ok(())
 }

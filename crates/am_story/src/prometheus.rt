@@ -37,13 +37,13 @@ struct Pace {
 }
 
 /// Reads the answer of the API, or its `data`, or the list of series alone. Samples more than `gap` milliseconds apart
-/// belong to different spans; without a gap that is twice the step.
+/// belong to different spans; without a gap that is twice the step. A gap below the step is the step.
 pub fn read_prometheus(reader: &Reader<'_, '_>, gap: Option<u64>) -> Result<Incident, InputFault> {
     let series = read_answer(reader)?;
     let step = step_of(series.as_slice());
     let pace = Pace {
         step,
-        gap: gap.unwrap_or(step.saturating_mul(2)),
+        gap: gap.unwrap_or(step.saturating_mul(2)).max(step),
         latest: latest_of(series.as_slice()),
     };
     Ok(incident_of(reader.alloc(), series, pace)?)

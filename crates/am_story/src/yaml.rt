@@ -34,9 +34,13 @@ pub(crate) fn push_quoted(text: &str, out: &mut String) -> Result<(), AllocError
 /// Adds a character, by its number where YAML does not allow it as itself.
 fn push_shown(character: char, out: &mut String) -> Result<(), AllocError> {
     match character {
-        '\0'..='\u{1f}' | '\u{7f}'..='\u{9f}' | '\u{2028}' | '\u{2029}' | '\u{feff}' => {
-            write!(out, "\\u{:04x}", character as u32)
-        }
+        '\0'..='\u{1f}'
+        | '\u{7f}'..='\u{9f}'
+        | '\u{2028}'
+        | '\u{2029}'
+        | '\u{feff}'
+        | '\u{fffe}'
+        | '\u{ffff}' => { write!(out, "\\u{:04x}", character as u32) }
         _ => out.push(character),
     }
 }

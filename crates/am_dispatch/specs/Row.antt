@@ -1,5 +1,5 @@
 -- Row: a row that a line names, as a board has it.
-use Rattle.std.specs.Prelude.{◌≡◌, ℕ, List, [], IsTrue, unwrap_or}
+use Rattle.std.specs.Prelude.{◌≡◌, ℕ, List, [], IfSome, IsTrue, unwrap_or}
 use Rattle.std.specs.Str.{bytes_eq}
 use Rattle.am_alerts.specs.RoutingTree.{route_at}
 use Rattle.am_model.specs.declared.config.Config.{Config}
@@ -24,8 +24,10 @@ row_at route named =
 abbrev pub kind_of : Config → RowView → List ℕ
 kind_of config row = kind_at (integrations_named (route_of config row.group).receiver config.receivers) row.integration
 
--- the row is the one that is named: its route has this name, of which a configuration has one, and its integration is of this kind
+-- the row is the one that is named: its route has this name, of which a configuration has one, and this receiver, if one is named,
+-- and its integration is of this kind
 pub record IsRowOf (config : Config) (named : NamedRow) (row : RowView) : Type 0 where
   pub is : row ≡ row_at row.group.route named
   pub route : IsTrue (bytes_eq (route_at config.routes row.group.route).name named.group.route)
+  pub receiver : IfSome named.receiver (λ name. IsTrue (bytes_eq (route_of config row.group).receiver name))
   pub kind : IsTrue (bytes_eq (kind_of config row) named.kind)

@@ -2,19 +2,21 @@
 ghost use Rattle.std.specs.Prelude.{◌≡◌, ◌≤◌, [], IfOk, IfSome, IsTrue, unwrap_or};
 ghost use Rattle.std.specs.Str.{bytes_eq};
 ghost use Rattle.am_alerts.specs.RoutingTree.{last_of, route_at};
+ghost use Rattle.am_model.specs.Configured.{route_of};
 ghost use Rattle.am_dispatch.specs.Row.{kind_of, IsRowOf};
 
 use am_alerts::labels::Labels;
 use am_alerts::route::Routes;
 use am_alerts::sequence::Sequence;
+use am_alerts::text::Text;
 use am_board::group::GroupName;
 use am_lines::request::{NamedGroup, NamedRow};
 use am_model::config::{Config, kind_at};
 use am_model::views::RowView;
 use std::alloc::{AllocError, Global};
 
-/// Returns a row as a board of this configuration has it. None where no route has its name, or where its integration isn't of
-/// its kind: a row of another configuration isn't taken for one of this.
+/// Returns a row as a board of this configuration has it. None where no route has its name, or where its receiver is another
+/// or its integration not of its kind: a row of another configuration isn't taken for one of this.
 pub fn row_of(
     alloc: Global,
     config: &Config,
@@ -27,6 +29,7 @@ pub fn row_of(
             route: name,
             labels,
         },
+        receiver,
         integration,
         kind,
         moment,
@@ -49,7 +52,7 @@ pub fn row_of(
         firing: Sequence::from(firing),
         resolved: Sequence::from(resolved),
     };
-    if has_kind(config, &row, kind.as_str()) {
+    if has_receiver(config, &row, receiver.as_ref()) && has_kind(config, &row, kind.as_str()) {
         Ok(Some(row))
     } else {
         Ok(None)
@@ -113,6 +116,16 @@ fn find_route(routes: &Routes, name: &str) -> Option<u32>
         }
     }
     None
+}
+
+/// Whether the receiver of a row is the one of this name, where one is named.
+fn has_receiver(config: &Config, row: &RowView, receiver: Option<&Text>) -> bool
+    ensures { IsTrue result → IfSome receiver (λ name. IsTrue (bytes_eq (route_of config.now row.now.group).receiver name.now)) }
+{
+    match receiver {
+        None => true,
+        Some(name) => config.route_of(&row.group).receiver.as_str() == name.as_str(),
+    }
 }
 
 /// Whether the integration of a row is of this kind.

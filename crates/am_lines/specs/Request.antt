@@ -5,7 +5,7 @@ use Rattle.serde_json.specs.Find.{as_null, as_object, as_str, get_member}
 use Rattle.am_alerts.specs.AlertData.{alert_of}
 use Rattle.am_alerts.specs.declared.labels.Label.{Label}
 use Rattle.am_cli.specs.Configured.{DecodesToConfig, DecodesToLabels, DecodesToMatcher}
-use Rattle.am_cli.specs.Decoding.{IsList, IsNumber, IsText, Has, HasOr}
+use Rattle.am_cli.specs.Decoding.{IsList, IsNumber, IsText, Has, HasIf, HasOr}
 use Rattle.am_cli.specs.Read.{number_in, duration_in}
 use Rattle.am_cli.specs.declared.reader.Dialect.{Dialect}
 use Rattle.am_config.specs.IgnoredSettings.{nothing}
@@ -109,11 +109,12 @@ pub record DecodesToGroup (dialect : Dialect) (value : Data) (group : NamedGroup
   pub route : Has IsText (codes "route") members group.route
   pub labels : Has (IsGroupLabels dialect) (codes "labels") members group.labels
 
--- a row of a log, by the names of its route and its integration
+-- a row of a log, by the names of its route, its receiver, which it may not name, and its integration
 pub record DecodesToRow (dialect : Dialect) (value : Data) (row : NamedRow) : Type 0 where
   pub members : Members
   pub object : as_object value ≡ Some members
   pub group : Has (DecodesToGroup dialect) (codes "group") members row.group
+  pub receiver : HasIf IsText (codes "receiver") members row.receiver
   pub integration : Has IsNumber (codes "integration") members row.integration
   pub kind : Has IsText (codes "kind") members row.kind
   pub moment : Has IsMoment (codes "moment") members row.moment

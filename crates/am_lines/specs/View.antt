@@ -37,7 +37,8 @@ summary_tokens s =
 -- a row of the log
 abbrev pub row_tokens : Config → RowView → List Token
 row_tokens config row =
-    object (key (codes "group") ∷ group_tokens config row.group ++ integration_members config row.group row.integration
+    object (key (codes "group") ∷ group_tokens config row.group ++ text_member (codes "receiver") (route_of config row.group).receiver
+    ++ integration_members config row.group row.integration
     ++ number_member (codes "moment") row.moment ++ number_member (codes "expiry") row.expiry
     ++ key (codes "firing") ∷ array labels_tokens row.firing ++ key (codes "resolved") ∷ array labels_tokens row.resolved)
 

@@ -7,7 +7,7 @@ ghost use Rattle.serde_json.specs.Find.{as_object};
 ghost use Rattle.serde_json.specs.View.{members_view, view};
 ghost use Rattle.am_alerts.specs.AlertData.{alert_of};
 ghost use Rattle.am_cli.specs.Configured.{DecodesToLabels, DecodesToMatcher};
-ghost use Rattle.am_cli.specs.Decoding.{Has, IsList, IsNumber};
+ghost use Rattle.am_cli.specs.Decoding.{Has, HasIf, IsList, IsNumber, IsText};
 ghost use Rattle.am_mute.specs.Silence.{silence_of};
 ghost use Rattle.am_lines.specs.Request.{IsGroupLabels, HasOneMember, IsOpening, IsOutcome, IsRequestIn, IsRequestOf, outcome_word};
 
@@ -117,10 +117,13 @@ pub struct Loading {
     pub row: NamedRow,
 }
 
-/// A row of a log as `rows` writes it: by the names of its route and its integration. Times are in milliseconds.
+/// A row of a log as `rows` writes it: by the names of its route, its receiver and its integration. Times are in
+/// milliseconds.
 #[derive(Drop)]
 pub struct NamedRow {
     pub group: NamedGroup,
+    /// None where the row doesn't name it.
+    pub receiver: Option<Text>,
     pub integration: u32,
     pub kind: Text,
     pub moment: u64,
@@ -465,6 +468,7 @@ impl<'v> FromJson<'v> for NamedRow {
         let row = reader.object()?;
         row.only(&[
             "group",
+            "receiver",
             "integration",
             "kind",
             "moment",
@@ -476,11 +480,13 @@ impl<'v> FromJson<'v> for NamedRow {
         let moment = moment_at(&row, "moment")?;
         let expiry = moment_at(&row, "expiry")?;
         let group = member(&row, "group")?;
+        let receiver = receiver_at(&row)?;
         let kind = member(&row, "kind")?;
         let firing = label_sets(&row, "firing")?;
         let resolved = label_sets(&row, "resolved")?;
         Ok(NamedRow {
             group,
+            receiver,
             integration,
             kind,
             moment,
@@ -488,6 +494,16 @@ impl<'v> FromJson<'v> for NamedRow {
             firing,
             resolved,
         })
+    }
+}
+
+/// Reads the name of a row's receiver, if the row has it.
+fn receiver_at(row: &Object<'_, '_>) -> Result<Option<Text>, InputFault>
+    ensures { IfOk result (HasIf IsText (codes "receiver") (members_view row.now.members)) }
+{
+    match row.optional("receiver") {
+        None => Ok(None),
+        Some(name) => Ok(Some(Text::read(&name)?)),
     }
 }
 

@@ -59,6 +59,7 @@ impl ToJson for RowView {
     fn write(&self, config: &Config, answer: &mut Answer) -> Result<(), AllocError> {
         answer.open()?;
         answer.put(config, "group", &self.group)?;
+        answer.put_text("receiver", config.route_of(&self.group).receiver.as_str())?;
         put_integration(config, &self.group, self.integration, answer)?;
         answer.put_number("moment", self.moment)?;
         answer.put_number("expiry", self.expiry)?;

@@ -13,6 +13,7 @@ returns-clause-told c =
       members = members;
       object = sym c.in_ok-row.ensures.members;
       group = subst (λ (m : Dialect). Has (DecodesToGroup m) (codes "group") members c.in_ok-group.group) c.in_ok-row.ensures.dialect c.in_ok-group.ensures;
+      receiver = c.in_ok-receiver.ensures;
       integration = c.in_ok-integration.ensures;
       kind = c.in_ok-kind.ensures;
       moment = c.in_ok-moment.ensures;

@@ -3,10 +3,10 @@ from live_format import label_key
 
 
 def kept(rows, config):
-    """The rows of a board, each with what finds it again: the receiver's name, and the position of the route. `kind` is always webhook,
-    so the integration's position is its place among those of its kind."""
+    """The rows of a board, each with what finds it again beside its receiver: the position of the route. `kind` is always webhook, so
+    the integration's position is its place among those of its kind."""
     positions = [*config.routes]
-    return [row | {"receiver": config.routes[row["group"]["route"]][1], "position": positions.index(row["group"]["route"])} for row in rows]
+    return [row | {"position": positions.index(row["group"]["route"])} for row in rows]
 
 
 def groups_of(board, opening, rows, now):
@@ -36,5 +36,5 @@ def taken_over(row, config, groups):
     own, labels = [*config.routes][row["position"]:][:1], label_key(row["group"]["labels"])
     heirs = {route for alert in row["firing"] + row["resolved"] for route, group in groups.get(label_key(alert), [])
              if group == labels and config.routes[route][1] == row["receiver"]}
-    plain = {name: value for name, value in row.items() if name not in ("receiver", "position")}
+    plain = {name: value for name, value in row.items() if name != "position"}
     return [plain | {"group": row["group"] | {"route": route}} for route in (own if heirs.issuperset(own) and own else sorted(heirs))]

@@ -52,7 +52,10 @@ pub fn row_of(
         firing: Sequence::from(firing),
         resolved: Sequence::from(resolved),
     };
-    if has_receiver(config, &row, receiver.as_ref()) && has_kind(config, &row, kind.as_str()) {
+    if !has_receiver(config, &row, receiver) {
+        return Ok(None);
+    }
+    if has_kind(config, &row, kind.as_str()) {
         Ok(Some(row))
     } else {
         Ok(None)
@@ -119,8 +122,8 @@ fn find_route(routes: &Routes, name: &str) -> Option<u32>
 }
 
 /// Whether the receiver of a row is the one of this name, where one is named.
-fn has_receiver(config: &Config, row: &RowView, receiver: Option<&Text>) -> bool
-    ensures { IsTrue result → IfSome receiver (λ name. IsTrue (bytes_eq (route_of config.now row.now.group).receiver name.now)) }
+fn has_receiver(config: &Config, row: &RowView, receiver: Option<Text>) -> bool
+    ensures { IsTrue result → IfSome receiver (λ name. IsTrue (bytes_eq (route_of config.now row.now.group).receiver name)) }
 {
     match receiver {
         None => true,

@@ -32,8 +32,8 @@ refusal_kind refusal.Unsupported = codes "unsupported"
 
 abbrev pub refusal_message : FaultKind → List ℕ
 refusal_message refusal.Missing = codes "this member is missing"
-refusal_message refusal.WrongType = codes "another type of JSON value is wanted here"
-refusal_message refusal.BadValue = codes "the type is right, and the value isn't accepted"
+refusal_message refusal.WrongType = codes "another type of JSON value is wanted here; numbers are whole, from 0 on"
+refusal_message refusal.BadValue = codes "the value isn't accepted: docs/dispatch.md has what is wanted where"
 refusal_message refusal.Unknown = codes "no member of this name is known here"
 refusal_message refusal.Full = codes "there is no room for this"
 refusal_message refusal.Unsupported = codes "this can't be reproduced exactly"

@@ -290,8 +290,14 @@ fn refusal_words(fault_kind: FaultKind) -> (&'static str, &'static str)
 {
     match fault_kind {
         FaultKind::Missing => ("missing", "this member is missing"),
-        FaultKind::WrongType => ("kind", "another type of JSON value is wanted here"),
-        FaultKind::BadValue => ("value", "the type is right, and the value isn't accepted"),
+        FaultKind::WrongType => (
+            "kind",
+            "another type of JSON value is wanted here; numbers are whole, from 0 on",
+        ),
+        FaultKind::BadValue => (
+            "value",
+            "the value isn't accepted: docs/dispatch.md has what is wanted where",
+        ),
         FaultKind::Unknown => ("unknown", "no member of this name is known here"),
         FaultKind::Full => ("full", "there is no room for this"),
         FaultKind::Unsupported => ("unsupported", "this can't be reproduced exactly"),

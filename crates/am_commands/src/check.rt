@@ -1,6 +1,7 @@
 //! `am-rehearse check`: says what configurations hold, or all that is wrong in them.
 use crate::config::configured;
 use crate::faults::accept;
+use crate::once::accept_inputs;
 use crate::system_zones::SystemZones;
 use crate::warnings::push_warnings;
 use crate::zones::push_missing_zones;
@@ -14,6 +15,9 @@ use std::rt::Files;
 
 /// Checks each file, and returns the status: that of the first file that isn't accepted, if there is one.
 pub fn check<R: Files + Eprint + AllocGlobal>(rt: &R, console: &mut Console, files: &[&str]) -> u8 {
+    if let Err(refused) = accept_inputs(rt, files) {
+        return refused;
+    }
     let mut status = 0;
     let mut lines = String::new(rt.alloc());
     for path in files {

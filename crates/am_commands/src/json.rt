@@ -1,9 +1,13 @@
 //! `am-rehearse json`: prints files as the JSON that is read in them.
+use crate::once::accept_inputs;
 use am_console::console::Console;
 use std::rt::Files;
 
 /// Prints the value of each file on a line, and returns the status: that of the first file that isn't read, if there is one.
 pub fn json<R: Files + Eprint + AllocGlobal>(rt: &R, console: &mut Console, files: &[&str]) -> u8 {
+    if let Err(refused) = accept_inputs(rt, files) {
+        return refused;
+    }
     let mut status = 0;
     let mut lines = String::new(rt.alloc());
     for path in files {

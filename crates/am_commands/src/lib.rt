@@ -8,6 +8,7 @@ pub mod faults;
 pub mod given;
 pub mod ignored;
 pub mod json;
+pub mod once;
 pub mod routes;
 pub mod story;
 pub mod system_zones;

@@ -1,4 +1,5 @@
 //! `am-rehearse story`: makes a story of what Prometheus or Alertmanager answers.
+use crate::once::accept_inputs;
 use am_alerts::duration::read_duration;
 use am_cli::fault::InputFault;
 use am_cli::faults::Refusal;
@@ -28,26 +29,68 @@ fn try_story<R: Files + Eprint + AllocGlobal>(
     console: &mut Console,
     request: StoryRequest<'_>,
 ) -> Result<(), u8> {
-    let mut incident = match (request.prometheus, request.alertmanager) {
-        (Some(path), None) => {
-            let gap = gap_of(rt, request.gap)?;
-            prometheus(rt, console, path, gap)?
-        }
-        (None, Some(path)) => alertmanager(rt, console, path)?,
-        _ => {
-            let _ = eprintln!(rt;
-                "am-rehearse: give either --prometheus FILE or --alertmanager FILE"
-            );
-            return Err(REJECTED);
-        }
-    };
+    let mut incident = incident_of(rt, console, request)?;
     if incident.alerts.is_empty() {
         let _ = eprintln!(rt; "am-rehearse: the answer has no alerts; the story is empty");
     }
+    refuse_long(rt, console, &incident)?;
     if let Some(path) = request.silences {
         incident.silences = silences(rt, console, path)?;
     }
     print(rt, console, &incident)
+}
+
+/// Reads the answer that the command line names. The error is the status.
+fn incident_of<R: Files + Eprint + AllocGlobal>(
+    rt: &R,
+    console: &mut Console,
+    request: StoryRequest<'_>,
+) -> Result<Incident, u8> {
+    match (request.prometheus, request.alertmanager) {
+        (Some(path), None) => {
+            let gap = gap_of(rt, request.gap)?;
+            accept_inputs(rt, &[path, request.silences.unwrap_or("")])?;
+            prometheus(rt, console, path, gap)
+        }
+        (None, Some(path)) => {
+            refuse_gap(rt, request.gap)?;
+            accept_inputs(rt, &[path, request.silences.unwrap_or("")])?;
+            alertmanager(rt, console, path)
+        }
+        _ => {
+            let _ = eprintln!(rt;
+                "am-rehearse: give either --prometheus FILE or --alertmanager FILE"
+            );
+            Err(REJECTED)
+        }
+    }
+}
+
+/// Refuses a gap where there are no samples. The error is the status.
+fn refuse_gap<R: Eprint>(rt: &R, gap: Option<&str>) -> Result<(), u8> {
+    if gap.is_none() {
+        return Ok(());
+    }
+    let _ = eprintln!(rt; "am-rehearse: --gap is for --prometheus alone");
+    Err(REJECTED)
+}
+
+/// Refuses what lasted longer than a story may. The error is the status.
+fn refuse_long<R: Eprint + AllocGlobal>(
+    rt: &R,
+    console: &Console,
+    incident: &Incident,
+) -> Result<(), u8> {
+    match incident.too_early(rt.alloc()) {
+        Ok(None) => Ok(()),
+        Ok(Some(start)) => {
+            let _ = eprintln!(rt;
+                "am-rehearse: an alert fires from {start} on, and a story has at most 366 days"
+            );
+            Err(REJECTED)
+        }
+        Err(_) => Err(console.complain_of_memory(rt)),
+    }
 }
 
 /// Reads what Prometheus answered. The error is the status.

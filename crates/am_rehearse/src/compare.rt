@@ -9,6 +9,7 @@ use am_command::request::CompareRequest;
 use am_commands::faults::accept;
 use am_commands::given::given_to;
 use am_commands::ignored::say_ignored;
+use am_commands::once::accept_inputs;
 use am_commands::system_zones::SystemZones;
 use am_config::dropped::IgnoredSettings;
 use am_console::console::{Console, DIFFERS, Document};
@@ -61,6 +62,7 @@ fn try_compare<R: Files + Eprint + AllocGlobal + Clock>(
         output: None,
         until: until_of(rt, request.until)?,
     };
+    accept_inputs(rt, &[request.old, request.new, request.story])?;
     let story = console.read(rt, request.story)?;
     let compared = compared(rt, seed, console, &story, request, overrides)?;
     Ok(print(rt, console, &compared, request.exit_code))

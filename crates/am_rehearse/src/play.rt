@@ -12,6 +12,7 @@ use am_command::request::{PlayRequest, STANDARD_INPUT, Selection};
 use am_commands::faults::faults_of;
 use am_commands::given::given_to;
 use am_commands::ignored::say_ignored;
+use am_commands::once::accept_inputs;
 use am_commands::system_zones::SystemZones;
 use am_console::console::{Console, Document, REJECTED, UNWRITABLE};
 use am_console::files::{FileFault, open};
@@ -52,6 +53,7 @@ fn try_play<R: Files + Eprint + AllocGlobal + Clock>(
         until: until_of(rt, request.until)?,
     };
     let wanted = wanted_of(rt, seed, console, request)?;
+    accept_inputs(rt, &[request.story, request.config.unwrap_or("")])?;
     play_wanted(rt, console, request, overrides, &wanted)
 }
 
@@ -172,7 +174,7 @@ fn run<R: Files + Eprint + AllocGlobal + Clock>(
 /// Returns the output that the command line asks for. It has checked the name. The error is the status.
 fn output_of<R: Eprint>(rt: &R, request: &PlayRequest<'_>) -> Result<Option<Output>, u8> {
     if request.no_failures {
-        delivered_of(rt, request.output)
+        delivered_of(rt, request)
     } else if request.all {
         full_of(rt, request.output)
     } else {
@@ -180,16 +182,16 @@ fn output_of<R: Eprint>(rt: &R, request: &PlayRequest<'_>) -> Result<Option<Outp
     }
 }
 
-/// Returns the output of delivered notices, where notices are asked for. The error is the status.
-fn delivered_of<R: Eprint>(rt: &R, output: Option<&str>) -> Result<Option<Output>, u8> {
-    if output == Some("notices") {
+/// Returns the output of delivered notices, unless another is asked for. The error is the status.
+fn delivered_of<R: Eprint>(rt: &R, request: &PlayRequest<'_>) -> Result<Option<Output>, u8> {
+    if request.output.unwrap_or("notices") == "notices" && !request.all {
         return Ok(Some(Output::Delivered));
     }
-    let _ = eprintln!(rt; "am-rehearse: --no-failures needs --output notices");
+    let _ = eprintln!(rt; "am-rehearse: --no-failures is for the notices alone");
     Err(REJECTED)
 }
 
-/// Returns the output of each line, where the timeline is asked for. The error is the status.
+/// Returns the output of each line, unless another is asked for. The error is the status.
 fn full_of<R: Eprint>(rt: &R, output: Option<&str>) -> Result<Option<Output>, u8> {
     if output.unwrap_or("timeline") == "timeline" {
         return Ok(Some(Output::Full));

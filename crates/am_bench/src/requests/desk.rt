@@ -18,7 +18,9 @@ const HOME: u64 = 3;
 
 /// How calls are named that take memory.
 const INSERT: &str = "with memory: Desk::insert";
+
 const SILENCE: &str = "with memory: Desk::silence";
+
 const BEGIN: &str = "with memory: Desk::begin";
 
 pub fn make_calls<R: Wait>(probe: &Probe, rt: &R, alloc: Global) -> Result<(), AllocError> {

@@ -1,8 +1,9 @@
 //! The set of due times: keys of groups by due time and name. `groups` keeps it.
 //!
-//! Why two lists: a begin takes the key that is due first, and puts the group's key back behind all
-//! others, mostly. So keys that come behind all others go to a ring, which takes them out at its
-//! front without a search. Other keys, as those of new groups, go to a tree.
+//! Why two lists: a begin takes the key that is due first, and mostly puts the group's key back
+//! behind those that came back before it. So a key that comes behind the last one of a ring goes
+//! to that ring, which takes keys out at its front without a search. Other keys go to a tree.
+//! While a group with a long interval is last in the ring, keys due before it go to the tree.
 //!
 //! Why keys can be stale: the invariant (specs/Due.antt) says only that each group has its key
 //! while the set is complete. A begin that meets a key checks that the group is there and due at
@@ -68,7 +69,7 @@ impl Ord for DueKey {
 #[derive(Debug, Drop)]
 pub(crate) struct DueSet {
     alloc: Global,
-    /// Keys that came behind all others.
+    /// Keys that each came behind the last one here.
     pub(crate) ring: DueRing,
     /// The other keys, the one that is due first last.
     pub(crate) tree: BTreeSet<DueKey>,
@@ -174,7 +175,7 @@ impl DueSet {
         }
     }
 
-    /// Puts a key in, if there is memory for it: behind all others, if it comes there.
+    /// Puts a key in, if there is memory for it: into the ring, if it comes behind the last one there.
     fn append(&mut self, key: DueKey)
         ensures has { HasKey self.new key }
         ensures keeps { (other : DueKey) → HasKey self.old other → HasKey self.new other }

@@ -2,7 +2,8 @@
 //! the names of its groups are cached, they are at most 32, and each of them has it. For any other
 //! one `put_routed` finds the groups first and changes the state last.
 //!
-//! Then memory is allocated in this order. First comes the list of routes, unless the names are cached.
+//! Then memory is allocated in this order; before it, `put_again` may have reserved the history, and
+//! then found a group without the alert. First comes the list of routes, unless the names are cached.
 //! Next comes, for each group, its name and all that the insert puts into it (`find_placements`), in
 //! one list, since a list more would cost each insert. Each name is found once. Next comes the list
 //! for the name cache. Then, if no limit is passed, comes the capacity of the history, the known

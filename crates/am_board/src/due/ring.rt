@@ -1,5 +1,5 @@
 //! Keys of due times in order, the one that is due first at the front. `due` puts keys here that
-//! come behind all others: that takes one comparison and no search.
+//! come behind the last one: that takes one comparison and no search.
 ghost use Rattle.std.specs.Prelude.{◌≡◌, ◌∷◌, [], ◌++◌, IfSome, Some, false, if◌then◌else◌, is_ok, slice_get, true};
 ghost use Rattle.std.specs.Option.{option_to_list};
 ghost use Rattle.std.specs.VecDeque.Iter.{deque_iter_rest};
@@ -50,7 +50,7 @@ impl DueRing {
         self.keys.iter()
     }
 
-    /// Whether a key comes behind all others.
+    /// Whether a key comes behind the last one, and so behind all that are here.
     pub(crate) fn is_behind(&self, key: &DueKey) -> bool
         ensures { result ≡ true → AreRising (self.now ++ key.now ∷ []) }
     {
@@ -60,7 +60,7 @@ impl DueRing {
         }
     }
 
-    /// Puts a key at the back that comes behind all others, if there is memory for it.
+    /// Puts a key at the back that comes behind the last one, if there is memory for it.
     pub(crate) fn push(&mut self, key: DueKey) -> Result<(), AllocFailed<DueKey>>
         requires { AreRising (self.old ++ key ∷ []) }
         ensures { self.new ≡ (if is_ok result then self.old ++ key ∷ [] else self.old) }

@@ -1,7 +1,14 @@
 -- What is left by a line that isn't answered by what it asks.
-use Rattle.std.proofs.Common.{◌≡◌, [], ℕ, List, Result, Ok, Err, codes, refl, subst, sym}
+use Rattle.std.proofs.Common.{◌≡◌, ◌≢◌, ◌∙◌, ◌==◌, inl, inr, [], ℕ, List, Option, option_map, Some, None, Result, Ok, Err, ap, codes, refl, subst, sym}
+use Rattle.std.specs.List.{position}
 use Rattle.std.specs.Result.{IfErr, IsErrAnd}
 use Rattle.json.specs.Token.{Token}
+use Rattle.am_model.specs.Causes.{note_cause}
+use Rattle.am_alerts.specs.Fault.{ok_unless}
+use Rattle.am_model.specs.declared.config.Config.{Config}
+use Rattle.am_model.specs.declared.config.ConfigFault.{ConfigFault}
+use Rattle.am_model.specs.declared.fault.BoardFault.{BoardFault}
+use Rattle.am_model.specs.declared.fault.BoardFault.TheVariants as opening
 use Rattle.am_model.specs.declared.fault.Fault.{Fault}
 use Rattle.am_model.specs.declared.fault.Fault.TheVariants as board
 use Rattle.am_model.specs.declared.fault.LoadFault.{LoadFault}
@@ -10,54 +17,36 @@ use Rattle.am_model.specs.declared.fault.NoteFault.{NoteFault}
 use Rattle.am_model.specs.declared.fault.NoteFault.TheVariants as note
 use Rattle.am_model.specs.declared.fault.ReportFault.{ReportFault}
 use Rattle.am_model.specs.declared.fault.ReportFault.TheVariants as report
+use Rattle.am_model.specs.declared.fault.TakeFault.{TakeFault}
+use Rattle.am_model.specs.declared.fault.TakeFault.TheVariants as taking
 use Rattle.am_model.specs.declared.record.Call.{Call}
 use Rattle.am_model.specs.declared.record.Reply.{Reply}
+use Rattle.am_model.specs.declared.views.RowView.{RowView}
 use Rattle.am_model.specs.Records.{entry}
-use Rattle.am_board.specs.History.{IsReplyAt, with_record}
+use Rattle.am_model.specs.Ticket.{TicketData}
+use Rattle.am_board.specs.History.{BoardData, IsReplyAt, records_at, state_at, with_record}
+use Rattle.am_board.specs.Step.{IsNoteAnswer, IsTakeAnswer}
 use Rattle.am_lines.specs.declared.fault.LineFault.{LineFault}
 use Rattle.am_lines.specs.declared.fault.LineFault.TheVariants as fault
+use Rattle.am_lines.specs.declared.request.Loading.{Loading}
+use Rattle.am_lines.specs.declared.request.Noting.{Noting}
+use Rattle.am_lines.specs.declared.request.Opening.{Opening}
+use Rattle.am_lines.specs.declared.request.Reporting.{Reporting}
 use Rattle.am_lines.specs.declared.request.Request.{Request}
+use Rattle.am_lines.specs.declared.request.Request.TheVariants as request
 use Rattle.am_lines.specs.Fault.{IsOfBoard, IsOfLoad, IsOfNote, IsOfReport, IsRefusedAs, IsUnmade}
 use Rattle.am_lines.specs.Reply.{reply_tokens}
+use Rattle.am_dispatch.specs.Refusal.{IsNoteRefused, IsReportRefused, IsWhy, IsWhyUnopened, LacksMemory, LacksRow, LacksTicket}
+use Rattle.am_dispatch.specs.Row.{row_named}
 use Rattle.am_dispatch.specs.Session.{Does, HasDone, IsSame, Leaves, Makes}
+use Rattle.am_dispatch.specs.Ticket.{HasFaultAt, IsFirst}
 use Rattle.am_dispatch.specs.declared.session.Session.{Session}
+use Rattle.am_dispatch.proofs.Making.{first_ticket}
 
--- a call that isn't made leaves all as it was
-pub unmade_leaves : (f : LineFault) (old new : Session) (asked : Request) → IsUnmade f → IsSame old new → Leaves old asked new f
-unmade_leaves (fault.NotJson column) old new asked unmade same = absurd unmade
-unmade_leaves fault.TooLong old new asked unmade same = absurd unmade
-unmade_leaves fault.NoMemory old new asked unmade same = same
-unmade_leaves fault.Untold old new asked unmade same = absurd unmade
-unmade_leaves fault.Spent old new asked unmade same = absurd unmade
-unmade_leaves (fault.Refused place kind) old new asked unmade same = absurd unmade
-unmade_leaves (fault.NotMade place kind message) old new asked unmade same = same
-
--- a fault that is passed on
-pub unmade_passed : {T : Type 0} (r : Result T LineFault) (f : LineFault) (old new : Session) (asked : Request)
-    → IsErrAnd r (λ g. g ≡ f) → IsUnmade f → IsSame old new → IfErr r (Leaves old asked new)
-unmade_passed (Ok x) f old new asked is unmade same = tt
-unmade_passed (Err g) f old new asked is unmade same = unmade_leaves g old new asked (subst IsUnmade (sym is) unmade) same
-
--- where memory is refused
-pub memory_all : {T : Type 0} (r : Result T LineFault) (old new : Session) (asked : Request)
-    → IfErr r (λ f. f ≡ fault.NoMemory) → IsSame old new → IfErr r (Leaves old asked new)
-memory_all (Ok x) old new asked is same = tt
-memory_all (Err f) old new asked is same = subst (λ (g : LineFault). Leaves old asked new g) (sym is) same
-
--- where the call was made, and its answer isn't told
-pub untold_all : {T : Type 0} (r : Result T LineFault) (old new : Session) (asked : Request)
-    → IfErr r (λ f. f ≡ fault.Untold) → HasDone old asked new → IfErr r (Leaves old asked new)
-untold_all (Ok x) old new asked is done = tt
-untold_all (Err f) old new asked is done = subst (λ (g : LineFault). Leaves old asked new g) (sym is) done
-
--- a call that the board has made
-pub made_all : {T : Type 0} (r : Result T LineFault) (old new : Session) (asked : Request) (call : Call) (reply : Reply)
-    → ((tokens : List Token) → Makes old new call [] tokens → Does old asked new [] tokens)
-    → IsReplyAt old.board call reply → new.board ≡ with_record old.board (entry 0 call reply)
-    → IfErr r (λ f. f ≡ fault.Untold) → IfErr r (Leaves old asked new)
-made_all r old new asked call reply does due recorded is =
-    let tokens = reply_tokens old.board.config reply in
-    untold_all r old new asked is (tokens, does tokens (reply, record { due = due; recorded = recorded; told = refl }))
+-- what follows from what is so of a fault
+pub if_err_weaker : {T E : Type 0} (P Q : E → Type 0) (r : Result T E) → ((e : E) → P e → Q e) → IfErr r P → IfErr r Q
+if_err_weaker P Q (Ok x) weaker holds = tt
+if_err_weaker P Q (Err e) weaker holds = weaker e holds
 
 refused_unmade : (f : LineFault) (place kind : List ℕ) → IsRefusedAs f place kind → IsUnmade f
 refused_unmade (fault.NotJson column) place kind refused = absurd refused
@@ -70,6 +59,41 @@ refused_unmade (fault.NotMade at what message) place kind refused = tt
 
 memory_unmade : (f : LineFault) → f ≡ fault.NoMemory → IsUnmade f
 memory_unmade f is = subst IsUnmade (sym is) tt
+
+-- a call that isn't made leaves all as it was, and its fault tells why
+pub unmade_leaves : (f : LineFault) (old new : Session) (asked : Request) → IsUnmade f → IsWhy old asked f → IsSame old new → Leaves old asked new f
+unmade_leaves (fault.NotJson column) old new asked unmade why same = absurd unmade
+unmade_leaves fault.TooLong old new asked unmade why same = absurd unmade
+unmade_leaves fault.NoMemory old new asked unmade why same = (same, why)
+unmade_leaves fault.Untold old new asked unmade why same = absurd unmade
+unmade_leaves fault.Spent old new asked unmade why same = absurd unmade
+unmade_leaves (fault.Refused place kind) old new asked unmade why same = absurd unmade
+unmade_leaves (fault.NotMade place kind message) old new asked unmade why same = (same, why)
+
+-- where memory is refused
+pub memory_leaves : (f : LineFault) (old new : Session) (asked : Request) → f ≡ fault.NoMemory → IsWhy old asked f → IsSame old new → Leaves old asked new f
+memory_leaves f old new asked is why same = unmade_leaves f old new asked (memory_unmade f is) why same
+
+-- where a view lacks memory
+pub memory_all : {T : Type 0} (r : Result T LineFault) (old new : Session) (asked : Request)
+    → IfErr r (λ f. f ≡ fault.NoMemory) → ((f : LineFault) → LacksMemory f → IsWhy old asked f) → IsSame old new → IfErr r (Leaves old asked new)
+memory_all (Ok x) old new asked is why same = tt
+memory_all (Err f) old new asked is why same = memory_leaves f old new asked is (why f is) same
+
+-- where the call was made, and its answer isn't told
+pub untold_all : {T : Type 0} (r : Result T LineFault) (old new : Session) (asked : Request)
+    → IfErr r (λ f. f ≡ fault.Untold) → asked ≢ request.TakeHistory → HasDone old asked new → IfErr r (Leaves old asked new)
+untold_all (Ok x) old new asked is other done = tt
+untold_all (Err f) old new asked is other done = subst (λ (g : LineFault). Leaves old asked new g) (sym is) (done, other)
+
+-- a call that the board has made
+pub made_all : {T : Type 0} (r : Result T LineFault) (old new : Session) (asked : Request) (call : Call) (reply : Reply)
+    → ((tokens : List Token) → Makes old new call [] tokens → Does old asked new [] tokens) → asked ≢ request.TakeHistory
+    → IsReplyAt old.board call reply → new.board ≡ with_record old.board (entry 0 call reply)
+    → IfErr r (λ f. f ≡ fault.Untold) → IfErr r (Leaves old asked new)
+made_all r old new asked call reply does other due recorded is =
+    let tokens = reply_tokens old.board.config reply in
+    untold_all r old new asked is other (tokens, does tokens (reply, record { due = due; recorded = recorded; told = refl }))
 
 -- a call that the board refuses isn't made
 pub board_unmade : (place : List ℕ) (cause : Fault) (f : LineFault) → IsOfBoard place cause f → IsUnmade f
@@ -99,6 +123,79 @@ pub report_unmade : (cause : ReportFault) (f : LineFault) → IsOfReport cause f
 report_unmade report.Stranger f is = refused_unmade f (codes "/report/integration") (codes "Stranger") is
 report_unmade report.Twice f is = refused_unmade f (codes "/report/integration") (codes "Twice") is
 
--- a ticket of which no flush is open
-pub not_open_unmade : (f : LineFault) (place : List ℕ) → IsRefusedAs f place (codes "NotOpen") → IsUnmade f
-not_open_unmade f place is = refused_unmade f place (codes "NotOpen") is
+-- the session has no such ticket
+pub not_open_leaves : (f : LineFault) (old new : Session) (asked : Request) (place : List ℕ)
+    → IsRefusedAs f place (codes "NotOpen") → IsWhy old asked f → IsSame old new → Leaves old asked new f
+not_open_leaves f old new asked place is why same = unmade_leaves f old new asked (refused_unmade f place (codes "NotOpen") is) why same
+
+pub lacks_ticket : (s : Session) (seen : List TicketData) (number : ℕ) (place : List ℕ) (f : LineFault)
+    → seen ≡ s.tickets.items → None ≡ position (λ t. t.number == number) seen → IsRefusedAs f place (codes "NotOpen") → LacksTicket s number place f
+lacks_ticket s seen number place f same none is =
+    (sym (none ∙ ap (λ (ts : List TicketData). position (λ t. t.number == number) ts) same), is)
+
+-- a report that the ticket has a fault for
+pub report_refused : (s : Session) (x : Reporting) (place : ℕ) (cause : ReportFault) (f : LineFault) (seen : List TicketData)
+    → seen ≡ s.tickets.items → Some place ≡ position (λ t. t.number == x.ticket) seen
+    → HasFaultAt s.tickets.items place x.integration x.outcome cause → IsOfReport cause f → IsReportRefused s x f
+report_refused s x place cause f seen same first at is =
+    record {
+      place = place;
+      ticket = at.0;
+      at = first_ticket x.ticket s.tickets.items seen place at.0 same first at.1;
+      cause = cause;
+      is = at.2;
+      told = is;
+    }
+
+-- a note that the board refuses, which was handed the ticket that was found
+pub note_refused : (s : Session) (x : Noting) (place : ℕ) (ticket noted : TicketData) (notice : ℕ) (answer : NoteFault) (f : LineFault)
+    → IsFirst x.ticket s.tickets.items place ticket → Some notice ≡ position (λ n. n.integration == x.integration) ticket.notices
+    → noted ≡ ticket
+    → IsNoteAnswer (note_cause s.board.config s.board.id (records_at s.board) (state_at s.board) noted notice) answer
+    → IsOfNote answer f → IsNoteRefused s x f
+note_refused s x place ticket noted notice answer f at noticed same is told =
+    record {
+      place = place;
+      ticket = ticket;
+      at = at;
+      notice = notice;
+      noticed = sym noticed;
+      answer = answer;
+      is = subst (λ (t : TicketData). IsNoteAnswer (note_cause s.board.config s.board.id (records_at s.board) (state_at s.board) t notice) answer) same is;
+      told = told;
+    }
+
+-- a row that isn't there
+pub lacks_row : (s : Session) (x : Loading) (config : Config) (found : Option RowView) (f : LineFault)
+    → config ≡ s.board.config → found ≡ row_named config x.row → found ≡ None → IsOfLoad load.NoIntegration f → LacksRow s x f
+lacks_row s x config found f same named none is = (ap (λ (c : Config). row_named c x.row) (sym same) ∙ sym named ∙ none, is)
+
+-- the row that was found
+pub row_found : (s : Session) (x : Loading) (config : Config) (found : Option RowView) (row : RowView)
+    → config ≡ s.board.config → found ≡ row_named config x.row → found ≡ Some row → row_named s.board.config x.row ≡ Some row
+row_found s x config found row same named is = ap (λ (c : Config). row_named c x.row) (sym same) ∙ sym named ∙ is
+
+-- a board that isn't opened
+unopened_unmade : (f : LineFault) (config : Config) → IsWhyUnopened config f → IsUnmade f
+unopened_unmade f config (inl memory) = memory_unmade f memory
+unopened_unmade f config (inr faulty) = refused_unmade f [] (codes "value") faulty.1
+
+-- its fault is passed on
+pub unopened_passed : {T : Type 0} (r : Result T LineFault) (f : LineFault) (old : Session) (x : Opening)
+    → IsErrAnd r (λ g. g ≡ f) → IsWhyUnopened x.config f → IfErr r (Leaves old (request.Open x) old)
+unopened_passed (Ok made) f old x is why = tt
+unopened_passed (Err g) f old x is why =
+    let here = subst (IsWhyUnopened x.config) (sym is) why in
+    unmade_leaves g old old (request.Open x) (unopened_unmade g x.config here) here (refl, refl)
+
+-- the records aren't handed out, and not for memory
+pub untaken : (cause : Option TakeFault) (fault : TakeFault) → fault ≡ taking.TooManyCalls → IsTakeAnswer cause fault
+    → cause ≡ Some taking.TooManyCalls
+untaken None fault is answer = absurd (cc)
+untaken (Some cause) fault is answer = ap (λ (c : TakeFault). Some c) (sym answer ∙ is)
+
+-- a board refuses a configuration that has a fault
+pub faulty : (cause : Option ConfigFault) (fault : BoardFault) (board : BoardData)
+    → Err fault ≡ ok_unless (option_map opening.BadConfig cause) board → cause ≢ None
+faulty None fault board e = λ is. absurd (cc)
+faulty (Some known) fault board e = λ is. absurd (cc)

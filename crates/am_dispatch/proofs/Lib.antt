@@ -2,5 +2,6 @@ pub mod Answering
 pub mod Leaving
 pub mod Making
 pub mod Pieces
+pub mod Rows
 pub mod Sending
 pub mod Serving

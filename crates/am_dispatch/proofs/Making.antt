@@ -1,5 +1,5 @@
 -- What calls of the board leave, and what their answers tell.
-use Rattle.std.proofs.Common.{◌≡◌, ◌∙◌, ◌<◌, ◌==◌, ◌++◌, ◌∷◌, ℕ, List, [], IfSome, Option, Some, Result, Ok, Err, ap, arith, codes, drop, length, refl, remove, slice_get, slice_index_or, subst, sym, true≢false}
+use Rattle.std.proofs.Common.{◌≡◌, ◌∙◌, ◌<◌, ◌==◌, ◌++◌, ◌∷◌, ℕ, List, [], Some, Result, Ok, Err, ap, arith, codes, drop, length, refl, remove, slice_get, slice_index_or, subst, sym, true≢false}
 use Rattle.std.proofs.Math.Seq.{drop-append_seam}
 use Rattle.std.specs.List.{position}
 use Rattle.std.specs.Result.{IsOk, OnOk}
@@ -26,7 +26,7 @@ use Rattle.am_lines.specs.declared.request.Reporting.{Reporting}
 use Rattle.am_lines.specs.Reply.{flush_tokens, named, opened_tokens, reply_tokens}
 use Rattle.am_lines.specs.Record.{record_tokens}
 use Rattle.am_lines.specs.View.{listed}
-use Rattle.am_dispatch.specs.Row.{IsRowOf}
+use Rattle.am_dispatch.specs.Row.{row_named}
 use Rattle.am_dispatch.specs.Session.{Begins, Finishes, KeepsTicket, Loads, Makes, Notes, Reports, taken_tokens}
 use Rattle.am_dispatch.specs.Ticket.{IsFirst, IsRecordedAt}
 use Rattle.am_dispatch.specs.declared.session.Session.{Session}
@@ -163,18 +163,14 @@ finishes r old new f before after place ticket at tickets =
       tickets = tickets;
     })
 
--- what is so of what was found
-pub if_some : {X : Type 0} (P : X → Type 0) (found : Option X) (x : X) → found ≡ Some x → IfSome found P → P x
-if_some {X} P found x is holds = subst (λ (o : Option X). IfSome o P) is holds
-
 -- a load of the row that is named
-pub loads : {T E : Type 0} (r : Result T E) (old new : Session) (l : Loading) (row : RowView) (config : Config) (before after : List Token)
-    → config ≡ old.board.config → IsRowOf config l.row row → OnOk r (Makes old new (call.Load l.now row) before after)
+pub loads : {T E : Type 0} (r : Result T E) (old new : Session) (l : Loading) (row : RowView) (before after : List Token)
+    → row_named old.board.config l.row ≡ Some row → OnOk r (Makes old new (call.Load l.now row) before after)
     → OnOk r (Loads old new l before after)
-loads r old new l row config before after is_config is =
+loads r old new l row before after is =
     on_ok_weaker {Q = Loads old new l before after} r (λ (makes : Makes old new (call.Load l.now row) before after). record {
       row = row;
-      is = subst (λ (c : Config). IsRowOf c l.row row) is_config is;
+      is = is;
       makes = makes;
     })
 

@@ -1,3 +1,4 @@
+pub mod Refusal
 pub mod Row
 pub mod Serve
 pub mod Session

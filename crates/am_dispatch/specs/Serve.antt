@@ -1,5 +1,5 @@
 -- Serve: the lines of an input, each answered by a text.
-use Rattle.std.specs.Prelude.{◌≡◌, ◌≤◌, ◌+◌, ◌==◌, ◌⊎◌, ℕ, Bool, true, IsTrue, List, [], ◌∷◌, ◌++◌, Option, Some, None, length}
+use Rattle.std.specs.Prelude.{◌≡◌, ◌≢◌, ◌≤◌, ◌+◌, ◌==◌, ◌⊎◌, ℕ, Bool, true, IsTrue, List, [], ◌∷◌, ◌++◌, Option, Some, None, codes, length}
 use Rattle.std.specs.List.{concat}
 use Rattle.json.specs.Print.{print}
 use Rattle.am_cli.specs.Bytes.{Breaks}
@@ -10,7 +10,7 @@ use Rattle.am_lines.specs.declared.fault.LineFault.TheVariants as fault
 use Rattle.am_lines.specs.declared.request.Opening.{Opening}
 use Rattle.am_lines.specs.declared.request.Request.{Request}
 use Rattle.am_lines.specs.declared.request.Request.TheVariants as request
-use Rattle.am_lines.specs.Fault.{TellsFault}
+use Rattle.am_lines.specs.Fault.{IsRefusedAs, TellsFault}
 use Rattle.am_lines.specs.Lines.{IsLater, LinesData, Moves, is_plain, lines_of}
 use Rattle.am_lines.specs.Reply.{opened_tokens}
 use Rattle.am_dispatch.specs.Session.{IsAnswered, IsAsked, IsUnread, Refuses}
@@ -41,7 +41,11 @@ DoesAsked None line text (Some new) = Opened line text new
 DoesAsked (Some old) line text None = ⊥
 DoesAsked (Some old) line text (Some new) = IsAnswered old line text new
 
--- what a line that opens no board is refused for: it can't be read, there was no memory, or it asks for something else
+-- something else than a board is asked, and the fault tells that there is none
+abbrev pub LacksBoard : Request → LineFault → Type 0
+LacksBoard asked f = ((opening : Opening) → asked ≢ request.Open opening) × IsRefusedAs f [] (codes "NoBoard")
+
+-- what a line that opens no board is refused for: it can't be read, there was no memory, or what it asks needs a board
 abbrev pub OpensNone : List ℕ → LineFault → Type 0
 OpensNone line (fault.NotJson column) = IsUnread line (fault.NotJson column)
 OpensNone line fault.TooLong = IsUnread line fault.TooLong
@@ -49,7 +53,8 @@ OpensNone line fault.NoMemory = Unit {0}
 OpensNone line fault.Untold = ⊥
 OpensNone line fault.Spent = ⊥
 OpensNone line (fault.Refused place kind) = IsUnread line (fault.Refused place kind)
-OpensNone line (fault.NotMade place kind message) = (q : Request) × IsAsked line q
+OpensNone line (fault.NotMade place kind message) =
+    (asked : Request) × IsAsked line asked × LacksBoard asked (fault.NotMade place kind message)
 
 -- the line is refused for this fault
 abbrev pub IsRefused : Option Session → List ℕ → LineFault → Option Session → Type 0

@@ -1,5 +1,5 @@
 -- Session: what a session does with what a line asks, and what the answer tells.
-use Rattle.std.specs.Prelude.{◌≡◌, ◌⊎◌, ◌<◌, ◌==◌, ℕ, List, [], ◌∷◌, ◌++◌, Some, None, codes, length, remove}
+use Rattle.std.specs.Prelude.{◌≡◌, ◌≢◌, ◌⊎◌, ◌<◌, ◌==◌, ℕ, List, [], ◌∷◌, ◌++◌, Some, None, codes, length, remove}
 use Rattle.std.specs.List.{position}
 use Rattle.json.specs.Print.{print}
 use Rattle.json.specs.Token.{Token}
@@ -39,7 +39,8 @@ use Rattle.am_lines.specs.Record.{record_tokens}
 use Rattle.am_lines.specs.Reply.{named, opened_tokens, reply_tokens}
 use Rattle.am_lines.specs.Request.{IsRequestIn}
 use Rattle.am_lines.specs.View.{due_tokens, group_view_tokens, listed, outlook_tokens, row_tokens, summary_tokens}
-use Rattle.am_dispatch.specs.Row.{IsRowOf}
+use Rattle.am_dispatch.specs.Refusal.{IsWhy}
+use Rattle.am_dispatch.specs.Row.{row_named}
 use Rattle.am_dispatch.specs.Ticket.{IsFirst, IsNoticeAt, IsRecordedAt, ticket_tokens}
 use Rattle.am_dispatch.specs.declared.session.Session.{Session}
 use Rattle.am_dispatch.specs.declared.ticket.TheConstants.{HOME}
@@ -103,7 +104,7 @@ pub record Finishes (old new : Session) (f : Finishing) (before after : List Tok
 -- a load of the row that is named
 pub record Loads (old new : Session) (l : Loading) (before after : List Token) : Type 0 where
   pub row : RowView
-  pub is : IsRowOf old.board.config l.row row
+  pub is : row_named old.board.config l.row ≡ Some row
   pub makes : Makes old new (call.Load l.now row) before after
 
 -- a view changes nothing, and the answer tells these
@@ -180,16 +181,17 @@ abbrev pub SpendsTicket : Session → Request → Session → Type 0
 SpendsTicket old (request.Finish f) new = Spends old new f
 SpendsTicket old asked new = ⊥
 
--- what is asked and isn't answered by what it asks for leaves all as it was. Except that the call was made, if only memory for
--- its answer was refused, and that a finish has spent its ticket, if the board has no such flush
+-- what is asked and isn't answered by what it asks for leaves all as it was, and the fault tells why. Except that the call was
+-- made, if only memory for its answer was refused (what takes the records is told, or isn't made), and that a finish has spent its
+-- ticket, if the board has no such flush
 abbrev pub Leaves : Session → Request → Session → LineFault → Type 0
 Leaves old asked new (fault.NotJson column) = ⊥
 Leaves old asked new fault.TooLong = ⊥
-Leaves old asked new fault.NoMemory = IsSame old new
-Leaves old asked new fault.Untold = HasDone old asked new
+Leaves old asked new fault.NoMemory = IsSame old new × IsWhy old asked fault.NoMemory
+Leaves old asked new fault.Untold = HasDone old asked new × (asked ≢ request.TakeHistory)
 Leaves old asked new fault.Spent = SpendsTicket old asked new
 Leaves old asked new (fault.Refused place kind) = ⊥
-Leaves old asked new (fault.NotMade place kind message) = IsSame old new
+Leaves old asked new (fault.NotMade place kind message) = IsSame old new × IsWhy old asked (fault.NotMade place kind message)
 
 -- the line is the JSON text of what asks this
 abbrev pub IsAsked : List ℕ → Request → Type 0

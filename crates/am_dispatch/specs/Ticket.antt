@@ -1,12 +1,13 @@
 -- Ticket: the JSON tokens of what is told of the open flushes.
-use Rattle.std.specs.Prelude.{◌≡◌, ℕ, ◌==◌, List, ◌∷◌, ◌++◌, Some, codes, slice_get, slice_set}
+use Rattle.std.specs.Prelude.{◌≡◌, ℕ, ◌==◌, List, ◌∷◌, ◌++◌, Some, None, codes, slice_get, slice_set}
 use Rattle.std.specs.List.{position}
 use Rattle.json.specs.Token.{Token, key}
 use Rattle.am_retry.specs.declared.outcome.Outcome.{Outcome}
 use Rattle.am_model.specs.declared.config.Config.{Config}
+use Rattle.am_model.specs.declared.fault.ReportFault.{ReportFault}
 use Rattle.am_model.specs.declared.notice.Report.{Report}
 use Rattle.am_model.specs.Notice.{NoticeData}
-use Rattle.am_model.specs.Ticket.{TicketData, outcome_of, recorded}
+use Rattle.am_model.specs.Ticket.{TicketData, outcome_of, recorded, report_fault}
 use Rattle.am_lines.specs.Answer.{object, array}
 use Rattle.am_lines.specs.Record.{report_tokens}
 use Rattle.am_lines.specs.Reply.{flush_members}
@@ -31,11 +32,18 @@ pub record IsFirst (number : ℕ) (tickets : List TicketData) (place : ℕ) (tic
   pub first : position (λ t. t.number == number) tickets ≡ Some place
   pub held : slice_get tickets place ≡ Some ticket
 
--- how the sending to an integration ended is recorded in the ticket at a place
+-- how the sending to an integration ended is recorded in the ticket at a place, which has no fault for it
 abbrev pub IsRecordedAt : List TicketData → ℕ → ℕ → Outcome → List TicketData → Type 0
 IsRecordedAt old place integration outcome new =
     (ticket : TicketData) × (slice_get old place ≡ Some ticket)
+    × (report_fault ticket (report_on ticket integration outcome) ≡ None)
     × (new ≡ slice_set old place (recorded ticket (report_on ticket integration outcome)))
+
+-- the ticket at a place has this fault for how the sending to an integration ended
+abbrev pub HasFaultAt : List TicketData → ℕ → ℕ → Outcome → ReportFault → Type 0
+HasFaultAt tickets place integration outcome cause =
+    (ticket : TicketData) × (slice_get tickets place ≡ Some ticket)
+    × (report_fault ticket (report_on ticket integration outcome) ≡ Some cause)
 
 -- the notice of an integration is at this place
 abbrev pub IsNoticeAt : ℕ → List NoticeData → ℕ → Type 0

@@ -1,12 +1,13 @@
 //! The rows that `load` hands to the board: lines name their routes, and a board has positions. `session` calls `row_of`.
-ghost use Rattle.std.specs.Prelude.{◌≡◌, ◌≤◌, [], IfOk, IfSome, IsTrue, unwrap_or};
+ghost use Rattle.std.specs.Prelude.{◌≡◌, ◌≤◌, ◌<◌, IfOk, IfSome, Some, length, option_copied, slice_get};
+ghost use Rattle.std.specs.List.{position};
+ghost use Rattle.std.specs.Option.{option_or};
 ghost use Rattle.std.specs.Str.{bytes_eq};
-ghost use Rattle.am_alerts.specs.RoutingTree.{last_of, route_at};
-ghost use Rattle.am_model.specs.Configured.{route_of};
-ghost use Rattle.am_dispatch.specs.Row.{kind_of, IsRowOf};
+ghost use Rattle.am_alerts.specs.RoutingTree.{last_of};
+ghost use Rattle.am_dispatch.specs.Row.{has_named_receiver, kind_of, no_labels, route_named, row_under, row_named};
 
 use am_alerts::labels::Labels;
-use am_alerts::route::Routes;
+use am_alerts::route::{Child, Routes};
 use am_alerts::sequence::Sequence;
 use am_alerts::text::Text;
 use am_board::group::GroupName;
@@ -15,18 +16,35 @@ use am_model::config::{Config, kind_at};
 use am_model::views::RowView;
 use std::alloc::{AllocError, Global};
 
-/// Returns a row as a board of this configuration has it. None where no route has its name, or where its receiver is another
-/// or its integration not of its kind: a row of another configuration isn't taken for one of this.
+/// Returns a row as a board of this configuration has it. None where no route has its name, where its receiver is another
+/// or its integration not of its kind, or where its group isn't one without labels, as it says: a row of another
+/// configuration isn't taken for one of this.
 pub fn row_of(
     alloc: Global,
     config: &Config,
     named: NamedRow,
 ) -> Result<Option<RowView>, AllocError>
-    ensures { IfOk result (λ found. IfSome found (IsRowOf config.now named)) }
+    ensures { IfOk result (λ found. found ≡ row_named config.now named) }
+{
+    match find_route(&config.routes, named.group.route.as_str()) {
+        Some(route) => row_under(alloc, config, route, named),
+        None => Ok(None),
+    }
+}
+
+/// Returns a row as it is under this route; None as `row_of` has it.
+fn row_under(
+    alloc: Global,
+    config: &Config,
+    route: u32,
+    named: NamedRow,
+) -> Result<Option<RowView>, AllocError>
+    requires { route ≤ last_of config.now.routes }
+    ensures { IfOk result (λ found. found ≡ row_under config.now named (Some route)) }
 {
     let NamedRow {
         group: NamedGroup {
-            route: name,
+            route: _name,
             labels,
         },
         receiver,
@@ -37,9 +55,6 @@ pub fn row_of(
         firing,
         resolved,
     } = named;
-    let Some(route) = find_route(&config.routes, name.as_str()) else {
-        return Ok(None);
-    };
     let alert = first_of(firing.as_slice(), resolved.as_slice());
     let Some(labels) = group_labels(alloc, &config.routes, route, labels, alert)? else {
         return Ok(None);
@@ -52,10 +67,7 @@ pub fn row_of(
         firing: Sequence::from(firing),
         resolved: Sequence::from(resolved),
     };
-    if !has_receiver(config, &row, receiver) {
-        return Ok(None);
-    }
-    if has_kind(config, &row, kind.as_str()) {
+    if has_named_receiver(config, &row, receiver) && has_kind(config, &row, kind.as_str()) {
         Ok(Some(row))
     } else {
         Ok(None)
@@ -63,14 +75,17 @@ pub fn row_of(
 }
 
 /// The first alert of a row.
-fn first_of<'a>(firing: &'a [Labels], resolved: &'a [Labels]) -> Option<&'a Labels> {
+fn first_of<'a>(firing: &'a [Labels], resolved: &'a [Labels]) -> Option<&'a Labels>
+    ensures { option_copied result ≡ option_or (slice_get firing.now 0) (slice_get resolved.now 0) }
+{
     match firing.first() {
         Some(labels) => Some(labels),
         None => resolved.first(),
     }
 }
 
-/// Returns the labels of a row's group. Where it has none, these are those of its alert's group; none where they aren't none.
+/// Returns the labels that a row names for its group. If it names none: an empty set if the group of its first alert has
+/// none, else None.
 fn group_labels(
     alloc: Global,
     routes: &Routes,
@@ -79,27 +94,27 @@ fn group_labels(
     alert: Option<&Labels>,
 ) -> Result<Option<Labels>, AllocError>
     requires { route ≤ last_of routes.now }
-    ensures { IfOk result (λ found. IfSome found (λ made. made ≡ unwrap_or labels [])) }
+    ensures { IfOk result (λ found. found ≡ option_or labels (no_labels routes.now route (option_copied alert.entry))) }
 {
     match labels {
         Some(labels) => Ok(Some(labels)),
-        None => match alert {
-            None => Ok(None),
-            Some(alert) => no_labels(alloc, routes, route, alert),
-        },
+        None => no_labels(alloc, routes, route, alert),
     }
 }
 
-/// Returns the labels of the group of an alert, if it has none.
+/// Returns an empty set if the group of this alert has no labels; None if it has some, and without an alert.
 fn no_labels(
     alloc: Global,
     routes: &Routes,
     route: u32,
-    alert: &Labels,
+    alert: Option<&Labels>,
 ) -> Result<Option<Labels>, AllocError>
     requires { route ≤ last_of routes.now }
-    ensures { IfOk result (λ found. IfSome found (λ made. made ≡ [])) }
+    ensures { IfOk result (λ found. found ≡ no_labels routes.now route (option_copied alert.entry)) }
 {
+    let Some(alert) = alert else {
+        return Ok(None);
+    };
     let labels = routes.group_labels(alloc, route, alert)?;
     let count = labels.len();
     if count > 0 {
@@ -111,19 +126,29 @@ fn no_labels(
 /// Returns the position of the route of a name.
 fn find_route(routes: &Routes, name: &str) -> Option<u32>
     ensures within { IfSome result (λ route. route ≤ last_of routes.now) }
-    ensures named { IfSome result (λ route. IsTrue (bytes_eq (route_at routes.now route).name name.now)) }
+    ensures named { result ≡ route_named routes.now name.now }
 {
-    for position in 0..routes.last() + 1 {
-        if routes.route(position).name.as_str() == name {
-            return Some(position);
-        }
+    if routes.root().name.as_str() == name {
+        return Some(0);
     }
-    None
+    match find_child(routes.children(), name) {
+        Some(place) => Some(place as u32 + 1),
+        None => None,
+    }
+}
+
+fn find_child(children: &[Child], name: &str) -> Option<usize>
+    ensures within { IfSome result (λ place. place < length children.now) }
+    ensures named { result ≡ position (λ c. bytes_eq c.route.name name.now) children.now }
+{
+    children
+        .iter()
+        .position(|child| child.route.name.as_str() == name)
 }
 
 /// Whether the receiver of a row is the one of this name, where one is named.
-fn has_receiver(config: &Config, row: &RowView, receiver: Option<Text>) -> bool
-    ensures { IsTrue result → IfSome receiver (λ name. IsTrue (bytes_eq (route_of config.now row.now.group).receiver name)) }
+fn has_named_receiver(config: &Config, row: &RowView, receiver: Option<Text>) -> bool
+    ensures { result ≡ has_named_receiver config.now row.now receiver }
 {
     match receiver {
         None => true,

@@ -5,8 +5,9 @@
 ghost use Rattle.std.specs.Prelude.{◌≡◌, ◌≢◌, ◌+◌, ◌++◌, [], ◌∷◌, List, ℕ, None, Option, Some, false, if◌then◌else◌, is_ok};
 ghost use Rattle.std.specs.Prelude.{IfErr, IfOk, IsErrAnd, IsFalse, IsTrue, OnErr, OnOk};
 ghost use Rattle.am_cli.specs.Bytes.{Breaks};
-ghost use Rattle.am_lines.specs.Fault.{IsUnmade, TellsFault, fault_line};
+ghost use Rattle.am_lines.specs.Fault.{TellsFault, fault_line};
 ghost use Rattle.am_lines.specs.Lines.{IsRead, end_count};
+ghost use Rattle.am_dispatch.specs.Refusal.{IsWhyUnopened};
 ghost use Rattle.am_dispatch.specs.Serve.{AnswersLine, IsOpenedBy, OpensNone, Opened, Sends, Served, ServesAll, Stops, is_remark};
 ghost use Rattle.am_dispatch.specs.Session.{IsAnswered, IsAsked, IsTold, IsUnread, Leaves, Refuses};
 ghost use Rattle.am_dispatch.specs.declared.session.Session.{Session};
@@ -251,7 +252,7 @@ fn open_session(
     opening: Opening,
 ) -> Result<(Session, Vec<u8>), LineFault>
     ensures told { IfOk result (λ made. IsOpenedBy opening made.1.items made.0) }
-    ensures refused { IfErr result IsUnmade }
+    ensures refused { IfErr result (IsWhyUnopened opening.config) }
 {
     let Opening { config, ignored } = opening;
     let mut answer = Answer::new(alloc);

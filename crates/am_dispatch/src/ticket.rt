@@ -1,11 +1,11 @@
 //! The tickets of the flushes that are open, and what is told of them. `session` has them.
-ghost use Rattle.std.specs.Prelude.{◌≡◌, ◌<◌, ◌++◌, ◌∷◌, ◌==◌, IfSome, OnErr, OnOk, Some, codes, length, slice_get, vec_len};
+ghost use Rattle.std.specs.Prelude.{◌≡◌, ◌<◌, ◌++◌, ◌∷◌, ◌==◌, IfErr, IfSome, None, OnErr, OnOk, Some, codes, length, slice_get, vec_len};
 ghost use Rattle.std.specs.List.{flat_map, position};
 ghost use Rattle.json.specs.Token.{key};
 ghost use Rattle.am_lines.specs.Record.{report_tokens};
 ghost use Rattle.am_lines.specs.View.{listed};
-ghost use Rattle.am_model.specs.Ticket.{outcome_of, recorded};
-ghost use Rattle.am_dispatch.specs.Ticket.{IsRecordedAt, report_on, reports_tokens, ticket_tokens};
+ghost use Rattle.am_model.specs.Ticket.{outcome_of, recorded, report_fault};
+ghost use Rattle.am_dispatch.specs.Ticket.{HasFaultAt, IsRecordedAt, report_on, reports_tokens, ticket_tokens};
 
 use am_board::fault::ReportFault;
 use am_board::notice::{Notice, Report};
@@ -31,6 +31,7 @@ pub fn record_at(
 ) -> Result<(), ReportFault>
     requires { place < vec_len tickets.old }
     ensures ok { OnOk result (IsRecordedAt tickets.old.items place integration outcome tickets.new.items) }
+    ensures fault { IfErr result (HasFaultAt tickets.old.items place integration outcome) }
     ensures err { OnErr result (tickets.new.items ≡ tickets.old.items) }
 {
     record(&mut tickets[place], integration, outcome)
@@ -38,7 +39,9 @@ pub fn record_at(
 
 /// Records how the sending to an integration ended.
 fn record(own: &mut OwnTicket<HOME>, integration: u32, outcome: Outcome) -> Result<(), ReportFault>
-    ensures ok { OnOk result (own.new ≡ recorded own.old (report_on own.old integration outcome)) }
+    ensures ok { OnOk result ((report_fault own.old (report_on own.old integration outcome) ≡ None)
+        × (own.new ≡ recorded own.old (report_on own.old integration outcome))) }
+    ensures fault { IfErr result (λ fault. report_fault own.old (report_on own.old integration outcome) ≡ Some fault) }
     ensures err { OnErr result (own.new ≡ own.old) }
 {
     let ticket = own.ticket().number();

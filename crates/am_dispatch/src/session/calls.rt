@@ -7,9 +7,9 @@ ghost use Rattle.am_model.specs.Replay.{IsLegal};
 ghost use Rattle.am_model.specs.Views.{group_views, row_views};
 ghost use Rattle.am_model.specs.look_back.Preview.{preview};
 ghost use Rattle.am_board.specs.History.{IsFresh, kept_of, opening, reply_of, state_at};
-ghost use Rattle.am_lines.specs.Fault.{IsUnmade};
 ghost use Rattle.am_lines.specs.Reply.{flush_tokens, reply_tokens};
 ghost use Rattle.am_lines.specs.View.{due_tokens, group_view_tokens, listed, outlook_tokens, row_tokens};
+ghost use Rattle.am_dispatch.specs.Refusal.{IsWhyUnopened};
 ghost use Rattle.am_dispatch.specs.Session.{Begins, Does, Finishes, KeepsTicket, Leaves};
 ghost use Rattle.am_dispatch.specs.Session.{Loads, Makes, Notes, Opens, Reports, Takes};
 ghost use Rattle.am_dispatch.specs.Session.{TellsSummary, taken_tokens};
@@ -45,7 +45,7 @@ impl Session {
     pub fn open(alloc: Global, seed: Seed, config: Config) -> Result<Session, LineFault>
         ensures board { IfOk result (λ session. session.board ≡ opening config HOME) }
         ensures tickets { IfOk result (λ session. session.tickets.items ≡ []) }
-        ensures refused { IfErr result IsUnmade }
+        ensures refused { IfErr result (IsWhyUnopened config) }
     {
         let board = open_board(alloc, seed, config)?;
         Ok(Session {
@@ -405,7 +405,7 @@ fn write_begun(config: &Config, ticket: &Ticket, answer: &mut Answer) -> Result<
 /// An empty board of the program.
 fn open_board(alloc: Global, seed: Seed, config: Config) -> Result<Board, LineFault>
     ensures board { IfOk result (λ board. board ≡ opening config HOME) }
-    ensures refused { IfErr result IsUnmade }
+    ensures refused { IfErr result (IsWhyUnopened config) }
 {
     match Board::seeded(alloc, config, HOME, seed) {
         Ok(board) => Ok(board),
@@ -433,6 +433,7 @@ fn finish_all(board: &mut Board, tickets: Vec<OwnTicket<HOME>>)
 /// A call was made: where its answer can't be written, that is said in its place.
 fn told(written: Result<(), AllocError>) -> Result<(), LineFault>
     ensures ok { OnOk result (IsOk written) }
+    ensures kept { IsOk written → IsOk result }
     ensures err { IfErr result (λ fault. fault ≡ LineFault.Untold) }
 {
     match written {

@@ -1,14 +1,25 @@
-use Rattle.std.proofs.Common.{◌≡◌, ap, slice_set}
+use Rattle.std.proofs.Common.{◌≡◌, None, Some, ap, slice_set}
 use Rattle.std.proofs.lemmas.Option.{slice_get_read}
 use Rattle.std.proofs.lemmas.Result.{on_ok_weaker}
-use Rattle.am_model.specs.Ticket.{TicketData, recorded}
-use Rattle.am_dispatch.specs.Ticket.{IsRecordedAt, report_on}
+use Rattle.am_model.specs.Ticket.{TicketData, recorded, report_fault}
+use Rattle.am_dispatch.proofs.Leaving.{if_err_weaker}
+use Rattle.am_dispatch.specs.Ticket.{HasFaultAt, IsRecordedAt, report_on}
 use Rattle.am_dispatch.proofs.ticket.record_at.Goals as goal
 
 pub returns-clause-ok : goal.returns-clause-ok
 returns-clause-ok c =
     let was = c.args.tickets.now.items in
     let own : TicketData = c.index_mut.result.now in
+    let report = report_on own c.args.integration c.args.outcome in
     on_ok_weaker {Q = IsRecordedAt was c.args.place c.args.integration c.args.outcome (slice_set was c.args.place c.record.new.own)} c.record.result
-    (λ (is : c.record.new.own ≡ recorded own (report_on own c.args.integration c.args.outcome)).
-    (own, slice_get_read was _ c.args.place own c.args.tickets.now.ok.0 c.requires c.index_mut.ensures.value, ap (slice_set was c.args.place) is)) c.record.ensures.ok
+    (λ (is : (report_fault own report ≡ None) × (c.record.new.own ≡ recorded own report)).
+    (own, slice_get_read was _ c.args.place own c.args.tickets.now.ok.0 c.requires c.index_mut.ensures.value, is.0, ap (slice_set was c.args.place) is.1))
+    c.record.ensures.ok
+
+pub returns-clause-fault : goal.returns-clause-fault
+returns-clause-fault c =
+    let was = c.args.tickets.now.items in
+    let own : TicketData = c.index_mut.result.now in
+    let report = report_on own c.args.integration c.args.outcome in
+    if_err_weaker (λ fault. report_fault own report ≡ Some fault) (HasFaultAt was c.args.place c.args.integration c.args.outcome) c.record.result
+    (λ fault is. (own, slice_get_read was _ c.args.place own c.args.tickets.now.ok.0 c.requires c.index_mut.ensures.value, is)) c.record.ensures.fault

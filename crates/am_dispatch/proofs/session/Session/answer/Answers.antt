@@ -1,4 +1,5 @@
 use Rattle.std.proofs.Common.{refl}
+use Rattle.am_lines.specs.declared.request.Request.TheVariants.{Groups, NextDue, Outlook, Rows, Summary, Tickets}
 use Rattle.am_dispatch.proofs.Leaving.{memory_all}
 use Rattle.am_dispatch.proofs.Making.{both, shown}
 use Rattle.am_dispatch.proofs.session.Session.answer.Goals as goal
@@ -67,34 +68,34 @@ pub returns-in-NextDue-clause-told : goal.returns-in-NextDue-clause-told
 returns-in-NextDue-clause-told c = rw c.in-NextDue.is (shown _ _ _ _ c.show_due.ensures.told)
 
 pub returns-in-NextDue-clause-refused : goal.returns-in-NextDue-clause-refused
-returns-in-NextDue-clause-refused c = memory_all _ _ _ c.args.request c.show_due.ensures.refused (refl, refl)
+returns-in-NextDue-clause-refused c = rw c.in-NextDue.is (memory_all _ c.args.self.now c.args.self.now NextDue c.show_due.ensures.refused (λ f is. is) (refl, refl))
 
 pub returns-in-Outlook-clause-told : goal.returns-in-Outlook-clause-told
 returns-in-Outlook-clause-told c = rw c.in-Outlook.is (shown _ _ _ _ c.show_outlook.ensures.told)
 
 pub returns-in-Outlook-clause-refused : goal.returns-in-Outlook-clause-refused
-returns-in-Outlook-clause-refused c = memory_all _ _ _ c.args.request c.show_outlook.ensures.refused (refl, refl)
+returns-in-Outlook-clause-refused c = rw c.in-Outlook.is (memory_all _ c.args.self.now c.args.self.now (Outlook c.in-Outlook.timed) c.show_outlook.ensures.refused (λ f is. is) (refl, refl))
 
 pub returns-in-Rows-clause-told : goal.returns-in-Rows-clause-told
 returns-in-Rows-clause-told c = rw c.in-Rows.is (shown _ _ _ _ c.show_rows.ensures.told)
 
 pub returns-in-Rows-clause-refused : goal.returns-in-Rows-clause-refused
-returns-in-Rows-clause-refused c = memory_all _ _ _ c.args.request c.show_rows.ensures.refused (refl, refl)
+returns-in-Rows-clause-refused c = rw c.in-Rows.is (memory_all _ c.args.self.now c.args.self.now Rows c.show_rows.ensures.refused (λ f is. is) (refl, refl))
 
 pub returns-in-Groups-clause-told : goal.returns-in-Groups-clause-told
 returns-in-Groups-clause-told c = rw c.in-Groups.is (shown _ _ _ _ c.show_groups.ensures.told)
 
 pub returns-in-Groups-clause-refused : goal.returns-in-Groups-clause-refused
-returns-in-Groups-clause-refused c = memory_all _ _ _ c.args.request c.show_groups.ensures.refused (refl, refl)
+returns-in-Groups-clause-refused c = rw c.in-Groups.is (memory_all _ c.args.self.now c.args.self.now Groups c.show_groups.ensures.refused (λ f is. is) (refl, refl))
 
 pub returns-in-Summary-clause-told : goal.returns-in-Summary-clause-told
 returns-in-Summary-clause-told c = rw c.in-Summary.is (shown _ _ _ _ c.show_summary.ensures.told)
 
 pub returns-in-Summary-clause-refused : goal.returns-in-Summary-clause-refused
-returns-in-Summary-clause-refused c = memory_all _ _ _ c.args.request c.show_summary.ensures.refused (refl, refl)
+returns-in-Summary-clause-refused c = rw c.in-Summary.is (memory_all _ c.args.self.now c.args.self.now Summary c.show_summary.ensures.refused (λ f is. is) (refl, refl))
 
 pub returns-in-Tickets-clause-told : goal.returns-in-Tickets-clause-told
 returns-in-Tickets-clause-told c = rw c.in-Tickets.is (shown _ _ _ _ c.show_tickets.ensures.told)
 
 pub returns-in-Tickets-clause-refused : goal.returns-in-Tickets-clause-refused
-returns-in-Tickets-clause-refused c = memory_all _ _ _ c.args.request c.show_tickets.ensures.refused (refl, refl)
+returns-in-Tickets-clause-refused c = rw c.in-Tickets.is (memory_all _ c.args.self.now c.args.self.now Tickets c.show_tickets.ensures.refused (λ f is. is) (refl, refl))

@@ -1,4 +1,4 @@
-use Rattle.std.proofs.Common.{[], ℕ, Ok, refl}
+use Rattle.std.proofs.Common.{[], inr, ℕ, Ok, refl}
 use Rattle.am_board.specs.History.{reply_of}
 use Rattle.am_lines.specs.declared.request.Request.TheVariants.{Begin}
 use Rattle.am_lines.specs.Reply.{reply_tokens}
@@ -17,7 +17,7 @@ returns-in-Ok-clause-told c =
 pub returns-in-Ok-clause-refused : goal.returns-in-Ok-clause-refused
 returns-in-Ok-clause-refused c =
     let b = c.in-Ok.begun in
-    untold_all _ _ _ (Begin (record { now = c.args.now })) c.keep.ensures.untold (
+    untold_all _ _ _ (Begin (record { now = c.args.now })) c.keep.ensures.untold (λ e. absurd (cc)) (
       reply_tokens c.begin.new.self.config (reply_of b),
       begins {T = ℕ} {E = ℕ} (Ok 0) _ _ c.args.now b [] (reply_tokens c.begin.new.self.config (reply_of b)) _ _ c.in-Ok.ensures.reply c.in-Ok.ensures.recorded
           (fresh_here _ _ c.args.self.now.ours c.in-Ok.ensures.fresh) c.reserve.ensures.items c.keep.ensures.board c.keep.ensures.tickets refl,
@@ -25,4 +25,4 @@ returns-in-Ok-clause-refused c =
 
 pub returns-in-Err-clause-refused : goal.returns-in-Err-clause-refused
 returns-in-Err-clause-refused c =
-    unmade_leaves _ _ _ (Begin (record { now = c.args.now })) (board_unmade _ _ _ c.of_board.ensures) (c.in-Err.ensures.refused, c.reserve.ensures.items)
+    unmade_leaves _ _ _ (Begin (record { now = c.args.now })) (board_unmade _ _ _ c.of_board.ensures) (inr (_, c.in-Err.ensures.cause, c.of_board.ensures)) (c.in-Err.ensures.refused, c.reserve.ensures.items)

@@ -1,6 +1,6 @@
-use Rattle.std.proofs.Common.{refl}
+use Rattle.std.proofs.Common.{◌∙◌, refl, sym}
 use Rattle.am_lines.specs.declared.request.Request.TheVariants.{Finish}
-use Rattle.am_dispatch.proofs.Leaving.{made_all, not_open_unmade, unmade_leaves}
+use Rattle.am_dispatch.proofs.Leaving.{lacks_ticket, made_all, not_open_leaves}
 use Rattle.am_dispatch.proofs.Making.{finishes, first_ticket, held_there, made}
 use Rattle.am_dispatch.proofs.session.Session.finish.Goals as goal
 
@@ -16,7 +16,7 @@ returns-in-Ok-clause-refused c =
     let at = first_ticket _ _ _ _ _ c.as_slice.ensures.value c.in-Some.ensures.first
     (held_there _ _ _ _ c.as_slice.ensures.value c.in-Some.ensures.within c.remove-own.ensures.value) in
     made_all _ _ _ (Finish c.args.finishing) _ _
-    (λ _ makes. record { place = _; ticket = _; at = at; makes = makes; tickets = c.remove-own.ensures.items })
+    (λ _ makes. record { place = _; ticket = _; at = at; makes = makes; tickets = c.remove-own.ensures.items }) (λ e. absurd (cc))
     c.in-Ok.ensures.reply c.in-Ok.ensures.recorded c.tell.ensures.untold
 
 pub returns-in-Err-clause-refused : goal.returns-in-Err-clause-refused
@@ -31,4 +31,6 @@ returns-in-Err-clause-refused c = record {
 }
 
 pub returns-in_default-clause-refused : goal.returns-in_default-clause-refused
-returns-in_default-clause-refused c = unmade_leaves _ _ _ (Finish c.args.finishing) (not_open_unmade _ _ c.not_open.ensures) (refl, refl)
+returns-in_default-clause-refused c =
+    not_open_leaves _ c.args.self.now _ (Finish c.args.finishing) _ c.not_open.ensures
+    (lacks_ticket c.args.self.now _ _ _ _ c.as_slice.ensures.value (sym c.in_default.is ∙ c.find_ticket.ensures.first) c.not_open.ensures) (refl, refl)

@@ -1,9 +1,9 @@
-use Rattle.std.proofs.Common.{[], ℕ, Ok, refl}
+use Rattle.std.proofs.Common.{◌∙◌, [], inl, inr, ℕ, Ok, refl, sym}
 use Rattle.am_model.specs.declared.fault.NoteFault.TheVariants.{NotReady}
 use Rattle.am_model.specs.declared.record.Reply.TheVariants.{Noted}
 use Rattle.am_lines.specs.declared.request.Request.TheVariants.{Note}
 use Rattle.am_lines.specs.Reply.{reply_tokens}
-use Rattle.am_dispatch.proofs.Leaving.{not_open_unmade, note_unmade, unmade_leaves, untold_all}
+use Rattle.am_dispatch.proofs.Leaving.{lacks_ticket, not_open_leaves, note_refused, note_unmade, unmade_leaves, untold_all}
 use Rattle.am_dispatch.proofs.Making.{first_ticket, held_there, notes}
 use Rattle.am_dispatch.proofs.session.Session.note.Goals as goal
 
@@ -17,16 +17,34 @@ pub returns-in-Ok-clause-refused : goal.returns-in-Ok-clause-refused
 returns-in-Ok-clause-refused c =
     let at = first_ticket _ _ _ _ _ c.as_slice.ensures.value c.in-Some.ensures.first
     (held_there _ _ _ _ c.as_slice.ensures.value c.in-Some.ensures.within c.index-own.ensures) in
-    untold_all _ _ _ (Note c.args.noting) c.tell.ensures.untold (
+    untold_all _ _ _ (Note c.args.noting) c.tell.ensures.untold (λ e. absurd (cc)) (
       reply_tokens c.note.new.self.config Noted,
       (notes {T = ℕ} {E = ℕ} (Ok 0) _ _ _ [] (reply_tokens c.note.new.self.config Noted) _ _ _ _ at c.in-Some-find_notice.ensures c.ticket.ensures.ticket c.in-Ok.ensures.noted refl, refl),
     )
 
 pub returns-in-Err-clause-refused : goal.returns-in-Err-clause-refused
-returns-in-Err-clause-refused c = unmade_leaves _ _ _ (Note c.args.noting) (note_unmade _ _ c.of_note-in-Err.ensures) (c.in-Err.ensures.refused, refl)
+returns-in-Err-clause-refused c =
+    let at = first_ticket _ _ _ _ _ c.as_slice.ensures.value c.in-Some.ensures.first
+    (held_there _ _ _ _ c.as_slice.ensures.value c.in-Some.ensures.within c.index-own.ensures) in
+    unmade_leaves _ c.args.self.now _ (Note c.args.noting) (note_unmade _ _ c.of_note-in-Err.ensures)
+    (inr (inr (note_refused c.args.self.now c.args.noting _ _ _ _ _ _ at c.in-Some-find_notice.ensures c.ticket.ensures.ticket c.in-Err.ensures.cause c.of_note-in-Err.ensures)))
+    (c.in-Err.ensures.refused, refl)
 
 pub returns-in_default-clause-refused : goal.returns-in_default-clause-refused
-returns-in_default-clause-refused c = unmade_leaves _ _ _ (Note c.args.noting) (not_open_unmade _ _ c.not_open.ensures) (refl, refl)
+returns-in_default-clause-refused c =
+    not_open_leaves _ c.args.self.now _ (Note c.args.noting) _ c.not_open.ensures
+    (inl (lacks_ticket c.args.self.now _ _ _ _ c.as_slice.ensures.value (sym c.in_default.is ∙ c.find_ticket.ensures.first) c.not_open.ensures)) (refl, refl)
 
 pub returns-in_default-find_notice-clause-refused : goal.returns-in_default-find_notice-clause-refused
-returns-in_default-find_notice-clause-refused c = unmade_leaves _ _ _ (Note c.args.noting) (note_unmade NotReady _ c.of_note.ensures) (refl, refl)
+returns-in_default-find_notice-clause-refused c =
+    let at = first_ticket _ _ _ _ _ c.as_slice.ensures.value c.in-Some.ensures.first
+    (held_there _ _ _ _ c.as_slice.ensures.value c.in-Some.ensures.within c.index-own.ensures) in
+    unmade_leaves _ c.args.self.now _ (Note c.args.noting) (note_unmade NotReady _ c.of_note.ensures)
+    (inr (inl record {
+      place = _;
+      ticket = _;
+      at = at;
+      none = sym (sym c.in_default-find_notice.is ∙ c.find_notice.ensures);
+      told = c.of_note.ensures;
+    }))
+    (refl, refl)

@@ -2,7 +2,7 @@ use Rattle.std.proofs.Common.{◌≡◌, [], ap, refl}
 use Rattle.am_board.specs.History.{BoardData}
 use Rattle.am_lines.specs.declared.request.Request.TheVariants.{Open}
 use Rattle.am_lines.specs.Reply.{opened_tokens}
-use Rattle.am_dispatch.proofs.Leaving.{unmade_passed, untold_all}
+use Rattle.am_dispatch.proofs.Leaving.{unopened_passed, untold_all}
 use Rattle.am_dispatch.proofs.Making.{opens}
 use Rattle.am_dispatch.proofs.session.Session.reopen.Goals as goal
 
@@ -20,8 +20,8 @@ returns-clause-refused c =
       tickets = c.replace.new.dest;
       seed = c.args.self.now.seed;
       ours = ap (λ (b : BoardData). b.id) c.in_ok-board.ensures.board;
-    }) (Open c.args.asked) c.told.ensures.err (opened_tokens c.args.asked.ignored, (c.in_ok-board.ensures.board, none, refl))
+    }) (Open c.args.asked) c.told.ensures.err (λ e. absurd (cc)) (opened_tokens c.args.asked.ignored, (c.in_ok-board.ensures.board, none, refl))
 
 pub returns-in_err-board-clause-refused : goal.returns-in_err-board-clause-refused
 returns-in_err-board-clause-refused c =
-    unmade_passed _ _ c.args.self.now c.args.self.now (Open c.args.asked) c.from_residual.ensures.1 c.in_err-board.ensures.refused (refl, refl)
+    unopened_passed _ _ c.args.self.now c.args.asked c.from_residual.ensures.1 c.in_err-board.ensures.refused

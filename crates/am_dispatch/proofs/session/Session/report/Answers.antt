@@ -1,7 +1,7 @@
-use Rattle.std.proofs.Common.{[], ℕ, Ok, codes, refl}
+use Rattle.std.proofs.Common.{◌∙◌, [], inl, inr, ℕ, Ok, codes, refl, sym}
 use Rattle.am_lines.specs.Reply.{named}
 use Rattle.am_lines.specs.declared.request.Request.TheVariants.{Report}
-use Rattle.am_dispatch.proofs.Leaving.{not_open_unmade, report_unmade, unmade_leaves, untold_all}
+use Rattle.am_dispatch.proofs.Leaving.{lacks_ticket, not_open_leaves, report_refused, report_unmade, unmade_leaves, untold_all}
 use Rattle.am_dispatch.proofs.Making.{reports, told_ok}
 use Rattle.am_dispatch.proofs.session.Session.report.Goals as goal
 
@@ -12,13 +12,18 @@ returns-in-Ok-clause-told c =
 
 pub returns-in-Ok-clause-refused : goal.returns-in-Ok-clause-refused
 returns-in-Ok-clause-refused c =
-    untold_all _ _ _ (Report c.args.reporting) c.told.ensures.err (
+    untold_all _ _ _ (Report c.args.reporting) c.told.ensures.err (λ e. absurd (cc)) (
       named (codes "reported") [],
       (reports {T = ℕ} {E = ℕ} (Ok 0) _ _ _ [] (named (codes "reported") []) _ _ c.as_slice.ensures.value c.in-Some.ensures.first c.in-Ok.ensures.ok refl, refl),
     )
 
 pub returns-in-Err-clause-refused : goal.returns-in-Err-clause-refused
-returns-in-Err-clause-refused c = unmade_leaves _ _ _ (Report c.args.reporting) (report_unmade _ _ c.of_report.ensures) (refl, c.in-Err.ensures.err)
+returns-in-Err-clause-refused c =
+    unmade_leaves _ c.args.self.now _ (Report c.args.reporting) (report_unmade _ _ c.of_report.ensures)
+    (inr (report_refused c.args.self.now c.args.reporting _ _ _ _ c.as_slice.ensures.value c.in-Some.ensures.first c.in-Err.ensures.fault c.of_report.ensures))
+    (refl, c.in-Err.ensures.err)
 
 pub returns-in_default-clause-refused : goal.returns-in_default-clause-refused
-returns-in_default-clause-refused c = unmade_leaves _ _ _ (Report c.args.reporting) (not_open_unmade _ _ c.not_open.ensures) (refl, refl)
+returns-in_default-clause-refused c =
+    not_open_leaves _ c.args.self.now _ (Report c.args.reporting) _ c.not_open.ensures
+    (inl (lacks_ticket c.args.self.now _ _ _ _ c.as_slice.ensures.value (sym c.in_default.is ∙ c.find_ticket.ensures.first) c.not_open.ensures)) (refl, refl)

@@ -9,7 +9,7 @@ returns-in-Ok-clause-told c = made _ _ _ _ _ _ _ c.in-Ok.ensures.reply c.in-Ok.e
 
 pub returns-in-Ok-clause-refused : goal.returns-in-Ok-clause-refused
 returns-in-Ok-clause-refused c =
-    made_all _ _ _ (Silence c.args.silencing) _ _ (λ _ makes. (makes, refl)) c.in-Ok.ensures.reply c.in-Ok.ensures.recorded c.tell.ensures.untold
+    made_all _ _ _ (Silence c.args.silencing) _ _ (λ _ makes. (makes, refl)) (λ e. absurd (cc)) c.in-Ok.ensures.reply c.in-Ok.ensures.recorded c.tell.ensures.untold
 
 pub returns-in-Err-clause-refused : goal.returns-in-Err-clause-refused
-returns-in-Err-clause-refused c = unmade_leaves _ _ _ (Silence c.args.silencing) (board_unmade _ _ _ c.of_board.ensures) (c.in-Err.ensures.refused, refl)
+returns-in-Err-clause-refused c = unmade_leaves _ _ _ (Silence c.args.silencing) (board_unmade _ _ _ c.of_board.ensures) (_, c.in-Err.ensures.cause, c.of_board.ensures) (c.in-Err.ensures.refused, refl)

@@ -1,4 +1,6 @@
-use Rattle.std.proofs.Common.{refl}
+use Rattle.std.proofs.Common.{inr, refl}
+use Rattle.am_board.specs.History.{take_cause}
+use Rattle.am_dispatch.proofs.Leaving.{untaken}
 use Rattle.am_dispatch.proofs.Making.{handed_follow, handed_legal}
 use Rattle.am_dispatch.proofs.session.Session.take_history.Goals as goal
 
@@ -12,3 +14,7 @@ returns-in-Ok-clause-told c = (
   },
   c.in_ok-line.ensures.line,
 )
+
+pub returns-clause-refused : goal.returns-clause-refused
+returns-clause-refused c =
+    ((c.in-Err-TooManyCalls.ensures.refused, refl), inr (untaken (take_cause c.args.self.now.board) _ c.in-Err-TooManyCalls.field-0-is c.in-Err-TooManyCalls.ensures.cause, (refl, refl)))

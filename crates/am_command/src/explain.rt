@@ -37,6 +37,15 @@ impl Wrong {
     }
 }
 
+/// What a whole file has to be.
+#[derive(Clone, Copy)]
+pub enum Whole {
+    /// Fields, as a story has.
+    Fields,
+    /// A list, as Alertmanager answers.
+    List,
+}
+
 /// The limits that are named where one is passed.
 #[derive(Clone, Copy)]
 pub struct Bounds {
@@ -68,9 +77,10 @@ pub fn explain(
     top: &Value,
     pointer: &str,
     wrong: Wrong,
+    whole: Whole,
     bounds: &Bounds,
 ) -> Result<String, AllocError> {
-    let spot = Spot::of(alloc, top, pointer)?;
+    let spot = Spot::of(alloc, top, pointer, wanted_of(whole))?;
     match wrong {
         Wrong::Missing => missing(alloc, top, &spot),
         Wrong::WrongType => wrong_type(alloc, &spot),
@@ -105,7 +115,6 @@ fn wrong_type(alloc: Global, spot: &Spot<'_>) -> Result<String, AllocError> {
     let found = kind_in_words(spot.value);
     let wanted = match spot.wanted {
         Some(wanted) => wanted,
-        None if spot.name.is_empty() => wanted_at_top(spot.value),
         None => return format!(in alloc; "another kind of value is wanted here, not {found}"),
     };
     let words = in_words(wanted, spot.item.is_some());
@@ -120,11 +129,11 @@ fn wrong_type(alloc: Global, spot: &Spot<'_>) -> Result<String, AllocError> {
     format!(in alloc; "{words} {verb} wanted here, not {found}{hint}")
 }
 
-/// Returns what is wanted of a whole file in place of this value: a list where it has fields.
-fn wanted_at_top(value: Option<&Value>) -> Wanted {
-    match value {
-        Some(Value::Object(_)) => Wanted::Objects,
-        _ => Wanted::Object,
+/// Returns what is wanted of a whole file.
+fn wanted_of(whole: Whole) -> Wanted {
+    match whole {
+        Whole::Fields => Wanted::Object,
+        Whole::List => Wanted::Objects,
     }
 }
 
@@ -482,7 +491,7 @@ fn too_large(alloc: Global, name: &str, bounds: &Bounds) -> Result<String, Alloc
             bounds.routes, bounds.levels
         ),
         "labels" | "firing" | "resolved" => format!(in alloc;
-            "this is no label set: at most {} labels, each with a name and a value of at most {} bytes",
+            "this is no label set: 1 to {} labels, each with a name and a value of at most {} bytes",
             bounds.names, bounds.label_bytes
         ),
         _ => not_allowed(alloc, name),

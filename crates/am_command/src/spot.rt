@@ -19,8 +19,13 @@ pub(crate) struct Spot<'v> {
 }
 
 impl<'v> Spot<'v> {
-    /// Returns the place that a JSON pointer has in a value.
-    pub(crate) fn of(alloc: Global, top: &'v Value, pointer: &str) -> Result<Spot<'v>, AllocError> {
+    /// Returns the place that a JSON pointer has in a value. `whole` is wanted at the top of it.
+    pub(crate) fn of(
+        alloc: Global,
+        top: &'v Value,
+        pointer: &str,
+        whole: Wanted,
+    ) -> Result<Spot<'v>, AllocError> {
         let value = top.pointer(pointer);
         let (above, last) = parted(pointer);
         if is_list(top.pointer(above)) {
@@ -29,7 +34,7 @@ impl<'v> Spot<'v> {
                 name: unescaped(alloc, name)?,
                 item: last.parse::<usize>().ok(),
                 value,
-                wanted: wanted_in(name),
+                wanted: wanted_in_list(above, name, whole),
                 is_label: false,
             });
         }
@@ -38,6 +43,7 @@ impl<'v> Spot<'v> {
         let wanted = match parent {
             "limits" => Some(Wanted::Number),
             _ if is_label => Some(Wanted::Text),
+            _ if pointer.is_empty() => Some(whole),
             _ => wanted_in(last),
         };
         Ok(Spot {
@@ -53,6 +59,14 @@ impl<'v> Spot<'v> {
     pub(crate) fn text(&self) -> Option<&'v str> {
         self.value?.as_str()
     }
+}
+
+/// Returns what the list of this name takes. A list at the top takes what is wanted there.
+fn wanted_in_list(above: &str, name: &str, whole: Wanted) -> Option<Wanted> {
+    if above.is_empty() {
+        return Some(whole);
+    }
+    wanted_in(name)
 }
 
 fn is_list(value: Option<&Value>) -> bool {

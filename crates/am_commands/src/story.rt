@@ -4,11 +4,14 @@ use am_alerts::duration::read_duration;
 use am_cli::fault::InputFault;
 use am_cli::faults::Refusal;
 use am_cli::reader::Reader;
+use am_command::explain::Whole;
 use am_command::request::StoryRequest;
+use am_console::bounds::bounds;
 use am_console::console::{Console, Document, REJECTED};
 use am_story::alertmanager::{read_alerts, read_silences};
 use am_story::incident::{Incident, SeenSilence};
 use am_story::prometheus::read_prometheus;
+use am_terms::rehearsal::MAX_UNTIL;
 use serde_json::Value;
 use std::rt::Files;
 
@@ -31,7 +34,9 @@ fn try_story<R: Files + Eprint + AllocGlobal>(
 ) -> Result<(), u8> {
     let mut incident = incident_of(rt, console, request)?;
     if incident.alerts.is_empty() {
-        let _ = eprintln!(rt; "am-rehearse: the answer has no alerts; the story is empty");
+        let _ = eprintln!(rt;
+            "am-rehearse: the answer has no alert that fired; the story is empty"
+        );
     }
     refuse_long(rt, console, &incident)?;
     if let Some(path) = request.silences {
@@ -81,11 +86,12 @@ fn refuse_long<R: Eprint + AllocGlobal>(
     console: &Console,
     incident: &Incident,
 ) -> Result<(), u8> {
-    match incident.too_early(rt.alloc()) {
+    match incident.too_early(rt.alloc(), MAX_UNTIL) {
         Ok(None) => Ok(()),
         Ok(Some(start)) => {
+            let days = bounds().days;
             let _ = eprintln!(rt;
-                "am-rehearse: an alert fires from {start} on, and a story has at most 366 days"
+                "am-rehearse: an alert fires from {start} on, and a story has at most {days} days"
             );
             Err(REJECTED)
         }
@@ -112,7 +118,8 @@ fn alertmanager<R: Files + Eprint + AllocGlobal>(
     console: &mut Console,
     path: &str,
 ) -> Result<Incident, u8> {
-    let document = console.read(rt, path)?;
+    let mut document = console.read(rt, path)?;
+    document.whole = Whole::List;
     refuse_error(rt, console, &document, "Alertmanager")?;
     let read = read_alerts(&Reader::top(rt.alloc(), &document.value));
     accepted(rt, console, &document, read)
@@ -166,7 +173,8 @@ fn silences<R: Files + Eprint + AllocGlobal>(
     console: &mut Console,
     path: &str,
 ) -> Result<Vec<SeenSilence>, u8> {
-    let document = console.read(rt, path)?;
+    let mut document = console.read(rt, path)?;
+    document.whole = Whole::List;
     let read = read_silences(&Reader::top(rt.alloc(), &document.value));
     accepted(rt, console, &document, read)
 }
@@ -190,7 +198,7 @@ fn print<R: Files + Eprint + AllocGlobal>(
     console: &mut Console,
     incident: &Incident,
 ) -> Result<(), u8> {
-    let Ok(text) = incident.story(rt.alloc()) else {
+    let Ok(text) = incident.story(rt.alloc(), MAX_UNTIL) else {
         return Err(console.complain_of_memory(rt));
     };
     match console.print(rt, text.as_str()) {

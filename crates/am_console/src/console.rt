@@ -10,7 +10,7 @@ use am_cli::fault::{FaultKind, InputFault};
 use am_cli::faults::{Fault, Faults, Refusal};
 use am_cli::transfer::write_all;
 use am_command::complaint::Complaint;
-use am_command::explain::{Wrong, explain};
+use am_command::explain::{Whole, Wrong, explain};
 use am_command::request::{FaultFormat, STANDARD_INPUT};
 use am_yaml::document::{DocumentFault, read_document};
 use am_yaml::fault::YamlFault;
@@ -54,6 +54,8 @@ pub struct Document<'p> {
     pub path: &'p str,
     pub text: Vec<u8>,
     pub value: Value,
+    /// What the whole file has to be, for complaints.
+    pub whole: Whole,
 }
 
 /// Returns the name of a file as people see it.
@@ -86,7 +88,12 @@ impl Console {
             Err(fault) => return Err(self.complain_of_file(rt, path, fault)),
         };
         match read_document(rt.alloc(), text.as_slice()) {
-            Ok(value) => Ok(Document { path, text, value }),
+            Ok(value) => Ok(Document {
+                path,
+                text,
+                value,
+                whole: Whole::Fields,
+            }),
             Err(fault) => Err(self.complain_of_text(rt, path, fault)),
         }
     }
@@ -219,7 +226,7 @@ impl Console {
         fault_kind: FaultKind,
         place: Option<Place>,
     ) -> Result<(), AllocError> {
-        let message = words_for(rt.alloc(), &document.value, pointer, fault_kind)?;
+        let message = words_for(rt.alloc(), document, pointer, fault_kind)?;
         let kind = wrong_of(fault_kind).name();
         self.complain(
             rt,
@@ -260,10 +267,11 @@ impl Console {
 /// Returns what is wrong with the value at a JSON pointer, in words.
 fn words_for(
     alloc: Global,
-    top: &Value,
+    document: &Document<'_>,
     pointer: &str,
     fault_kind: FaultKind,
 ) -> Result<String, AllocError> {
+    let top = &document.value;
     if let Some(words) = explain_times(alloc, top, pointer, fault_kind)? {
         return Ok(words);
     }
@@ -276,7 +284,8 @@ fn words_for(
     if let Some(words) = explain_matcher(alloc, top, pointer, fault_kind)? {
         return Ok(words);
     }
-    explain(alloc, top, pointer, wrong_of(fault_kind), &bounds())
+    let wrong = wrong_of(fault_kind);
+    explain(alloc, top, pointer, wrong, document.whole, &bounds())
 }
 
 /// A fault, and where its value stands in the text, if that is known.

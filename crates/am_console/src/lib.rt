@@ -4,7 +4,7 @@
 //! It returns the status with which the program ends.
 #![tactic(auto)]
 
-mod bounds;
+pub mod bounds;
 pub mod console;
 pub mod files;
 mod handover_words;

@@ -8,12 +8,14 @@ use am_alerts::sequence::Sequence;
 use am_alerts::text::Text;
 use am_cli::fault::InputFault;
 use am_cli::faults::{Faults, Refusal};
+use am_command::explain::Whole;
 use am_command::request::{PlayRequest, STANDARD_INPUT, Selection};
 use am_commands::faults::faults_of;
 use am_commands::given::given_to;
 use am_commands::ignored::say_ignored;
 use am_commands::once::accept_inputs;
 use am_commands::system_zones::SystemZones;
+use am_console::bounds::bounds;
 use am_console::console::{Console, Document, REJECTED, UNWRITABLE};
 use am_console::files::{FileFault, open};
 use am_console::matcher_words::{matcher_of, words_for};
@@ -304,8 +306,9 @@ pub(crate) fn until_of<R: Eprint>(rt: &R, until: Option<&str>) -> Result<Option<
     match read_duration(text) {
         Ok(until) if until <= MAX_UNTIL => Ok(Some(until)),
         _ => {
+            let days = bounds().days;
             let _ = eprintln!(rt;
-                "am-rehearse: --until: `{text}` is no duration up to 366d; write 5h or 2h30m"
+                "am-rehearse: --until: `{text}` is no duration up to {days}d; write 5h or 2h30m"
             );
             Err(REJECTED)
         }
@@ -350,7 +353,12 @@ fn complain_of_refusal<R: Files + Eprint + AllocGlobal>(
     let Ok(value) = read_document(rt.alloc(), text.as_slice()) else {
         return console.complain_of_memory(rt);
     };
-    let document = Document { path, text, value };
+    let document = Document {
+        path,
+        text,
+        value,
+        whole: Whole::Fields,
+    };
     complain_of_story(rt, console, config, overrides, &document, refusal)
 }
 
@@ -360,18 +368,26 @@ fn print_fault<R: Eprint>(rt: &R, fault: &RehearseFault) -> u8 {
     fault.status()
 }
 
-/// Says of each expectation that isn't met where it stands, and what else a run came to. Returns the status.
+/// Says of each expectation that isn't met where it stands, and what else a run came to. Then it
+/// writes the report on the expectations. Returns the status.
 fn complain_of_unmet<R: Files + Eprint + AllocGlobal>(
     rt: &R,
     console: &Console,
     request: &PlayRequest<'_>,
     report: Report,
 ) -> u8 {
-    if let Err(status) = say_judgement(rt, request, &report.judgement) {
-        return status;
+    let Report {
+        text,
+        ignored: _,
+        judgement,
+    } = report;
+    say_found(rt, &judgement);
+    point_at_unmet(rt, console, request.story, text, judgement.unmet.as_slice());
+    let status = print_fault(rt, &RehearseFault::Unmet);
+    match write_junit(rt, request.junit, &judgement.junit) {
+        Ok(()) => status,
+        Err(unwritable) => unwritable,
     }
-    point_at_unmet(rt, console, request.story, report);
-    print_fault(rt, &RehearseFault::Unmet)
 }
 
 /// Says of each expectation that isn't met where it stands.
@@ -379,18 +395,19 @@ fn point_at_unmet<R: Files + Eprint + AllocGlobal>(
     rt: &R,
     console: &Console,
     path: &str,
-    report: Report,
+    text: Vec<u8>,
+    unmet: &[usize],
 ) {
-    let Report {
-        text,
-        ignored: _,
-        judgement,
-    } = report;
     let Ok(value) = read_document(rt.alloc(), text.as_slice()) else {
         return;
     };
-    let document = Document { path, text, value };
-    for number in &judgement.unmet {
+    let document = Document {
+        path,
+        text,
+        value,
+        whole: Whole::Fields,
+    };
+    for number in unmet {
         if let Ok(pointer) = format!(in rt.alloc(); "/expect/{number}") {
             let words = "this expectation isn't met";
             let _ = console.complain_in_words(rt, &document, pointer.as_str(), words);

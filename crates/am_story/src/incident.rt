@@ -11,9 +11,6 @@ until: 0s
 alerts: []
 ";
 
-/// How long a story lasts at most: 366 days, in milliseconds.
-const LONGEST: u64 = 31_622_400_000;
-
 /// What happened, in milliseconds since 1970.
 #[derive(Drop)]
 pub struct Incident {
@@ -57,10 +54,10 @@ impl Incident {
         start
     }
 
-    /// Returns when the first alert fired, if that is too long before the end for a story.
-    pub fn too_early(&self, alloc: Global) -> Result<Option<String>, AllocError> {
+    /// Returns when the first alert fired, if that is longer before the end than a story lasts at most, in milliseconds.
+    pub fn too_early(&self, alloc: Global, longest: u64) -> Result<Option<String>, AllocError> {
         let start = self.start();
-        if self.end.saturating_sub(start) <= LONGEST {
+        if self.end.saturating_sub(start) <= longest {
             return Ok(None);
         }
         let mut time = String::new(alloc);
@@ -69,14 +66,14 @@ impl Incident {
     }
 
     /// Returns the story, in YAML, without a configuration. It starts when the first alert fired; where none fired, it is
-    /// empty, and a comment says so.
-    pub fn story(&self, alloc: Global) -> Result<String, AllocError> {
+    /// empty, and a comment says so. A silence that ends later than a story can, in milliseconds from its start, ends then.
+    pub fn story(&self, alloc: Global, longest: u64) -> Result<String, AllocError> {
         let mut out = String::new(alloc);
-        self.push_story(&mut out)?;
+        self.push_story(longest, &mut out)?;
         Ok(out)
     }
 
-    fn push_story(&self, out: &mut String) -> Result<(), AllocError> {
+    fn push_story(&self, longest: u64, out: &mut String) -> Result<(), AllocError> {
         if self.alerts.is_empty() {
             return out.push_str(EMPTY);
         }
@@ -89,7 +86,12 @@ impl Incident {
         for alert in &self.alerts {
             push_alert(alert, start, out)?;
         }
-        push_silences(self.silences.as_slice(), start, out)
+        push_silences(
+            self.silences.as_slice(),
+            start,
+            start.saturating_add(longest),
+            out,
+        )
     }
 }
 
@@ -125,26 +127,37 @@ fn push_span(span: SeenSpan, start: u64, out: &mut String) -> Result<(), AllocEr
     out.push_str("}\n")
 }
 
-/// Adds the silences that last beyond the start, if there are any.
-fn push_silences(silences: &[SeenSilence], start: u64, out: &mut String) -> Result<(), AllocError> {
+/// Adds the silences that last beyond the start, if there are any. Each ends at the last time at the latest.
+fn push_silences(
+    silences: &[SeenSilence],
+    start: u64,
+    last: u64,
+    out: &mut String,
+) -> Result<(), AllocError> {
     let mut head = "silences:\n";
     for silence in silences {
-        if silence.to > silence.from.max(start) {
+        let to = silence.to.min(last);
+        if to > silence.from.max(start) {
             out.push_str(head)?;
-            push_silence(silence, start, out)?;
+            push_silence(silence, start, to, out)?;
             head = "";
         }
     }
     Ok(())
 }
 
-fn push_silence(silence: &SeenSilence, start: u64, out: &mut String) -> Result<(), AllocError> {
+fn push_silence(
+    silence: &SeenSilence,
+    start: u64,
+    to: u64,
+    out: &mut String,
+) -> Result<(), AllocError> {
     out.push_str("- matchers: [")?;
     push_matchers(silence.matchers.as_slice(), out)?;
     out.push_str("]\n  from: ")?;
     push_duration(silence.from.saturating_sub(start), out)?;
     out.push_str("\n  to: ")?;
-    push_duration(silence.to.saturating_sub(start), out)?;
+    push_duration(to.saturating_sub(start), out)?;
     out.push('\n')
 }
 

@@ -3,7 +3,7 @@ use am_cli::fault::InputFault;
 use am_cli::reader::{Object, is_one_of};
 use serde_json::Value;
 
-/// Reads the members of an object as labels, without those of these names.
+/// Reads the members of an object as labels, without those of these names. A label with an empty value is none.
 pub(crate) fn read_labels(
     object: &Object<'_, '_>,
     left_out: &[&str],
@@ -24,6 +24,9 @@ fn push_label<'v>(
     labels: &mut Vec<(String, String)>,
 ) -> Result<(), InputFault> {
     let text = object.member(name, value).text()?;
+    if text.is_empty() {
+        return Ok(());
+    }
     let name = String::from_str(object.alloc(), name)?;
     labels.push((name, String::from_str(object.alloc(), text)?))?;
     Ok(())

@@ -88,7 +88,8 @@ fn integrations(alloc: Global) -> Result<Sequence<Integration>, Trouble> {
     Ok(Sequence::from(integrations))
 }
 
-fn route(alloc: Global, name: &str, group_wait: u64) -> Result<Route, Trouble> {
+/// A route to the receiver, which groups by alertname and cluster.
+pub fn route(alloc: Global, name: &str, group_wait: u64) -> Result<Route, Trouble> {
     let texts = both(text(alloc, name), text(alloc, "team"));
     let grouping = names(alloc, &["alertname", "cluster"]);
     let ((name, receiver), grouping) = both(texts, grouping)?;
@@ -103,7 +104,7 @@ fn route(alloc: Global, name: &str, group_wait: u64) -> Result<Route, Trouble> {
 }
 
 /// The route of critical alerts, in a list.
-fn critical(alloc: Global) -> Result<Vec<Child>, Trouble> {
+pub fn critical(alloc: Global) -> Result<Vec<Child>, Trouble> {
     let child = child(alloc, "critical", LONG, CRITICAL, false)?;
     Ok(listed(alloc, child)?)
 }
@@ -166,7 +167,7 @@ fn pattern_rules(alloc: Global, count: usize) -> Result<Vec<InhibitRule>, Troubl
 
 /// The rule by which alerts that match one list inhibit those of their cluster and instance that match
 /// the other.
-fn rule_of(
+pub fn rule_of(
     alloc: Global,
     matchers: Result<(Vec<Matcher>, Vec<Matcher>), Trouble>,
 ) -> Result<InhibitRule, Trouble> {

@@ -1,5 +1,5 @@
 //! Makes calls that promise to take no memory, and prints each with its answer: those that work on
-//! texts, lists, logs, boards, desks and tickets, and those that are handed an allocator. A call that only
+//! logs, boards, desks and tickets, and those that are handed an allocator. A call that only
 //! hands out a number or a reference has nothing to ask with, and is left out. The name is written before the
 //! call, and the answer after it, so that requests for memory which come between the two writes are the
 //! call's. A few calls that take memory stand among them, as `with memory`: they show that requests are seen.
@@ -9,7 +9,6 @@ mod alerts;
 mod board;
 pub mod delivery;
 mod desk;
-mod labels;
 mod log;
 pub mod probe;
 mod routes;
@@ -18,16 +17,17 @@ mod ticket;
 pub mod values;
 
 use crate::requests::probe::Probe;
-use std::alloc::{AllocError, Global};
+use crate::words::Trouble;
+use std::alloc::Global;
 use std::sync::Wait;
 
 /// Makes the calls, lowest crates first.
-pub fn make_calls<R: Wait>(probe: &Probe, rt: &R, alloc: Global) -> Result<(), AllocError> {
-    labels::make_calls(probe, alloc)?;
+pub fn make_calls<R: Wait>(probe: &Probe, rt: &R, alloc: Global) -> Result<(), Trouble> {
     alerts::make_calls(probe, alloc)?;
     routes::make_calls(probe, alloc)?;
     silences::make_calls(probe, alloc)?;
     log::make_calls(probe, alloc)?;
     board::make_calls(probe, alloc)?;
-    desk::make_calls(probe, rt, alloc)
+    desk::make_calls(probe, rt, alloc)?;
+    Ok(())
 }

@@ -170,7 +170,8 @@ abbrev pub IsFirst : List Group → Option ℕ → Option GroupState → Type 0
 IsFirst groups None first = first ≡ None
 IsFirst groups (Some i) first = (d : Group) → first ≡ Some (group_state (slice_index_or groups i d))
 
--- of the groups that may be taken and have their key among these, the one at this place is the first; with no place, there is no such group
+-- of the groups that may be taken and have their key among these, the one at this place is the first;
+-- with no place, there is no such group
 abbrev pub IsFirstOfKeys : List FlushState → ℕ → List Group → List DueKey → Option ℕ → Type 0
 IsFirstOfKeys flushes t groups keys None =
     All (λ g. may_take flushes t (group_state g) ≡ true → has_key keys (key_of g) ≡ false) groups

@@ -25,7 +25,7 @@ use std::alloc::{AllocError, Global};
 const MAX_WAITING: usize = 32;
 
 /// Where an alert stands in a group.
-#[derive(Clone, Copy, Debug)]
+#[derive(Clone, Copy)]
 pub(crate) struct Spot {
     /// The place of the group.
     pub(crate) group: usize,

@@ -29,7 +29,7 @@ use std::marker::Model;
 ///
 /// They follow from the label set and the configuration, so they are computed once. This only saves
 /// time: names that aren't cached are computed again.
-#[derive(Debug, Drop)]
+#[derive(Drop)]
 pub(crate) struct GroupNameCache {
     /// By the place of the alert among the known ones.
     names: Vec<Option<Sequence<GroupName>>>,

@@ -29,7 +29,7 @@ use std::collections::BTreeSet;
 
 /// The due time of the group of a name. Keys are ordered in reverse: the latest time comes first,
 /// and of one time the greatest name.
-#[derive(Debug, Drop, PartialEq, Eq)]
+#[derive(Drop, PartialEq, Eq)]
 pub(crate) struct DueKey {
     pub(crate) due: u64,
     pub(crate) name: GroupName,
@@ -66,7 +66,7 @@ impl Ord for DueKey {
 ///
 /// The set only saves time: no call fails because a key lacks memory. The set is incomplete then,
 /// and isn't used until it is rebuilt.
-#[derive(Debug, Drop)]
+#[derive(Drop)]
 pub(crate) struct DueSet {
     alloc: Global,
     /// Keys that each came behind the last one here.

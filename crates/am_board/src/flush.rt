@@ -15,14 +15,14 @@ use std::alloc::AllocError;
 /// The label sets of a flush: the firing and the resolved ones.
 ///
 /// A begin makes them once. The flush, its notified integrations and their log rows share them.
-#[derive(Debug, Drop)]
+#[derive(Drop)]
 pub(crate) struct AlertSets {
     pub(crate) firing: Members<Labels>,
     pub(crate) resolved: Members<Labels>,
 }
 
 /// An integration that a flush notifies, with what its log row will have, until it is noted.
-#[derive(Debug, Drop)]
+#[derive(Drop)]
 pub(crate) struct Asked {
     pub(crate) key: LogKey<GroupName>,
     pub(crate) nothing: bool,
@@ -30,14 +30,14 @@ pub(crate) struct Asked {
 }
 
 /// An alert that was resolved when the flush began, as it stood in the group.
-#[derive(Debug, Drop)]
+#[derive(Drop)]
 pub(crate) struct LeavingAlert {
     pub(crate) labels: Labels,
     pub(crate) stamp: u64,
 }
 
 /// A flush that was begun and isn't finished.
-#[derive(Debug, Drop)]
+#[derive(Drop)]
 pub(crate) struct OpenFlush {
     pub(crate) number: u64,
     pub(crate) group: GroupName,

@@ -17,7 +17,7 @@ pub use am_model::group::GroupName;
 use std::alloc::{AllocError, Global};
 
 /// An alert of a group, with the stamp of the insert that put it there.
-#[derive(Debug, Drop)]
+#[derive(Drop)]
 pub(crate) struct Member {
     pub(crate) alert: Alert,
     pub(crate) stamp: u64,
@@ -26,7 +26,7 @@ pub(crate) struct Member {
 }
 
 /// The alerts of one route that share their group labels.
-#[derive(Debug, Drop)]
+#[derive(Drop)]
 pub(crate) struct Group {
     pub(crate) name: GroupName,
     /// When it is flushed next, in milliseconds.

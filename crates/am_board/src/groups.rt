@@ -18,7 +18,7 @@ use std::alloc::{AllocError, Global};
 use std::marker::Model;
 
 /// Groups of different names, in the order in which they were made, and their due times.
-#[derive(Debug, Drop)]
+#[derive(Drop)]
 pub(crate) struct Groups {
     groups: IndexMap<GroupName, Group, Seed>,
     due: DueSet,

@@ -52,7 +52,7 @@ use am_seed::Seed;
 use std::alloc::{AllocError, Global};
 
 /// A group that an alert goes to by one of its routes.
-#[derive(Debug, Drop)]
+#[derive(Drop)]
 pub(crate) struct Target {
     pub(crate) name: GroupName,
     /// The place of the group, where it is there.
@@ -60,7 +60,7 @@ pub(crate) struct Target {
 }
 
 /// What an insert puts into one group.
-#[derive(Debug, Drop)]
+#[derive(Drop)]
 pub(crate) struct Placement {
     pub(crate) name: GroupName,
     /// The place of the group, where it is there.
@@ -77,7 +77,7 @@ pub(crate) struct Placement {
 }
 
 /// What an insert finds before it changes anything.
-#[derive(Debug, Drop)]
+#[derive(Drop)]
 pub(crate) struct Found {
     /// The place of the known alert with its labels, if there is one.
     pub(crate) place: Option<usize>,

@@ -16,7 +16,7 @@ use std::alloc::{AllocError, Global};
 use std::marker::Model;
 
 /// The known alerts, each label set once, in the order of arrival.
-#[derive(Debug, Drop)]
+#[derive(Drop)]
 pub(crate) struct Known {
     alerts: IndexMap<Labels, Alert, Seed>,
 }

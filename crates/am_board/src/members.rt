@@ -32,7 +32,7 @@ use std::alloc::{AllocError, Global};
 use std::marker::Model;
 
 /// The alerts of a group, each label set once, in the order of arrival.
-#[derive(Debug, Drop)]
+#[derive(Drop)]
 pub(crate) struct Members {
     members: IndexMap<Labels, Member, Seed>,
     /// Their places in the order of their labels, without those that came since. Empty after a

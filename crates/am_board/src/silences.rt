@@ -17,7 +17,7 @@ use std::alloc::{AllocError, Global};
 use std::marker::Model;
 
 /// Silences, and label sets that none of them mutes.
-#[derive(Debug, Drop)]
+#[derive(Drop)]
 pub(crate) struct NotedSilences {
     silences: Silences,
     noted: Unsilenced,

@@ -15,7 +15,7 @@ use am_seed::Seed;
 use std::alloc::{AllocError, Global};
 
 /// The stored state. `state_of` (specs/Refinement.antt) reads it as a state of `am_model`.
-#[derive(Debug, Drop)]
+#[derive(Drop)]
 pub(crate) struct State {
     /// The greatest time of any call so far, in milliseconds.
     pub(crate) clock: u64,

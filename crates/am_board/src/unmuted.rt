@@ -24,7 +24,7 @@ use std::alloc::{AllocError, Global};
 
 /// The alerts of a group that aren't muted, by labels, as they stand in it: those that fire, and
 /// those that are resolved.
-#[derive(Debug, Drop)]
+#[derive(Drop)]
 pub(crate) struct UnmutedMembers<'m> {
     pub(crate) firing: Vec<&'m Member>,
     pub(crate) resolved: Vec<&'m Member>,
@@ -71,7 +71,7 @@ impl Lends<Labels> for &Member {
 
 /// Copies of the alerts of a group that aren't muted, by labels: those that fire, without an end,
 /// and those that are resolved.
-#[derive(Debug, Drop)]
+#[derive(Drop)]
 pub(crate) struct Unmuted {
     pub(crate) firing: Sequence<Alert>,
     pub(crate) resolved: Sequence<Alert>,

@@ -19,7 +19,7 @@ use am_mute::silence::Silence;
 use std::alloc::{AllocError, Global};
 
 /// A place in a list of this number. The default is a place in no list.
-#[derive(Clone, Copy, Debug, Default)]
+#[derive(Clone, Copy, Default)]
 pub(crate) struct NotedPlace {
     number: u64,
     place: usize,
@@ -38,7 +38,7 @@ impl NotedPlace {
 /// Label sets that no silence mutes from `since` on and before `until`, in milliseconds.
 ///
 /// This only saves time.
-#[derive(Debug, Drop)]
+#[derive(Drop)]
 pub(crate) struct Unsilenced {
     sets: Vec<Labels>,
     since: u64,

@@ -35,7 +35,7 @@ use am_mute::sources::Sources;
 use std::alloc::{AllocError, Global};
 
 /// A muted alert of a group: its place among the alerts, and what mutes it.
-#[derive(Debug, Drop)]
+#[derive(Drop)]
 pub(crate) struct MutedPlace {
     pub(crate) place: usize,
     pub(crate) cause: MuteCause,
@@ -43,7 +43,7 @@ pub(crate) struct MutedPlace {
 
 /// What a walk finds: the alerts that aren't muted, and those that are, if their causes are wanted; by
 /// labels.
-#[derive(Debug, Drop)]
+#[derive(Drop)]
 pub(crate) struct Walk<'m> {
     pub(crate) firing: Vec<&'m Member>,
     pub(crate) resolved: Vec<&'m Member>,

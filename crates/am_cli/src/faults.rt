@@ -36,7 +36,7 @@ impl Model for Faults {
 }
 
 /// Why nothing is read of an input.
-#[derive(Debug, Drop)]
+#[derive(Drop)]
 pub enum Refusal {
     /// For one fault, with which the reading ended.
     One(InputFault),

@@ -31,7 +31,7 @@ use std::alloc::Global;
 use std::marker::Model;
 
 /// How much a reader takes, and where it refuses.
-#[derive(Clone, Copy, Debug, PartialEq, Eq)]
+#[derive(Clone, Copy, PartialEq, Eq)]
 pub enum Dialect {
     /// Members of unknown names are passed over. What is made of several values is refused at the value
     /// that holds them.

@@ -1,5 +1,5 @@
-//! Tests of what only code can make: devices and couriers that fail, threads that share a desk or
-//! jobs, calls that are refused for room, and values that no program prints.
+//! Tests of what only code can make: couriers that fail, threads that share a desk or jobs, and values that no
+//! program prints.
 #![tactic(auto)]
 
 #[cfg(test)]

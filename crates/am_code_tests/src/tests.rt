@@ -1,10 +1,7 @@
 //! Values that several tests take.
 mod counts;
-mod devices;
 mod durations;
-mod refusals;
 mod starving;
-mod texts;
 mod workers;
 
 use am_alerts::alert::Alert;
@@ -16,10 +13,6 @@ use am_board::notice::Notice;
 use am_cli::config::read_config;
 use am_cli::reader::{Reader, parse};
 use std::alloc::{AllocError, Global};
-
-/// The scenario of the first notice.
-const FIRST: &str =
-    r#"{"config":{"receivers":[{"name":"team","integrations":[{"kind":"hook"}]}],"route":{"receiver":"team","group_by":["alertname"]}},"phases":[{"at":0,"lanes":[[{"insert":{"labels":[["alertname","A"]],"starts":0}}]]},{"at":30000,"flush":true}]}"#;
 
 /// The configuration that a text of JSON decodes to. Any fault counts as a lack of memory.
 fn config(alloc: Global, text: &str) -> Result<Config, AllocError> {

@@ -4,7 +4,7 @@ use std::fmt;
 
 /// What Alertmanager's configuration says beside what is read of it. Nothing of it changes which notice
 /// is sent when, and to whom.
-#[derive(Clone, Copy, Debug, PartialEq, Eq)]
+#[derive(Clone, Copy, PartialEq, Eq)]
 pub struct IgnoredSettings {
     /// What holds for all integrations.
     pub global: bool,

@@ -28,7 +28,7 @@ pub struct PaintedOutput {
 }
 
 /// Why a file isn't read.
-#[derive(Clone, Copy, Debug, PartialEq, Eq)]
+#[derive(Clone, Copy, PartialEq, Eq)]
 pub enum FileFault {
     Missing,
     Denied,

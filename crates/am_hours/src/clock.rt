@@ -57,7 +57,7 @@ impl From<AllocFailed<Piece>> for ClockFault {
 }
 
 /// A local clock: what it shows at each moment from 0 to a horizon, in milliseconds from a start.
-#[derive(Debug, Drop)]
+#[derive(Drop)]
 pub struct Clock {
     pieces: Vec<Piece>,
     horizon: u64,

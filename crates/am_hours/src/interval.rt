@@ -6,21 +6,21 @@ ghost use Rattle.am_hours.specs.Intervals.{any_of, contains, is_between, is_duri
 use std::marker::Model;
 
 /// A range of minutes of the day, which leaves out its end: `08:30` to `24:00` is 510 to 1440.
-#[derive(Clone, Copy, Debug)]
+#[derive(Clone, Copy)]
 pub struct TimeRange {
     pub from: u64,
     pub to: u64,
 }
 
 /// A range of numbers, which counts both its ends: months, weekdays (Sunday is 0) or years.
-#[derive(Clone, Copy, Debug)]
+#[derive(Clone, Copy)]
 pub struct InclusiveRange {
     pub first: u64,
     pub last: u64,
 }
 
 /// A day of the month.
-#[derive(Clone, Copy, Debug)]
+#[derive(Clone, Copy)]
 pub enum DayPlace {
     /// This day, from 1.
     FromStart(u64),
@@ -29,14 +29,14 @@ pub enum DayPlace {
 }
 
 /// A range of days of the month, which counts both its ends.
-#[derive(Clone, Copy, Debug)]
+#[derive(Clone, Copy)]
 pub struct DayRange {
     pub first: DayPlace,
     pub last: DayPlace,
 }
 
 /// What a local clock shows.
-#[derive(Clone, Copy, Debug)]
+#[derive(Clone, Copy)]
 pub struct Shown {
     /// The minute of the day, from 0 to 1439.
     pub minute: u64,
@@ -54,7 +54,7 @@ pub struct Shown {
 
 /// An interval: where a list is there, one of its elements has to hold. So an empty list never
 /// holds, and no list always does.
-#[derive(Debug, Drop)]
+#[derive(Drop)]
 pub struct Interval {
     times: Option<Vec<TimeRange>>,
     days_of_month: Option<Vec<DayRange>>,

@@ -16,7 +16,7 @@ use jiff::tz::{Offset, TimeZone};
 const DAY_SECONDS: u64 = 86_400;
 
 /// A date and a time of day.
-#[derive(Clone, Copy, Debug)]
+#[derive(Clone, Copy)]
 pub(crate) struct LocalTime {
     pub(crate) year: u64,
     pub(crate) month: u64,

@@ -19,7 +19,7 @@ use am_alerts::spans::{Span, Spans};
 use std::alloc::Global;
 
 /// An interval on the clock of its zone.
-#[derive(Clone, Copy, Debug)]
+#[derive(Clone, Copy)]
 pub struct Timed<'a> {
     pub interval: &'a Interval,
     pub clock: &'a Clock,

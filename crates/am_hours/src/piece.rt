@@ -14,7 +14,7 @@ const MINUTE: u64 = 60_000;
 
 /// A stretch of time, in milliseconds from a start, in which a local clock runs at one offset from
 /// UTC and shows one month. It counts `from` and leaves out `to`.
-#[derive(Clone, Copy, Debug)]
+#[derive(Clone, Copy)]
 pub struct Piece {
     pub from: u64,
     pub to: u64,

@@ -8,7 +8,7 @@ ghost use Rattle.am_input.specs.Configured.{form_in};
 use serde_json::Value;
 
 /// What a file is.
-#[derive(Clone, Copy, Debug, PartialEq, Eq)]
+#[derive(Clone, Copy, PartialEq, Eq)]
 pub enum Form {
     /// A story, with its configuration in it.
     Story,

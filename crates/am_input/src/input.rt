@@ -98,7 +98,7 @@ struct Asked {
 }
 
 /// What is printed.
-#[derive(Clone, Copy, Debug, PartialEq, Eq)]
+#[derive(Clone, Copy, PartialEq, Eq)]
 pub enum Output {
     /// A line for each event, but one for a run of like flushes, a table and the expectations.
     Timeline,
@@ -115,7 +115,7 @@ pub enum Output {
 }
 
 /// What the command line says in place of a story's own output and end.
-#[derive(Clone, Copy, Debug, PartialEq, Eq)]
+#[derive(Clone, Copy, PartialEq, Eq)]
 pub struct Overrides {
     pub output: Option<Output>,
     pub until: Option<u64>,

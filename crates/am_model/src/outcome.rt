@@ -1,4 +1,4 @@
-//! The outcomes of a flush's notices, by its finish in the later records. `am_board`, `am_report`
+//! The outcomes of a flush's notices, by its finish in the later records. `am_board`, `am_run`
 //! and `am_timeline` call it.
 ghost use Rattle.std.specs.Prelude.{◌≡◌};
 ghost use Rattle.std.specs.Option.{option_copied};

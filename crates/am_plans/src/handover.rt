@@ -41,7 +41,7 @@ pub struct Reload<'v> {
 }
 
 /// Which of the two lists an item is in.
-#[derive(Clone, Copy, Debug)]
+#[derive(Clone, Copy)]
 enum Kind {
     Reload,
     Restart,

@@ -6,7 +6,7 @@ use am_cli::place::JsonPointer;
 use std::alloc::Global;
 
 /// Where a plan stands in the input: the number of its item, and of its span, if the item lists them.
-#[derive(Clone, Copy, Debug, PartialEq, Eq)]
+#[derive(Clone, Copy, PartialEq, Eq)]
 pub enum Origin {
     Alert { item: usize, span: Option<usize> },
     Silence { item: usize },

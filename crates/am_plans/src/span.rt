@@ -9,7 +9,7 @@ use am_cli::fault::{FaultKind, InputFault};
 use am_cli::reader::{FromJson, Object, Reader};
 
 /// From a moment on, and before another, if there is another (milliseconds from the start).
-#[derive(Clone, Copy, Debug)]
+#[derive(Clone, Copy)]
 pub struct Span {
     pub from: u64,
     pub to: Option<u64>,

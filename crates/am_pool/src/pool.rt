@@ -1,5 +1,5 @@
 //! The pool: `run_jobs` lets workers share the jobs, each with a courier and in a thread of its
-//! own. Embedders and `am_play` call it.
+//! own. Embedders and `am_run` call it.
 //!
 //! All memory comes first: the list of reports, the queue, and a worker for each courier. A worker
 //! has capacity for the report of every job, since it can run them all. `fill` puts the numbers of

@@ -26,7 +26,7 @@ pub(crate) enum Step {
 }
 
 /// The end of the sending of a notice.
-#[derive(Clone, Copy, Debug)]
+#[derive(Clone, Copy)]
 pub(crate) struct End {
     /// Its time, in milliseconds.
     pub(crate) at: u64,

@@ -79,7 +79,7 @@ impl Played {
 }
 
 /// Why a rehearsal doesn't run to its end.
-#[derive(Clone, Copy, Debug, PartialEq, Eq)]
+#[derive(Clone, Copy, PartialEq, Eq)]
 pub enum PlayFault {
     /// Memory was refused.
     NoMemory,

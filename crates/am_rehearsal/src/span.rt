@@ -3,7 +3,7 @@ ghost use Rattle.std.specs.Prelude.{◌≡◌};
 ghost use Rattle.am_rehearsal.specs.Play.{whole};
 
 /// Since when a dispatcher runs, and when it is stopped.
-#[derive(Clone, Copy, Debug)]
+#[derive(Clone, Copy)]
 pub struct Span {
     /// When it starts, in milliseconds from the start of the rehearsal.
     pub since: u64,

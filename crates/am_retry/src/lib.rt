@@ -12,6 +12,3 @@ mod retry;
 pub use law::{limits_are, machine_gives_retry_outcome};
 pub use outcome::{Answer, Outcome};
 pub use retry::{Retry, Step};
-
-#[cfg(test)]
-mod tests;

@@ -54,7 +54,7 @@ impl Incident {
         start
     }
 
-    /// Returns when the first alert fired, if that is longer before the end than a story lasts at most, in milliseconds.
+    /// Returns when the first alert fired, if a story from then on would last longer than `longest` milliseconds.
     pub fn too_early(&self, alloc: Global, longest: u64) -> Result<Option<String>, AllocError> {
         let start = self.start();
         if self.end.saturating_sub(start) <= longest {

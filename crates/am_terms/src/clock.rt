@@ -22,7 +22,7 @@ pub trait TimeFormat {
 }
 
 /// The format of times since the start: `00:05:30` or `00:05:30.001`, with as many hours as needed.
-#[derive(Clone, Copy, Debug, Drop)]
+#[derive(Clone, Copy, Drop)]
 pub struct Elapsed;
 
 impl TimeFormat for Elapsed {

@@ -17,7 +17,7 @@ const DAY: u64 = 86_400_000;
 const LAST_YEAR: u64 = 9_999;
 
 /// The format of dates in UTC: `2026-11-23T00:00:30Z` or `2026-11-23T00:00:30.345Z` (RFC 3339).
-#[derive(Debug, Drop)]
+#[derive(Drop)]
 pub struct UtcDates {
     day: Day,
     /// The milliseconds of that day before the start.
@@ -36,7 +36,7 @@ impl Model for UtcDates {
 }
 
 /// A day of the Gregorian calendar.
-#[derive(Debug, Drop)]
+#[derive(Drop)]
 struct Day {
     year: u64,
     month: u64,

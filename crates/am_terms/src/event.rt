@@ -9,7 +9,7 @@ use am_model::notice::Report;
 use std::alloc::{AllocError, Global};
 
 /// A begin that took a group, with its preview.
-#[derive(Debug, Drop)]
+#[derive(Drop)]
 pub struct PreviewedBegin {
     /// The position of the begin's record in the history.
     pub place: usize,
@@ -18,7 +18,7 @@ pub struct PreviewedBegin {
 }
 
 /// One event of a rehearsal.
-#[derive(Debug, Drop)]
+#[derive(Drop)]
 pub enum Event {
     /// The begin at this position among the previewed begins took a group.
     Begun { begin: u32 },

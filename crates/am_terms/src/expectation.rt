@@ -10,7 +10,7 @@ use am_alerts::text::Text;
 /// An expectation about the delivered notices of a span.
 ///
 /// The time of a notice is the end of its sending.
-#[derive(Debug, Drop)]
+#[derive(Drop)]
 pub struct Expectation {
     /// What it is called in answers.
     pub name: Option<Text>,
@@ -31,7 +31,7 @@ pub struct Expectation {
 }
 
 /// How many notices are expected.
-#[derive(Clone, Copy, Debug, PartialEq, Eq)]
+#[derive(Clone, Copy, PartialEq, Eq)]
 pub enum Amount {
     AtLeastOne,
     Exactly(u64),
@@ -52,7 +52,7 @@ impl Amount {
 }
 
 /// What a notice has to say. A part that is none isn't compared.
-#[derive(Debug, Drop)]
+#[derive(Drop)]
 pub struct Content {
     /// One of the firing alerts matches all of these.
     pub has: Option<Sequence<Matcher>>,
@@ -67,7 +67,7 @@ pub struct Content {
 }
 
 /// Why a notice is sent, as its line in the timeline says it.
-#[derive(Clone, Copy, Debug)]
+#[derive(Clone, Copy)]
 pub enum SentReason {
     FirstNotice,
     /// A first notice, since the entry of the notification log had expired.

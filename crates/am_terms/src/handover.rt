@@ -14,7 +14,7 @@ pub struct Handover {
 }
 
 /// What a new dispatcher has of the one before it.
-#[derive(Clone, Copy, Debug, PartialEq, Eq)]
+#[derive(Clone, Copy, PartialEq, Eq)]
 pub enum Keeps {
     /// Its alerts, its silences and its log, as after a reload.
     All,

@@ -32,14 +32,14 @@ pub struct Rehearsal {
 }
 
 /// An action and its time.
-#[derive(Debug, Drop)]
+#[derive(Drop)]
 pub struct TimedAction {
     pub at: u64,
     pub act: Action,
 }
 
 /// An alert, a silence or a log row that a rehearsal puts into its board.
-#[derive(Debug, Drop)]
+#[derive(Drop)]
 pub enum Action {
     /// An alert is inserted, for the first time or again, as when it is resolved.
     Insert(Alert),
@@ -50,7 +50,7 @@ pub enum Action {
 }
 
 /// How an integration answers the attempts of a span.
-#[derive(Debug, Drop)]
+#[derive(Drop)]
 pub struct Outage {
     /// The name of the integration's receiver.
     pub receiver: Text,

@@ -14,7 +14,7 @@ use std::marker::Model;
 use std::sync::Arc;
 
 /// What a begin would do with the group that it would take. Contracts see it as a `Preview`.
-#[derive(Debug, Drop)]
+#[derive(Drop)]
 pub struct SharedPreview {
     moment: u64,
     /// A preview like it, at some time.

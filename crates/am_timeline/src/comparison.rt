@@ -32,7 +32,7 @@ pub struct Comparison {
 }
 
 /// Which of the two rehearsals.
-#[derive(Clone, Copy, Debug, PartialEq, Eq)]
+#[derive(Clone, Copy, PartialEq, Eq)]
 enum Side {
     Old,
     New,
@@ -69,7 +69,7 @@ struct Heard {
 }
 
 /// How many notices each of the two rehearsals has.
-#[derive(Clone, Copy, Debug, PartialEq, Eq)]
+#[derive(Clone, Copy, PartialEq, Eq)]
 struct Counts {
     old: usize,
     new: usize,
@@ -85,7 +85,7 @@ struct ReceiverCounts<'t> {
 }
 
 /// The notices of an hour, by its number.
-#[derive(Clone, Copy, Debug, PartialEq, Eq)]
+#[derive(Clone, Copy, PartialEq, Eq)]
 struct HourCounts {
     hour: u64,
     counts: Counts,

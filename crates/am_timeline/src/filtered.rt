@@ -28,7 +28,7 @@ use std::alloc::{AllocError, Global};
 use std::collections::HashSet;
 
 /// What the lines of a timeline are to concern. What isn't named leaves nothing out.
-#[derive(Debug, Drop)]
+#[derive(Drop)]
 pub struct Filter {
     /// The name of a receiver.
     pub receiver: Option<Text>,
@@ -59,7 +59,7 @@ impl Filter {
 }
 
 /// Which events of a playback are left.
-#[derive(Debug, Drop)]
+#[derive(Drop)]
 pub enum Selection {
     /// All of them, as they are: nobody copied them.
     All,

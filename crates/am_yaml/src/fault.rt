@@ -69,7 +69,7 @@ pub enum YamlFault {
 }
 
 /// A fault at an offset of the text.
-#[derive(Clone, Copy, Debug, PartialEq, Eq)]
+#[derive(Clone, Copy, PartialEq, Eq)]
 pub(crate) enum Stop {
     At { at: usize, reason: Reason },
     NoMemory,

@@ -10,7 +10,7 @@ use crate::reader::{offset_with_returns, without_mark, without_returns};
 use std::alloc::{AllocError, Global};
 
 /// What of a member is looked for.
-#[derive(Clone, Copy, Debug, PartialEq, Eq)]
+#[derive(Clone, Copy, PartialEq, Eq)]
 pub enum Part {
     Key,
     Value,

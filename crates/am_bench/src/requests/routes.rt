@@ -1,14 +1,15 @@
 //! Calls on routes and configurations.
+use crate::config::{WAIT, critical, inhibiting, route};
 use crate::requests::probe::Probe;
-use crate::requests::values::{children, config, route};
+use crate::words::Trouble;
 use am_alerts::route::{Child, Route, Routes};
 use am_board::config::Config;
-use std::alloc::{AllocError, Global};
+use std::alloc::Global;
 
-pub fn make_calls(probe: &Probe, alloc: Global) -> Result<(), AllocError> {
-    make_routes(probe, route(alloc, "root")?, children(alloc)?);
-    make_routes(probe, route(alloc, "other")?, Vec::new(alloc));
-    let config = config(alloc)?;
+pub fn make_calls(probe: &Probe, alloc: Global) -> Result<(), Trouble> {
+    make_routes(probe, route(alloc, "root", WAIT)?, critical(alloc)?);
+    make_routes(probe, route(alloc, "other", WAIT)?, Vec::new(alloc));
+    let config = inhibiting(alloc)?;
     count_routes(probe, &config.routes);
     check_config(probe, &config);
     Ok(())

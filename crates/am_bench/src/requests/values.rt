@@ -1,13 +1,13 @@
 //! The values that calls are made with.
-use crate::alerts::listed;
+use crate::alerts::{self, listed};
+use crate::config::{plain, rule_of};
 use crate::words::both;
 use am_alerts::alert::Alert;
 use am_alerts::labels::Labels;
 use am_alerts::matcher::{Matcher, MatcherParts, Operator};
-use am_alerts::route::{Child, GroupBy, Route, Routes};
 use am_alerts::sequence::Sequence;
 use am_alerts::text::Text;
-use am_board::config::{Config, Integration, Limits, Receiver};
+use am_board::config::Config;
 use am_board::group::GroupName;
 use am_board::views::RowView;
 use am_mute::inhibit::InhibitRule;
@@ -74,82 +74,14 @@ pub fn matchers_by(
     }
 }
 
-/// This name, in a list.
-pub fn names(alloc: Global, name: &str) -> Result<Vec<Text>, AllocError> {
-    let text = Text::new(alloc, name)?;
-    listed(alloc, text)
-}
-
 /// A rule by which the instance 1 of A inhibits the instance 2.
 pub fn rule(alloc: Global) -> Result<InhibitRule, AllocError> {
-    let matchers = both(matchers(alloc, "inst", "1"), matchers(alloc, "inst", "2"));
-    let ((source, target), names) = both(matchers, names(alloc, "alertname"))?;
-    match InhibitRule::new(source, target, names) {
-        Ok(rule) => Ok(rule),
-        Err(_) => Err(AllocError),
-    }
+    let source = alerts::matchers(alloc, "inst", "1");
+    let matchers = both(source, alerts::matchers(alloc, "inst", "2"));
+    rule_of(alloc, matchers).map_err(|_| AllocError)
 }
 
-/// A route to the receiver, which groups by alertname and waits 30s, 5m and 4h.
-pub fn route(alloc: Global, name: &str) -> Result<Route, AllocError> {
-    let texts = both(Text::new(alloc, name), Text::new(alloc, "team"));
-    let ((name, receiver), names) = both(texts, names(alloc, "alertname"))?;
-    Ok(Route {
-        name,
-        receiver,
-        group_by: GroupBy::Names(Sequence::from(names)),
-        group_wait: 30_000,
-        group_interval: 300_000,
-        repeat_interval: 14_400_000,
-    })
-}
-
-/// A child that no label set of this program matches, in a list.
-pub fn children(alloc: Global) -> Result<Vec<Child>, AllocError> {
-    let (route, matchers) = both(route(alloc, "other"), matchers(alloc, "alertname", "B"))?;
-    let child = Child {
-        route,
-        matchers: Sequence::from(matchers),
-        goes_on: false,
-    };
-    listed(alloc, child)
-}
-
-/// The root with that child.
-fn routes(alloc: Global) -> Result<Routes, AllocError> {
-    let (root, children) = both(route(alloc, "root"), children(alloc))?;
-    match Routes::new(root, children) {
-        Ok(routes) => Ok(routes),
-        Err(_) => Err(AllocError),
-    }
-}
-
-/// One receiver, with two integrations.
-fn receivers(alloc: Global) -> Result<Sequence<Receiver>, AllocError> {
-    let (name, integrations) = both(Text::new(alloc, "team"), integrations(alloc))?;
-    let receivers = listed(alloc, Receiver { name, integrations })?;
-    Ok(Sequence::from(receivers))
-}
-
-fn integrations(alloc: Global) -> Result<Sequence<Integration>, AllocError> {
-    let mut list = Vec::new(alloc);
-    for kind in ["hook", "page"] {
-        list.push(Integration {
-            kind: Text::new(alloc, kind)?,
-            send_resolved: true,
-        })?;
-    }
-    Ok(Sequence::from(list))
-}
-
-/// A configuration of these routes and this receiver, without rules.
+/// A configuration of one route and one receiver, without rules.
 pub fn config(alloc: Global) -> Result<Config, AllocError> {
-    let (routes, receivers) = both(routes(alloc), receivers(alloc))?;
-    Ok(Config {
-        routes,
-        receivers,
-        rules: Sequence::empty(alloc),
-        retention: 432_000_000,
-        limits: Limits::default(),
-    })
+    plain(alloc).map_err(|_| AllocError)
 }

@@ -15,7 +15,7 @@ use std::collections::vec_deque::Iter;
 use std::marker::Model;
 
 /// Keys in the order in which they are due. Contracts see their list.
-#[derive(Debug, Drop)]
+#[derive(Drop)]
 pub(crate) struct DueRing {
     keys: VecDeque<DueKey>,
 }

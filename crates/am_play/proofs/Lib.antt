@@ -1,6 +1,0 @@
--- a list whose elements are written one after the other
-pub mod Written
--- faults that refuse an input
-pub mod Refusals
--- lemmas by subject
-pub mod lemmas

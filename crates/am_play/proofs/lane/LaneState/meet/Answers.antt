@@ -1,5 +1,0 @@
-use Rattle.am_play.proofs.lemmas.lanes.Meetings.{passes_met}
-use Rattle.am_play.proofs.lane.LaneState.meet.Goals as goal
-
-pub returns-clause-met : goal.returns-clause-met
-returns-clause-met g c = passes_met _ _ _ _ _ c.meet.ensures.p c.meet.ensures.q

@@ -1,6 +1,0 @@
-use Rattle.std.proofs.Common.{◌≡◌, take}
-use Rattle.am_play.specs.Steps.{recorded_all}
-use Rattle.am_play.proofs.phase.record_on.Given as goal
-
-abbrev pub invariant-loop-report : goal.invariant-loop-report
-invariant-loop-report g l = l.own ≡ recorded_all (take l.report-index l.reports) l.fn.own

@@ -1,7 +1,0 @@
-use Rattle.std.proofs.Common.{◌≡◌, drop}
-use Rattle.am_report.specs.Report.{attempts_on}
-use Rattle.am_report.proofs.report.attempts_on.Given as goal
-
--- none of the reports so far is on the notice
-abbrev pub invariant-loop-report : goal.invariant-loop-report
-invariant-loop-report l = attempts_on l.ticket l.integration l.reports ≡ attempts_on l.ticket l.integration (drop l.report-index l.reports)

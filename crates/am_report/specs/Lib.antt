@@ -1,4 +1,0 @@
--- the text of a history
-pub mod Report
--- the first worked run: one alert, one flush, one notice
-pub mod FirstRun

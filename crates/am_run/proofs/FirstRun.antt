@@ -1,0 +1,11 @@
+-- The first worked run: the definitions, run on it.
+use Rattle.std.proofs.Common.{refl}
+use Rattle.std.specs.Fmt.{digits}
+use Rattle.am_run.specs.FirstRun.{FirstIsLegal, FirstRunReportIs}
+
+pub first_is_legal : FirstIsLegal
+first_is_legal = (refl, (refl, (refl, (refl, (refl, tt)))))
+
+pub first_is_told : FirstRunReportIs
+unfolding digits
+first_is_told = refl

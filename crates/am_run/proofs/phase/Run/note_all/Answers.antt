@@ -1,0 +1,18 @@
+use Rattle.std.proofs.Common.{◌∙◌, refl, arith}
+use Rattle.am_desk.proofs.Prefixes.{prefix_trans}
+use Rattle.am_run.proofs.lemmas.phases.Noting.{noted_ticket}
+use Rattle.am_run.proofs.phase.Run.note_all.Goals as goal
+
+pub loop-own-preserved : goal.loop-own-preserved
+loop-own-preserved g c =
+    let i = c.loop-own.invariant in
+    let k = c.settle.ensures.keeps in
+    let ts = c.args.tickets.now in
+    let own = c.own-item.result in
+    record {
+      keeps = (k.0 ∙ i.keeps.0, k.1 ∙ i.keeps.1, λ none. i.keeps.2 (k.2 none));
+      goes_on = (prefix_trans _ _ _ i.goes_on.0 c.settle.ensures.goes_on.0, λ full. i.goes_on.1 (c.settle.ensures.goes_on.1 full));
+      noted = λ none.
+          noted_ticket g.N.Name.terms c.args.at c.args.reports.now ts c.loop-own.own-index _ own c.args.self.now.main c.loop-own.self.main c.settle.new.self.main
+          refl (omega (arith, c.loop-own-test.true)) c.own-item.is (i.noted (k.2 none)) (c.settle.ensures.noted none);
+    }

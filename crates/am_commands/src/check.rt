@@ -53,15 +53,29 @@ fn check_file<R: Files + Eprint + AllocGlobal>(
         Form::Own | Form::Alertmanager => {}
     }
     let configured = configured(rt, console, &document)?;
-    let mut added = push_summary(rt, path, &configured, lines);
-    if added.is_ok() && form == Form::Alertmanager {
-        let mut files = SystemZones::new(rt);
-        added = push_missing_zones(rt.alloc(), shown(path), &document.value, &mut files, lines);
-    }
+    let added = push_configuration(rt, path, form, &document, &configured, lines);
+    drop(configured);
     match added {
         Ok(()) => Ok(()),
         Err(_) => Err(console.complain_of_memory(rt)),
     }
+}
+
+/// Adds what a configuration has, and the zones of an `alertmanager.yml` that aren't there.
+fn push_configuration<R: Files + AllocGlobal>(
+    rt: &R,
+    path: &str,
+    form: Form,
+    document: &Document<'_>,
+    configured: &Configured,
+    lines: &mut String,
+) -> Result<(), AllocError> {
+    push_summary(rt, path, configured, lines)?;
+    if form != Form::Alertmanager {
+        return Ok(());
+    }
+    let mut files = SystemZones::new(rt);
+    push_missing_zones(rt.alloc(), shown(path), &document.value, &mut files, lines)
 }
 
 fn check_story<R: Files + Eprint + AllocGlobal>(

@@ -7,7 +7,7 @@ use crate::times::WrittenRoutes;
 use crate::tree::{push_reached, tree_text};
 use am_alerts::labels::{LabelFault, Labels};
 use am_alerts::route::Routes;
-use am_console::console::{Console, DIFFERS, REJECTED};
+use am_console::console::{Console, DIFFERS, Document, REJECTED};
 use std::alloc::{AllocError, Global};
 use std::rt::Files;
 
@@ -37,7 +37,19 @@ fn try_routes<R: Files + Eprint + AllocGlobal>(
 ) -> Result<u8, u8> {
     let document = console.read(rt, request.file)?;
     let configured = configured(rt, console, &document)?;
-    let routes = &configured.config.routes;
+    let status = print_routes(rt, console, &document, &configured.config.routes, request);
+    drop(configured);
+    status
+}
+
+/// Prints the routes that the labels of a request reach, or all, and returns the status.
+fn print_routes<R: Eprint + AllocGlobal>(
+    rt: &R,
+    console: &mut Console,
+    document: &Document<'_>,
+    routes: &Routes,
+    request: RoutesRequest<'_, '_>,
+) -> Result<u8, u8> {
     let Ok(written) = WrittenRoutes::of(rt.alloc(), &document.value) else {
         return Err(console.complain_of_memory(rt));
     };

@@ -73,9 +73,16 @@ pub fn parts_of(
     let mut parts = Vec::new(alloc);
     let mut part = Part::whole(config, until, plans);
     for handover in handovers {
-        let next = part.hand_over(alloc, seed, handover)?;
-        parts.push(part)?;
-        part = next;
+        match part.hand_over(alloc, seed, handover) {
+            Ok(next) => {
+                parts.push(part)?;
+                part = next;
+            }
+            Err(refused) => {
+                drop(part);
+                return Err(refused);
+            }
+        }
     }
     parts.push(part)?;
     Ok(parts)

@@ -542,7 +542,7 @@ impl<'o> Course<'o> {
         while !self.sendings.is_empty() {
             self.finish(0);
         }
-        let _ = self.into_played();
+        drop(self.into_played());
     }
 }
 

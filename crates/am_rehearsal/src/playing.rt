@@ -173,7 +173,10 @@ fn play_boxed<W: Watch>(
     )?;
     match Box::new(alloc, played) {
         Ok(played) => Ok(played),
-        Err(_) => Err(PlayFault::NoMemory),
+        Err(refused) => {
+            drop(refused);
+            Err(PlayFault::NoMemory)
+        }
     }
 }
 

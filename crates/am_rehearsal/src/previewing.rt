@@ -94,8 +94,13 @@ impl PreviewingBoard {
             begins,
             events,
         } = self;
-        let begins = begins.into_vec()?;
-        Ok((board, begins, events))
+        match begins.into_vec() {
+            Ok(begins) => Ok((board, begins, events)),
+            Err(refused) => {
+                drop(board);
+                Err(refused)
+            }
+        }
     }
 
     pub(crate) fn config(&self) -> &Config

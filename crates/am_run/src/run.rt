@@ -197,7 +197,10 @@ fn close_stopped<N: Name + Send + Sync>(run: Run<N>, fault: InputFault) -> Input
         × ((history : List Record) × EndsWith N.terms run.main (lanes_of run) history) }
 {
     match run.close() {
-        Ok(_) => fault,
+        Ok(closed) => {
+            drop(closed);
+            fault
+        }
         Err(_) => InputFault::NoMemory,
     }
 }
@@ -255,7 +258,9 @@ fn report_of_closed(
         string_bytes text ≡ report_text closed.config reports.items closed.history) }
     ensures legal { IsLegal closed.config closed.id closed.history }
 {
-    report_on(alloc, &closed, reports.as_slice())
+    let text = report_on(alloc, &closed, reports.as_slice());
+    drop(closed);
+    text
 }
 
 /// The report on what a closed desk did.

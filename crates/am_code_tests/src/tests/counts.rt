@@ -38,7 +38,9 @@ fn a_thousand_inserts_on<N: Name + Send + Sync, R: Threads + Wait + Abort + Sync
 {
     let (desk, mut passes) = open::<N>(rt, alloc, config, blank);
     insert_all(rt, alloc, &desk, &mut passes);
-    are_stamped(rt, &close(rt, desk, passes));
+    let closed = close(rt, desk, passes);
+    are_stamped(rt, &closed);
+    drop(closed);
 }
 
 /// Inserts with two passes in threads of their own, and with one once more.

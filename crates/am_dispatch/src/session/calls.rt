@@ -100,7 +100,7 @@ impl Session {
         let Opening { config, ignored } = asked;
         let board = open_board(alloc, self.seed, config)?;
         finish_all(&mut self.board, replace(&mut self.tickets, Vec::new(alloc)));
-        self.board = board;
+        put(&mut self.board, board);
         told(write_opened(&ignored, answer))
     }
 
@@ -384,6 +384,7 @@ impl Session {
             seed: _,
         } = self;
         finish_all(&mut board, tickets);
+        drop(board);
     }
 }
 
@@ -400,6 +401,13 @@ fn write_begun(config: &Config, ticket: &Ticket, answer: &mut Answer) -> Result<
         ticket.notices(),
         answer,
     )
+}
+
+/// Puts a board in the place of another one, which goes.
+fn put(place: &mut Board, board: Board)
+    ensures { place.new ≡ board }
+{
+    drop(replace(place, board));
 }
 
 /// An empty board of the program.

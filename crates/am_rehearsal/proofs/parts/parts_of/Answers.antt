@@ -11,8 +11,8 @@ loop-handover-preserved c =
     let was = c.loop-handover in
     let h = c.in-Some.handover in
     let first = whole_part c.args.config c.args.until c.args.plans.items in
-    let cut : was.parts.items ++ cut_at h.at was.part ∷ [] ≡ c.push.new.self.items = sym (c.in_ok-push.ensures.items ∙ ap (λ (p : PartData). was.parts.items ++ p ∷ []) c.in_ok-next.ensures.left) in
-    λ rest. parts_more first was.yielded was.parts.items was.part h was.invariant rest ∙ (λ i. cut i ++ parts_from (sym c.in_ok-next.ensures.next i) rest)
+    let cut : was.parts.items ++ cut_at h.at was.part ∷ [] ≡ c.push.new.self.items = sym (c.in_ok-push-in-Ok.ensures.items ∙ ap (λ (p : PartData). was.parts.items ++ p ∷ []) c.in-Ok.ensures.left) in
+    λ rest. parts_more first was.yielded was.parts.items was.part h was.invariant rest ∙ (λ i. cut i ++ parts_from (sym c.in-Ok.ensures.next i) rest)
 
 pub returns : goal.returns
 returns c =
@@ -20,5 +20,5 @@ returns c =
     let yielded = c.loop-handover.yielded in
     let gives = c.into_iter-handover-iterator.ensures.into_iter_gives in
     let end = YieldsList-end (YieldsList-from_vec {s = c.into_iter-handover-iterator.result} all gives.0 (gives.1 ∙ c.args.handovers.ok.0)) yielded c.loop-handover.handover-iterator c.loop-handover.yielded_by c.next.result c.next.new.self c.in-None.is c.next.ensures.steps in
-    c.in_ok-push-2.ensures.items ∙ sym (c.loop-handover.invariant [])
+    c.in_ok-push.ensures.items ∙ sym (c.loop-handover.invariant [])
     ∙ ap (parts_from (whole_part c.args.config c.args.until c.args.plans.items)) (append-nil yielded ∙ sym (map-id yielded) ∙ end.0)

@@ -1,4 +1,4 @@
-use Rattle.std.proofs.Common.{◌≡◌, [], ap, refl}
+use Rattle.std.proofs.Common.{◌≡◌, ◌∙◌, [], ap, refl}
 use Rattle.am_board.specs.History.{BoardData}
 use Rattle.am_lines.specs.declared.request.Request.TheVariants.{Open}
 use Rattle.am_lines.specs.Reply.{opened_tokens}
@@ -9,18 +9,18 @@ use Rattle.am_dispatch.proofs.session.Session.reopen.Goals as goal
 pub returns-clause-told : goal.returns-clause-told
 returns-clause-told c =
     let none : c.replace.new.dest.items ≡ [] = rw c.replace.ensures.after c.new.ensures.items in
-    opens c.told.result c.write_opened.result c.in_ok-board.board c.replace.new.dest.items c.args.asked c.args.answer.now c.write_opened.new.answer c.told.ensures.ok
-    c.in_ok-board.ensures.board none c.write_opened.ensures
+    opens c.told.result c.write_opened.result c.put.new.place c.replace.new.dest.items c.args.asked c.args.answer.now c.write_opened.new.answer c.told.ensures.ok
+    (c.put.ensures ∙ c.in_ok-board.ensures.board) none c.write_opened.ensures
 
 pub returns-clause-refused : goal.returns-clause-refused
 returns-clause-refused c =
     let none : c.replace.new.dest.items ≡ [] = rw c.replace.ensures.after c.new.ensures.items in
     untold_all _ c.args.self.now (record {
-      board = c.in_ok-board.board;
+      board = c.put.new.place;
       tickets = c.replace.new.dest;
       seed = c.args.self.now.seed;
-      ours = ap (λ (b : BoardData). b.id) c.in_ok-board.ensures.board;
-    }) (Open c.args.asked) c.told.ensures.err (λ e. absurd (cc)) (opened_tokens c.args.asked.ignored, (c.in_ok-board.ensures.board, none, refl))
+      ours = ap (λ (b : BoardData). b.id) (c.put.ensures ∙ c.in_ok-board.ensures.board);
+    }) (Open c.args.asked) c.told.ensures.err (λ e. absurd (cc)) (opened_tokens c.args.asked.ignored, (c.put.ensures ∙ c.in_ok-board.ensures.board, none, refl))
 
 pub returns-in_err-board-clause-refused : goal.returns-in_err-board-clause-refused
 returns-in_err-board-clause-refused c =

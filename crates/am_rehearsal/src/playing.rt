@@ -2,7 +2,7 @@
 //! `play_parts` with what `parts::parts_of` returns.
 //!
 //! A dispatcher that keeps the log gets the rows of the board before it as loads, in front of its own
-//! plans. Boards are in boxes: a proof of a function with a whole board in its frame takes a minute.
+//! plans. Boards are in boxes: the proof of a function that lets a whole board go takes half a minute.
 ghost use Rattle.std.specs.Prelude.{◌≡◌, ◌<◌, ◌≤◌, ◌+◌, ◌++◌, ◌&&◌, [], if◌then◌else◌, length, nat_lt, not, None, IfErr, IfOk, OnErr, OnOk};
 ghost use Rattle.std.specs.List.{count_by, flat_map, list_any};
 ghost use Rattle.std.specs.Option.{option_copied};

@@ -15,6 +15,7 @@ use Rattle.am_board.specs.declared.group.Group.{Group}
 use Rattle.am_board.specs.declared.state.State.{State}
 use Rattle.am_board.specs.Group.{names_of, label_sets}
 use Rattle.am_board.specs.GroupList.{GroupList}
+use Rattle.am_board.specs.Marks.{marks_of}
 use Rattle.am_board.specs.Inserting.{place_in, IsReservedState}
 use Rattle.am_board.specs.Members.{place_of}
 use Rattle.am_board.specs.Refinement.{group_state, state_of}
@@ -33,6 +34,7 @@ pub record IsSpot (groups : List Group) (name : GroupName) (labels : List Label)
 pub record IsPutInEach (config : Config) (t : ℕ) (m : MemberState) (wanted : List GroupName) (old new : GroupList) : Type 0 where
   pub there : All (λ name. has_group (map group_state old.items) name ≡ true) wanted
   pub names : names_of new.items ≡ names_of old.items
+  pub marks : marks_of new.items ≡ marks_of old.items
   pub labels : map label_sets new.items ≡ map label_sets old.items
   pub state : map group_state new.items ≡ fold (put_into_group config t m) (map group_state old.items) wanted
 
@@ -48,6 +50,7 @@ pub record IsPutAgain (config : Config) (now : ℕ) (alert : AlertData) (answer 
   pub told : inserted config (state_of old) alert ≡ answer
   pub state : state_of new ≡ after_insert config (state_of old) (moment (state_of old) now) alert
   pub names : names_of new.groups.items ≡ names_of old.groups.items
+  pub marks : marks_of new.groups.items ≡ marks_of old.groups.items
   pub log : new.log ≡ old.log
   pub flushes : new.flushes ≡ old.flushes
   pub history : new.history.items ≡ old.history.items

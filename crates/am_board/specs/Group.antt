@@ -38,6 +38,7 @@ HasRoom n name groups = All (λ g. g.name ≡ name → Fits n g) groups
 -- the group is the same, with no less room
 pub record IsReserved (old new : Group) : Type 0 where
   pub name : new.name ≡ old.name
+  pub is_open : new.is_open ≡ old.is_open
   pub room : old.members.room ≤ new.members.room
   pub state : group_state new ≡ group_state old
 
@@ -53,5 +54,6 @@ pub record Changes (change : Group → Group → Type 0) (i : ℕ) (old new : Gr
 
 -- a member was put into the group, which waits so long before its first flush
 pub record Gets (m : MemberState) (wait t : ℕ) (from to : Group) : Type 0 where
+  pub is_open : to.is_open ≡ from.is_open
   pub room : from.members.room ≤ to.members.room + 1
   pub state : (config : Config) → wait ≡ wait_of config from.name → group_state to ≡ group_with config t m (group_state from)

@@ -17,6 +17,7 @@ use Rattle.am_board.specs.declared.insert.Target.{Target}
 use Rattle.am_board.specs.declared.group.Group.{Group}
 use Rattle.am_board.specs.declared.state.State.{State}
 use Rattle.am_board.specs.Group.{names_of, HasRoom}
+use Rattle.am_board.specs.Marks.{marks_of}
 use Rattle.am_board.specs.Refinement.{member_state, state_of}
 use Rattle.am_model.specs.State.{MemberState, same_name}
 
@@ -56,6 +57,7 @@ HaveRoom groups placements = All (λ p. HasRoom 1 p.name groups) placements
 pub record IsReservedState (old new : State) : Type 0 where
   pub state : state_of new ≡ state_of old
   pub names : names_of new.groups.items ≡ names_of old.groups.items
+  pub marks : marks_of new.groups.items ≡ marks_of old.groups.items
   pub log : new.log ≡ old.log
   pub flushes : new.flushes ≡ old.flushes
   pub history : new.history.items ≡ old.history.items

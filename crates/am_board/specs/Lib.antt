@@ -40,6 +40,8 @@ pub mod LogRows
 pub mod MemberTable
 -- the stored alerts of a group, under their labels, in the order in which the label sets came into it
 pub mod Members
+-- which groups have an open flush
+pub mod Marks
 -- between the code of a note and its definition: what it finds among the stored flushes
 pub mod Noting
 -- the alerts of a group in the order of their labels, as places

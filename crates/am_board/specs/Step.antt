@@ -1,5 +1,5 @@
 -- Step: what a call does to the stored state of a board.
-use Rattle.std.specs.Prelude.{◌≡◌, ℕ, ◌+◌, ◌≤◌, ◌⊎◌, [], ◌∷◌, ◌++◌, Option, Some, None, Result, Ok, Err, All, vec_len, vec_capacity}
+use Rattle.std.specs.Prelude.{◌≡◌, ℕ, ◌+◌, ◌≤◌, ◌⊎◌, [], ◌∷◌, ◌++◌, map, Option, Some, None, Result, Ok, Err, All, vec_len, vec_capacity}
 use Rattle.am_alerts.specs.declared.limits.TheConstants.{MAX_DURATION}
 use Rattle.am_model.specs.declared.config.Config.{Config}
 use Rattle.am_model.specs.declared.config.TheConstants.{MAX_HANDED, MAX_HISTORY}
@@ -16,7 +16,8 @@ use Rattle.am_board.specs.declared.state.State as kept
 use Rattle.am_model.specs.declared.record.Record.{Record}
 use Rattle.am_model.specs.Configured.{HaveFewIntegrations}
 use Rattle.am_board.specs.Group.{names_of, AreRouted}
-use Rattle.am_board.specs.Refinement.{state_of, EqualUpToRowOrder, IsPrepared}
+use Rattle.am_board.specs.Marks.{AreMarked}
+use Rattle.am_board.specs.Refinement.{state_of, flush_state, EqualUpToRowOrder, IsPrepared}
 use Rattle.am_model.specs.Laws.{IsConsistent}
 use Rattle.am_model.specs.Replay.{reply, after}
 
@@ -24,13 +25,15 @@ use Rattle.am_model.specs.Replay.{reply, after}
 abbrev pub MAX_CALLS : ℕ
 MAX_CALLS = MAX_HANDED + MAX_HISTORY
 
--- what each call relies on: the state is one that a legal history leaves, and each open flush is prepared for its end
+-- what each call relies on: the state is one that a legal history leaves, each open flush is prepared for its end, and each group
+-- says whether it has one
 pub record StateInvariant (config : Config) (s : kept.State) : Type 0 where
   pub consistent : IsConsistent (state_of s)
   pub inserts : s.inserts ≤ MAX_CALLS
   pub numbers : s.next_number ≤ MAX_CALLS + 1
   pub routed : AreRouted config.routes (names_of s.groups.items)
   pub prepared : All (IsPrepared config s.log) s.flushes.items
+  pub marked : AreMarked (map flush_state s.flushes.items) s.groups.items
   pub room : vec_len s.history + vec_len s.flushes ≤ vec_capacity s.history
   pub few : HaveFewIntegrations config
   pub retention : config.retention ≤ MAX_DURATION
@@ -41,6 +44,7 @@ pub record AppliesCall (config : Config) (id : ℕ) (r : Record) (old new : kept
   pub state : EqualUpToRowOrder (state_of new) (after config (state_of old) r)
   pub routed : AreRouted config.routes (names_of new.groups.items)
   pub prepared : All (IsPrepared config new.log) new.flushes.items
+  pub marked : AreMarked (map flush_state new.flushes.items) new.groups.items
   pub history : new.history.items ≡ old.history.items ++ r ∷ []
   pub records : vec_len new.history ≡ vec_len old.history + 1
   pub room : vec_len new.history + vec_len new.flushes ≤ vec_capacity new.history
@@ -50,6 +54,7 @@ pub record LeavesUnchanged (config : Config) (old new : kept.State) : Type 0 whe
   pub state : state_of new ≡ state_of old
   pub routed : AreRouted config.routes (names_of new.groups.items)
   pub prepared : All (IsPrepared config new.log) new.flushes.items
+  pub marked : AreMarked (map flush_state new.flushes.items) new.groups.items
   pub history : new.history.items ≡ old.history.items
   pub records : vec_len new.history ≡ vec_len old.history
   pub room : vec_len new.history + vec_len new.flushes ≤ vec_capacity new.history

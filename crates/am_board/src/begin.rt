@@ -137,7 +137,7 @@ pub(crate) fn choose(config: &Config, state: &State, pass: u32, now: u64) -> Opt
     ensures { IsChoice config.now state.now pass now result }
 {
     let t = state.moment(now);
-    let Some(place) = state.groups.first_due(state.flushes.as_slice(), t) else {
+    let Some(place) = state.groups.first_due(t) else {
         return None;
     };
     let due = due_again(config, state.groups.at(place).name.route, t);

@@ -1,15 +1,17 @@
 //! Finishes: `Board::finish` calls `finish_flush`. It never allocates.
 //!
 //! It walks once over the notified integrations and logs each success that wasn't noted
-//! (`log_rest`). If all succeeded, it takes the resolved alerts out of their group (`take_out`).
+//! (`log_rest`). Then it marks the group as one without an open flush and, if all succeeded, takes
+//! the resolved alerts out of it (`take_out`).
 //! Each is looked up, and marked if its stamp is that of the begin. All marked alerts go in one
 //! walk. A row takes the label sets that its integration shares with the flush.
-ghost use Rattle.std.specs.Prelude.{◌≡◌, ℕ, ◌+◌, ◌<◌, ◌^◌, List, [], ◌∷◌};
+ghost use Rattle.std.specs.Prelude.{◌≡◌, ◌&&◌, not, ℕ, ◌+◌, ◌<◌, ◌^◌, List, [], ◌∷◌};
 ghost use Rattle.std.specs.Prelude.{length, map, count_by, slice_index_or, vec_len, IsTrue, All, IsPermutation};
 ghost use Rattle.std.specs.List.{list_all, IsDistinct};
 ghost use Rattle.am_nflog.specs.Log.{is_known};
 ghost use Rattle.am_model.specs.Finish.{has_succeeded as succeeds, is_delivered as says_delivered, is_leaving, log_with};
 ghost use Rattle.am_board.specs.Group.{names_of};
+ghost use Rattle.am_board.specs.Marks.{is_marked, marks_of};
 ghost use Rattle.am_model.specs.Records.{entry};
 ghost use Rattle.am_model.specs.Insert.{same_group};
 ghost use Rattle.am_board.specs.Refinement.{IsAsked, asked_state_of, member_state, stamped, group_state};
@@ -154,8 +156,8 @@ pub(crate) fn log_sets(
     log.put(key, sets.into_row(t, kept_for));
 }
 
-/// Takes the alerts that were resolved at the begin out of their group, if all integrations
-/// succeeded.
+/// Marks the group of a flush as one without an open flush, and takes the alerts that were resolved
+/// at the begin out of it, if all integrations succeeded.
 ///
 /// Returns how many.
 fn take_out(
@@ -165,18 +167,21 @@ fn take_out(
     all_succeeded: bool,
 ) -> usize
     ensures names { names_of groups.new.items ≡ names_of groups.old.items }
+    ensures marks { IsDistinct same_group (map group_state groups.old.items) → (n : GroupName)
+        → is_marked (marks_of groups.new.items) n ≡ (is_marked (marks_of groups.old.items) n && not (same_name n name.now)) }
     ensures groups { IsDistinct same_group (map group_state groups.old.items)
         → map group_state groups.new.items
         ≡ changed_where (is_named name.now) (without_leaving all_succeeded leaving.now) (map group_state groups.old.items) }
     ensures count { result ≡ count_by (leaves_where all_succeeded leaving.now) (members_in (map group_state groups.old.items) name.now) }
 {
+    let Some(i) = groups.find(name) else {
+        return 0;
+    };
+    groups.close(i);
     if !all_succeeded {
         return 0;
     }
-    match groups.find(name) {
-        None => 0,
-        Some(i) => groups.take_leaving(i, leaving),
-    }
+    groups.take_leaving(i, leaving)
 }
 
 /// Takes out of a group the alerts that are as they were when they were found resolved.
@@ -186,6 +191,7 @@ pub(crate) fn take_leaving(group: &mut Group, leaving: &[LeavingAlert]) -> usize
     ensures group { group_state group.new ≡ record (group_state group.old) {
       members = without (is_leaving (map stamped leaving.now)) (map member_state group.old.members.items);
     } }
+    ensures opened { group.new.is_open ≡ group.old.is_open }
     ensures count { result ≡ count_by (is_leaving (map stamped leaving.now)) (map member_state group.old.members.items) }
 {
     group.members.take_leaving(leaving)

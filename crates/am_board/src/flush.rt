@@ -3,9 +3,11 @@
 //!
 //! `AlertSets` of an integration are gone once it is noted. Those of the flush stay, and say what
 //! they were.
-ghost use Rattle.std.specs.Prelude.{◌≡◌, ◌+◌, ◌<◌, ◌==◌, ◌^◌, length, position, IfOk, IfSome};
-ghost use Rattle.std.specs.List.{list_any};
-ghost use Rattle.am_model.specs.State.{same_name};
+ghost use Rattle.std.specs.Prelude.{◌≡◌, ◌+◌, ◌<◌, ◌==◌, ◌^◌, length, map, position, slice_index_or, IfOk, IfSome};
+ghost use Rattle.std.specs.List.{IsDistinct};
+ghost use Rattle.am_model.specs.Laws.{same_number};
+ghost use Rattle.am_board.specs.Refinement.{flush_state};
+ghost use Rattle.am_board.specs.declared.flush.OpenFlush.{OpenFlush};
 
 use crate::group::GroupName;
 use am_alerts::labels::Labels;
@@ -74,19 +76,41 @@ impl AlertSets {
     }
 }
 
-/// The place of the open flush of this number.
+/// The place of the open flush of this number. Numbers are distinct.
+///
+/// Numbers rise, so a search by halves finds it. No proof relies on that: where the search finds
+/// none, all are walked over.
 pub(crate) fn find_flush(flushes: &[OpenFlush], number: u64) -> Option<usize>
+    requires { IsDistinct same_number (map flush_state flushes.now) }
     ensures within { IfSome result (λ i. i < length flushes.now) }
     ensures first { result ≡ position (λ flush. flush.number == number) flushes.now }
 {
-    flushes.iter().position(|flush| flush.number == number)
+    match find_by_halves(flushes, number) {
+        Some(i) => Some(i),
+        None => flushes.iter().position(|flush| flush.number == number),
+    }
 }
 
-/// Whether a flush of this group is open.
-pub(crate) fn is_open(flushes: &[OpenFlush], name: &GroupName) -> bool
-    ensures { result ≡ list_any (λ f. same_name name.now f.group) flushes.now }
+/// A place of a flush of this number, if a search by halves comes to one.
+fn find_by_halves(flushes: &[OpenFlush], number: u64) -> Option<usize>
+    ensures within { IfSome result (λ i. i < length flushes.now) }
+    ensures number { IfSome result (λ i. (d : OpenFlush) → (slice_index_or flushes.now i d).number ≡ number) }
 {
-    flushes.iter().any(|flush| *name == flush.group)
+    let mut low = 0;
+    let mut high = flushes.len();
+    while low < high {
+        let middle = low + (high - low) / 2;
+        let found = flushes[middle].number;
+        if found == number {
+            return Some(middle);
+        }
+        if found < number {
+            low = middle + 1;
+        } else {
+            high = middle;
+        }
+    }
+    None
 }
 
 /// Returns the place of this integration among those of a flush.

@@ -1,5 +1,5 @@
 //! One group: its name, its due time and its alerts.
-ghost use Rattle.std.specs.Prelude.{◌≡◌, ◌+◌, ◌<◌, ◌≤◌, ◌&&◌, min, nat_lt, not, true, if◌then◌else◌, length, OnOk, Some};
+ghost use Rattle.std.specs.Prelude.{◌≡◌, ◌+◌, ◌<◌, ◌≤◌, ◌&&◌, min, nat_lt, not, false, true, if◌then◌else◌, length, OnOk, Some};
 ghost use Rattle.std.specs.List.{IsDistinct};
 ghost use Rattle.am_model.specs.Begin.{count_resolved, without_resolved};
 ghost use Rattle.am_board.specs.Group.{Fits, IsReserved, label_sets};
@@ -33,6 +33,8 @@ pub(crate) struct Group {
     pub(crate) due: u64,
     /// Whether it was flushed since it was made.
     pub(crate) flushed: bool,
+    /// Whether a flush of it is open.
+    pub(crate) is_open: bool,
     pub(crate) members: Members,
 }
 
@@ -44,6 +46,7 @@ impl Group {
         requires labels { labels ≡ member.alert.labels }
         requires room { 0 < self.old.members.room }
         ensures name { self.new.name ≡ self.old.name }
+        ensures opened { self.new.is_open ≡ self.old.is_open }
         ensures room { self.old.members.room ≤ self.new.members.room + 1 }
         ensures state { (config : Config) → wait ≡ wait_of config self.old.name
             → group_state self.new ≡ group_with config t (member_state member) (group_state self.old) }
@@ -60,6 +63,7 @@ impl Group {
         requires place { place_of alert.labels self.old.members.items ≡ Some j }
         requires within { j < length self.old.members.items }
         ensures name { self.new.name ≡ self.old.name }
+        ensures opened { self.new.is_open ≡ self.old.is_open }
         ensures room { self.new.members.room ≡ self.old.members.room }
         ensures labels { label_sets self.new ≡ label_sets self.old }
         ensures state { (config : Config) → wait ≡ wait_of config self.old.name
@@ -74,6 +78,7 @@ impl Group {
     /// that its wait is over.
     fn hasten(&mut self, started: u64, wait: u64, t: u64)
         ensures name { self.new.name ≡ self.old.name }
+        ensures opened { self.new.is_open ≡ self.old.is_open }
         ensures due { self.new.due ≡ (if not self.old.flushed && nat_lt (started + wait) t then min self.old.due t else self.old.due) }
         ensures flushed { self.new.flushed ≡ self.old.flushed }
         ensures members { self.new.members ≡ self.old.members }
@@ -115,9 +120,17 @@ pub(crate) fn mark_begun(group: &mut Group, due: u64)
     group.flushed = true;
 }
 
+/// Marks a group as one without an open flush.
+pub(crate) fn mark_closed(group: &mut Group)
+    ensures { group.new ≡ record group.old { is_open = false } }
+{
+    group.is_open = false;
+}
+
 /// Takes the alerts that are resolved at `t` out of a group, and answers how many.
 pub(crate) fn take_resolved(group: &mut Group, t: u64) -> usize
     ensures group { group_state group.new ≡ without_resolved t (group_state group.old) }
+    ensures opened { group.new.is_open ≡ group.old.is_open }
     ensures count { result ≡ count_resolved t (group_state group.old) }
 {
     group.members.take_resolved(t)

@@ -24,6 +24,7 @@ ghost use Rattle.am_model.specs.Causes.{insert_cause, is_full, is_name_too_many}
 ghost use Rattle.am_model.specs.Records.{entry};
 ghost use Rattle.am_model.specs.Insert.{same_alert, put_into_group, names_for, after_insert};
 ghost use Rattle.am_board.specs.Refinement.{state_of, group_state};
+ghost use Rattle.am_board.specs.Marks.{is_marked, marks_of};
 ghost use Rattle.am_board.specs.Step.{MAX_CALLS, StateInvariant, AppliesCall, LeavesUnchanged, IsAnswer};
 ghost use Rattle.std.specs.List.{IsDistinct};
 ghost use Rattle.am_board.specs.Inserting.{IsFound, AreFound, AreApart, IsToPut, place_in, target_of};
@@ -256,6 +257,7 @@ fn put_prepared(
     ensures history { state.new.history ≡ state.old.history }
     ensures routed { (tree : RoutingTree) → AreRouted tree (names_of state.old.groups.items)
         → AreRoutedPlacements tree placements.items → AreRouted tree (names_of state.new.groups.items) }
+    ensures marks { (name : GroupName) → is_marked (marks_of state.new.groups.items) name ≡ is_marked (marks_of state.old.groups.items) name }
     ensures state { (config : Config) → t ≤ MAX_MOMENT
         → All (IsPlacementOf config.routes (stamped_alert alert (state.old.inserts + 1))) placements.items
         → map (λ p. p.name) placements.items ≡ names_for config alert.labels
@@ -478,6 +480,7 @@ fn reserve_all(groups: &mut Groups, placements: &[Placement]) -> Result<(), Allo
     requires distinct { IsDistinct same_name (names_of groups.old.items) }
     requires found { AreFound groups.old.items placements.now }
     ensures names { names_of groups.new.items ≡ names_of groups.old.items }
+    ensures marks { marks_of groups.new.items ≡ marks_of groups.old.items }
     ensures states { map group_state groups.new.items ≡ map group_state groups.old.items }
     ensures spare { groups.new.room ≡ groups.old.room }
     ensures room { OnOk result (HaveRoom groups.new.items placements.now) }
@@ -497,6 +500,7 @@ fn place_all(groups: &mut Groups, mut placements: Vec<Placement>, t: u64)
     requires apart { AreApart placements.items }
     ensures routed { (tree : RoutingTree) → AreRouted tree (names_of groups.old.items)
         → AreRoutedPlacements tree placements.items → AreRouted tree (names_of groups.new.items) }
+    ensures marks { (name : GroupName) → is_marked (marks_of groups.new.items) name ≡ is_marked (marks_of groups.old.items) name }
     ensures state { (config : Config) (m : MemberState) → t ≤ MAX_MOMENT → All (IsPlacementOf config.routes m) placements.items
         → map group_state groups.new.items
         ≡ fold (put_into_group config t m) (map group_state groups.old.items) (map (λ p. p.name) placements.items) }
@@ -515,6 +519,7 @@ fn place(groups: &mut Groups, placement: Placement, t: u64)
     requires found { IsFound groups.old.items (target_of placement) }
     ensures spare { groups.old.room ≤ groups.new.room + 1 }
     ensures names { AddsAtMost (names_of groups.old.items) placement.name (names_of groups.new.items) }
+    ensures marks { (name : GroupName) → is_marked (marks_of groups.new.items) name ≡ is_marked (marks_of groups.old.items) name }
     ensures others { (name : GroupName) → (name.route == placement.name.route) ≡ false
         → HasRoom 1 name groups.old.items → HasRoom 1 name groups.new.items }
     ensures state { (config : Config) (m : MemberState) → t ≤ MAX_MOMENT → IsPlacementOf config.routes m placement
@@ -527,6 +532,7 @@ fn place(groups: &mut Groups, placement: Placement, t: u64)
                 name: placement.name,
                 due: t.saturating_add(placement.wait),
                 flushed: false,
+                is_open: false,
                 members: placement.members,
             };
             group.insert(placement.labels, placement.member, placement.wait, t);

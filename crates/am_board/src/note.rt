@@ -2,6 +2,8 @@
 ghost use Rattle.std.specs.Prelude.{◌≡◌, ℕ, ◌+◌, ◌<◌, ◌^◌, true, List, None, Some, slice_get, slice_index_or, map};
 ghost use Rattle.std.specs.Prelude.{vec_len, All, IsPermutation, IsSome, IfOk, IfErr, OnOk, MatchResult};
 ghost use Rattle.std.specs.Option.{option_map};
+ghost use Rattle.std.specs.List.{IsDistinct};
+ghost use Rattle.am_model.specs.Laws.{same_number};
 ghost use Rattle.am_model.specs.Causes.{flush_cause, asked_cause};
 ghost use Rattle.am_model.specs.Finish.{log_with};
 ghost use Rattle.am_model.specs.Records.{IsNoteOf};
@@ -85,6 +87,7 @@ fn find_noting(
     ticket: &Ticket,
     place: usize,
 ) -> Result<NoteTarget, NoteFault>
+    requires { IsDistinct same_number (map flush_state flushes.now) }
     ensures found { IfOk result (IsNoteTarget flushes.now ticket.now place) }
     ensures cause { (config : ConfigData) (records : ℕ) (s : Data) → s.flushes ≡ map flush_state flushes.now
         → IfErr result (λ fault. flush_cause config records s ticket.now place (flush_numbered s.flushes ticket.now.number) ≡ Some fault) }

@@ -3,7 +3,7 @@
 //!
 //! A preview changes nothing. Where a begin would sort the group, a preview sorts it for itself
 //! alone. It uses what an earlier begin noted of the silences.
-ghost use Rattle.std.specs.Prelude.{◌≡◌, ◌≤◌, All, IfOk};
+ghost use Rattle.std.specs.Prelude.{◌≡◌, ◌≤◌, All, IfOk, map};
 ghost use Rattle.std.specs.List.{IsDistinct};
 ghost use Rattle.am_mute.specs.Sources.{AreLearnt};
 ghost use Rattle.am_alerts.specs.RoutingTree.{last_of};
@@ -14,9 +14,10 @@ ghost use Rattle.am_model.specs.Insert.{same_member};
 ghost use Rattle.am_model.specs.State.{moment};
 ghost use Rattle.am_model.specs.look_back.Preview.{muted_of, preview, preview_at};
 ghost use Rattle.am_board.specs.Beginning.{IsUnmuted, copies_of};
-ghost use Rattle.am_board.specs.Refinement.{group_state, state_of};
+ghost use Rattle.am_board.specs.Refinement.{flush_state, group_state, state_of};
 ghost use Rattle.am_board.specs.LogRows.{log_rows};
 ghost use Rattle.am_board.specs.Preview.{IsGroupPreview};
+ghost use Rattle.am_board.specs.Marks.{AreMarked};
 ghost use Rattle.am_board.specs.Step.{StateInvariant};
 
 use crate::board::Board;
@@ -61,10 +62,10 @@ impl Board {
 
 /// When the next group is due of those that have no open flush.
 fn next_due_of(state: &State) -> Option<u64>
+    requires { AreMarked (map flush_state state.now.flushes.items) state.now.groups.items }
     ensures { result ≡ next_due (state_of state.now) }
 {
-    let flushes = state.flushes.as_slice();
-    match state.groups.first_due(flushes, MAX_DEADLINE) {
+    match state.groups.first_due(MAX_DEADLINE) {
         None => None,
         Some(place) => Some(state.groups.at(place).due),
     }
@@ -84,7 +85,7 @@ fn preview_of(
     ensures { IfOk result (λ preview. preview ≡ preview_at config.now (state_of state.now) (moment (state_of state.now) now)) }
 {
     let t = state.moment(now);
-    let Some(place) = state.groups.first_due(state.flushes.as_slice(), t) else {
+    let Some(place) = state.groups.first_due(t) else {
         return Ok(None);
     };
     let group = state.groups.at(place);

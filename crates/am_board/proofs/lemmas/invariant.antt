@@ -10,7 +10,9 @@ pub mod Keyed
 pub mod Learnt
 pub mod Limits
 pub mod LogRows
+pub mod Marks
 pub mod Members
+pub mod OpenFlushes
 pub mod Order
 pub mod Shown
 pub mod Sound

@@ -1,7 +1,7 @@
 //! Changes of groups: finds one by its name, adds one, changes one at its place, removes the empty
 //! ones.
-ghost use Rattle.std.specs.Prelude.{◌≡◌, ℕ, ◌+◌, ◌<◌, ◌≤◌, ◌∷◌, [], ◌++◌, None, count_by, length, map, not, position, slice_index_or};
-ghost use Rattle.std.specs.Prelude.{true, All, IfSome, OnOk};
+ghost use Rattle.std.specs.Prelude.{◌≡◌, ℕ, ◌+◌, ◌<◌, ◌≤◌, ◌∷◌, [], ◌++◌, None, count_by, filter, length, map, not, position, slice_index_or};
+ghost use Rattle.std.specs.Prelude.{false, true, All, IfSome, OnOk};
 ghost use Rattle.std.specs.List.{IsDistinct};
 ghost use Rattle.am_alerts.specs.RoutingTree.{RoutingTree};
 ghost use Rattle.am_model.specs.Begin.{count_resolved, without_resolved};
@@ -9,6 +9,7 @@ ghost use Rattle.am_model.specs.Finish.{is_leaving};
 ghost use Rattle.am_board.specs.Again.{HasAt, IsSpot};
 ghost use Rattle.am_board.specs.Group.{names_of, AreRouted, HasRoom, Fits, IsReserved, Changes, Gets, label_sets};
 ghost use Rattle.am_board.specs.Inserting.{place_in, stamped_alert};
+ghost use Rattle.am_board.specs.Marks.{marks_of};
 ghost use Rattle.am_board.specs.Refinement.{member_state, stamped, group_state};
 ghost use Rattle.am_model.specs.Insert.{same_member};
 ghost use Rattle.am_model.specs.Lists.{without};
@@ -19,7 +20,9 @@ use super::Groups;
 use crate::again::Spot;
 use crate::finish::take_leaving;
 use crate::flush::LeavingAlert;
-use crate::group::{Group, GroupName, Member, mark_begun, prepare, reserve_members, take_resolved};
+use crate::group::{
+    Group, GroupName, Member, mark_begun, mark_closed, prepare, reserve_members, take_resolved,
+};
 use crate::silences::NotedSilences;
 use am_alerts::alert::Alert;
 use am_alerts::labels::Labels;
@@ -64,6 +67,7 @@ impl Groups {
         requires distinct { IsDistinct same_name (names_of self.old.items) }
         requires within { IfSome place (λ i. i < length self.old.items) }
         ensures names { names_of self.new.items ≡ names_of self.old.items }
+        ensures marks { marks_of self.new.items ≡ marks_of self.old.items }
         ensures states { map group_state self.new.items ≡ map group_state self.old.items }
         ensures spare { self.new.room ≡ self.old.room }
         ensures room { OnOk result ((name : GroupName) → place ≡ place_in name self.old.items → HasRoom more name self.new.items) }
@@ -128,14 +132,15 @@ impl Groups {
         prepare(&mut self.groups[i], alloc, silences, t, limit);
     }
 
-    /// Marks the group at a place as taken by a begin, and due again at this time.
+    /// Marks the group at a place as taken by a begin that opens a flush, and due again at this time.
     pub(crate) fn begin(&mut self, i: usize, due: u64)
         requires { i < length self.old.items }
-        ensures { Changes (λ from to. to ≡ record from { due = due; flushed = true }) i self.old self.new }
+        ensures { Changes (λ from to. to ≡ record from { due = due; flushed = true; is_open = true }) i self.old self.new }
     {
         let group = &mut self.groups[i];
         let before = group.due;
         mark_begun(group, due);
+        group.is_open = true;
         self.due.change(&group.name, before, due);
     }
 
@@ -147,6 +152,7 @@ impl Groups {
         requires { i < length self.old.items }
         ensures group { Changes
             (λ from to. group_state to ≡ without_resolved t (record (group_state from) { due = due; flushed = true })) i self.old self.new }
+        ensures marks { marks_of self.new.items ≡ marks_of self.old.items }
         ensures count { (d : Group) → result ≡ count_resolved t (group_state (slice_index_or self.old.items i d)) }
     {
         let group = &mut self.groups[i];
@@ -154,6 +160,14 @@ impl Groups {
         mark_begun(group, due);
         self.due.change(&group.name, before, due);
         take_resolved(group, t)
+    }
+
+    /// Marks the group at a place as one without an open flush.
+    pub(crate) fn close(&mut self, i: usize)
+        requires { i < length self.old.items }
+        ensures { Changes (λ from to. to ≡ record from { is_open = false }) i self.old self.new }
+    {
+        mark_closed(&mut self.groups[i]);
     }
 
     /// Takes out of the group at a place the alerts that are as they were when they were found
@@ -165,6 +179,7 @@ impl Groups {
         ensures group { Changes (λ from to. group_state to ≡ record (group_state from) {
           members = without (is_leaving (map stamped leaving.now)) (map member_state from.members.items);
         }) i self.old self.new }
+        ensures marks { marks_of self.new.items ≡ marks_of self.old.items }
         ensures count { (d : Group) → result
             ≡ count_by (is_leaving (map stamped leaving.now)) (map member_state (slice_index_or self.old.items i d).members.items) }
     {
@@ -175,6 +190,7 @@ impl Groups {
     pub(crate) fn drop_deserted(&mut self) -> usize
         ensures groups { map group_state self.new.items ≡ without is_deserted (map group_state self.old.items) }
         ensures count { result ≡ count_by is_deserted (map group_state self.old.items) }
+        ensures kept { self.new.items ≡ filter (λ g. not (is_deserted (group_state g))) self.old.items }
         ensures routed { (tree : RoutingTree) → AreRouted tree (names_of self.old.items) → AreRouted tree (names_of self.new.items) }
     {
         let before = self.groups.len();

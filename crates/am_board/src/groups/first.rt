@@ -1,27 +1,27 @@
 //! The group that a begin takes. `begin`, `preview` and `next_due` call `Groups::first_due`.
 //!
-//! It looks through both lists of the set of due times, skips stale keys and groups with an open
-//! flush, and takes the earlier of the two that it finds. While the set is incomplete it walks over
+//! It looks through both lists of the set of due times, skips stale keys and groups that are marked
+//! as open, and takes the earlier of the two that it finds. While the set is incomplete it walks over
 //! all groups. Both give the definitions' `least` of the groups that a begin may take.
-ghost use Rattle.std.specs.Prelude.{◌≡◌, ◌<◌, All, IfSome, IsTrue, length, map, slice_index_or};
+ghost use Rattle.std.specs.Prelude.{◌≡◌, ◌<◌, All, IfSome, IsTrue, List, length, map, slice_index_or};
 ghost use Rattle.std.specs.List.{IsDistinct};
 ghost use Rattle.std.specs.Map.{keys_of, values_of};
 ghost use Rattle.std.specs.Option.{option_map};
 ghost use Rattle.std.specs.Ordering.{is_gt};
 ghost use Rattle.am_model.specs.Begin.{due_cmp};
 ghost use Rattle.am_model.specs.Lists.{lesser};
-ghost use Rattle.am_model.specs.State.{same_name};
+ghost use Rattle.am_model.specs.State.{FlushState, is_flushing, same_name};
 ghost use Rattle.am_board.specs.Beginning.{may_take, first_of, IsFirst, IsFirstOfKeys};
 ghost use Rattle.am_board.specs.Due.{holds_key, key_of, IsCurrent, IsFree};
 ghost use Rattle.am_board.specs.GroupList.{name_of};
-ghost use Rattle.am_board.specs.Refinement.{group_state, flush_state};
+ghost use Rattle.am_board.specs.Refinement.{group_state};
+ghost use Rattle.am_board.specs.Marks.{AreMarked, TellOpen};
 ghost use Rattle.am_board.specs.Keyed.{AreKeyed};
 ghost use Rattle.am_board.specs.declared.group.Group.{Group};
 
 use super::Groups;
 use crate::due::ring::DueRing;
 use crate::due::{DueKey, DueSet};
-use crate::flush::{OpenFlush, is_open};
 use crate::group::{Group, GroupName};
 use am_seed::Seed;
 use indexmap::IndexMap;
@@ -31,34 +31,30 @@ impl Groups {
     /// Returns the place of the group to take at `t`: the first due one without an open flush.
     ///
     /// They are ordered by due time, then by name.
-    pub(crate) fn first_due(&self, flushes: &[OpenFlush], t: u64) -> Option<usize>
+    pub(crate) fn first_due(&self, t: u64) -> Option<usize>
         ensures within { IfSome result (λ i. i < length self.now.items) }
-        ensures first { IsFirst self.now.items result (first_of (map flush_state flushes.now) t (map group_state self.now.items)) }
+        ensures first { (flushes : List FlushState) → AreMarked flushes self.now.items
+            → IsFirst self.now.items result (first_of flushes t (map group_state self.now.items)) }
     {
         if self.due.whole {
-            first_by_keys(&self.groups, &self.due, flushes, t)
+            first_by_keys(&self.groups, &self.due, t)
         } else {
-            first_by_walk(self.groups.values().as_slice(), flushes, t)
+            first_by_walk(self.groups.values().as_slice(), t)
         }
     }
 }
 
 /// Returns the place of the group to take at `t`, by the complete set of keys.
-fn first_by_keys(
-    groups: &IndexMap<GroupName, Group, Seed>,
-    due: &DueSet,
-    flushes: &[OpenFlush],
-    t: u64,
-) -> Option<usize>
+fn first_by_keys(groups: &IndexMap<GroupName, Group, Seed>, due: &DueSet, t: u64) -> Option<usize>
     requires keyed { AreKeyed name_of groups.now.entries }
     requires distinct { IsDistinct same_name (keys_of groups.now.entries) }
     requires keys { All (λ g. IsTrue (holds_key due.now (key_of g))) (values_of groups.now.entries) }
     ensures within { IfSome result (λ i. i < length (values_of groups.now.entries)) }
-    ensures first { IsFirst (values_of groups.now.entries) result
-        (first_of (map flush_state flushes.now) t (map group_state (values_of groups.now.entries))) }
+    ensures first { (flushes : List FlushState) → TellOpen flushes (values_of groups.now.entries)
+        → IsFirst (values_of groups.now.entries) result (first_of flushes t (map group_state (values_of groups.now.entries))) }
 {
-    let in_ring = first_in_ring(groups, &due.ring, flushes, t);
-    let in_tree = first_in_tree(groups, &due.tree, flushes, t);
+    let in_ring = first_in_ring(groups, &due.ring, t);
+    let in_tree = first_in_tree(groups, &due.tree, t);
     match in_ring {
         Some(i) => Some(earlier(groups.values().as_slice(), i, in_tree)),
         None => in_tree,
@@ -69,21 +65,18 @@ fn first_by_keys(
 ///
 /// It is the group of the first key that isn't stale and whose group has no open flush, if it is
 /// due.
-fn first_in_ring(
-    groups: &IndexMap<GroupName, Group, Seed>,
-    ring: &DueRing,
-    flushes: &[OpenFlush],
-    t: u64,
-) -> Option<usize>
+fn first_in_ring(groups: &IndexMap<GroupName, Group, Seed>, ring: &DueRing, t: u64) -> Option<usize>
     requires keyed { AreKeyed name_of groups.now.entries }
     requires distinct { IsDistinct same_name (keys_of groups.now.entries) }
-    ensures { IsFirstOfKeys (map flush_state flushes.now) t (values_of groups.now.entries) ring.now result }
+    ensures within { IfSome result (λ i. i < length (values_of groups.now.entries)) }
+    ensures first { (flushes : List FlushState) → TellOpen flushes (values_of groups.now.entries)
+        → IsFirstOfKeys flushes t (values_of groups.now.entries) ring.now result }
 {
     for key in ring.iter() {
         if key.due > t {
             return None;
         }
-        if let Some(place) = free_place(groups, key, flushes) {
+        if let Some(place) = free_place(groups, key) {
             return Some(place);
         }
     }
@@ -94,36 +87,35 @@ fn first_in_ring(
 fn first_in_tree(
     groups: &IndexMap<GroupName, Group, Seed>,
     tree: &BTreeSet<DueKey>,
-    flushes: &[OpenFlush],
     t: u64,
 ) -> Option<usize>
     requires keyed { AreKeyed name_of groups.now.entries }
     requires distinct { IsDistinct same_name (keys_of groups.now.entries) }
-    ensures { IsFirstOfKeys (map flush_state flushes.now) t (values_of groups.now.entries) tree.now.keys result }
+    ensures within { IfSome result (λ i. i < length (values_of groups.now.entries)) }
+    ensures first { (flushes : List FlushState) → TellOpen flushes (values_of groups.now.entries)
+        → IsFirstOfKeys flushes t (values_of groups.now.entries) tree.now.keys result }
 {
     for key in tree.iter().rev() {
         if key.due > t {
             return None;
         }
-        if let Some(place) = free_place(groups, key, flushes) {
+        if let Some(place) = free_place(groups, key) {
             return Some(place);
         }
     }
     None
 }
 
-/// The place of the group that has a key, unless the key is stale or a flush of the group is open.
-fn free_place(
-    groups: &IndexMap<GroupName, Group, Seed>,
-    key: &DueKey,
-    flushes: &[OpenFlush],
-) -> Option<usize>
+/// The place of the group that has a key, unless the key is stale or the group is marked as open.
+fn free_place(groups: &IndexMap<GroupName, Group, Seed>, key: &DueKey) -> Option<usize>
     requires keyed { AreKeyed name_of groups.now.entries }
     requires distinct { IsDistinct same_name (keys_of groups.now.entries) }
-    ensures { IsFree (map flush_state flushes.now) (values_of groups.now.entries) key.now result }
+    ensures within { IfSome result (λ i. i < length (values_of groups.now.entries)) }
+    ensures free { (flushes : List FlushState) → TellOpen flushes (values_of groups.now.entries)
+        → IsFree flushes (values_of groups.now.entries) key.now result }
 {
     let place = place_of(groups, key)?;
-    if is_open(flushes, &key.name) {
+    if groups[place].is_open {
         None
     } else {
         Some(place)
@@ -145,13 +137,14 @@ fn place_of(groups: &IndexMap<GroupName, Group, Seed>, key: &DueKey) -> Option<u
 }
 
 /// The same, by a walk over all groups.
-fn first_by_walk(groups: &[Group], flushes: &[OpenFlush], t: u64) -> Option<usize>
+fn first_by_walk(groups: &[Group], t: u64) -> Option<usize>
     ensures within { IfSome result (λ i. i < length groups.now) }
-    ensures first { IsFirst groups.now result (first_of (map flush_state flushes.now) t (map group_state groups.now)) }
+    ensures first { (flushes : List FlushState) → TellOpen flushes groups.now
+        → IsFirst groups.now result (first_of flushes t (map group_state groups.now)) }
 {
     let mut best: Option<usize> = None;
     for i in (0..groups.len()).rev() {
-        if may_begin(&groups[i], flushes, t) {
+        if may_begin(&groups[i], t) {
             best = Some(earlier(groups, i, best));
         }
     }
@@ -159,10 +152,11 @@ fn first_by_walk(groups: &[Group], flushes: &[OpenFlush], t: u64) -> Option<usiz
 }
 
 /// Returns whether a begin at `t` can take a group: it is due, and no flush of it is open.
-fn may_begin(group: &Group, flushes: &[OpenFlush], t: u64) -> bool
-    ensures { result ≡ may_take (map flush_state flushes.now) t (group_state group.now) }
+fn may_begin(group: &Group, t: u64) -> bool
+    ensures { (flushes : List FlushState) → group.now.is_open ≡ is_flushing flushes group.now.name
+        → result ≡ may_take flushes t (group_state group.now) }
 {
-    group.due <= t && !is_open(flushes, &group.name)
+    group.due <= t && !group.is_open
 }
 
 /// The place of the group that is taken before the other, if there is another.

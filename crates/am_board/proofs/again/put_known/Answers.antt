@@ -40,6 +40,7 @@ returns c =
           (put.state ∙ ap (fold (put_into_group config t m) was) c.requires.names ∙ ap (λ (n : ℕ). fold (put_into_group config n m) was (names_for config a.labels)) now)
           refl refl refl refl;
       names = put.names;
+      marks = put.marks;
       log = refl;
       flushes = refl;
       history = c.in_ok-reserve.ensures.items;

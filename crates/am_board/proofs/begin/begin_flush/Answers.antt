@@ -5,6 +5,7 @@ use Rattle.am_model.specs.declared.record.Reply.TheVariants.{Flush}
 use Rattle.am_board.proofs.lemmas.begin.Ends.{begun_kept, accepts_flush}
 use Rattle.am_model.proofs.tickets.Outcomes.{count_unreported-le-length}
 use Rattle.am_board.proofs.begin.begin_flush.Goals as goal
+use Rattle.am_board.specs.declared.group.Group.{Group}
 
 pub invariant_of-result : goal.invariant_of-result
 invariant_of-result c =
@@ -18,7 +19,7 @@ returns c config g good takes some planned =
     let group = c.begin.ensures in
     let begun = begun_kept config c.args.id old c.args.chosen g good takes group.to group.from group.was group.changed in
     let next : c.saturating_add-state.result ≡ old.next_number + 1 = omega (arith, c.saturating_add-state.ensures, good.numbers) in (
-      accepts_flush config c.args.id old c.args.chosen g good takes group.to o _ some planned begun group.items
+      accepts_flush config c.args.id old c.args.chosen g good takes group.to o _ some planned begun (ap (λ (x : Group). x.is_open) group.changed) group.items
           (ap (λ n. record old { clock = c.args.chosen.t; groups = c.begin.new.self; log = c.reserve_rows.new.log; flushes = c.push_reserved.new.self; next_number = n; history = c.push_reserved-2.new.self }) next)
           c.reserve_rows.ensures.rows c.reserve_rows.ensures.known c.in_ok-reserve_rows.ensures.asked
           (c.push_reserved.ensures.items ∙ ap (λ fs. fs ++ o.flush ∷ []) c.in_ok-reserve-2.ensures.items)

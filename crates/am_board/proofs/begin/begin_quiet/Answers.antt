@@ -19,6 +19,7 @@ returns c config id g good takes none =
           (c.in_ok-name.ensures ∙ named) (c.in_ok-recorded.ensures ∙ c.in_ok-name.ensures ∙ named)
           (c.begin_quiet-removed.ensures.count g ∙ ap (λ (x : Group). count_resolved c.args.chosen.t (group_state x)) (takes.group g))
           group.items
+          c.begin_quiet-removed.ensures.marks
           refl
           (c.push_reserved.ensures.items ∙ ap (λ rs. rs ++ entry c.args.chosen.pass (Begin c.args.chosen.now) (Quiet c.in_ok-recorded.recorded c.begin_quiet-removed.result) ∷ []) c.in_ok-reserve.ensures.items)
           (omega (arith, c.push_reserved.ensures.len, c.in_ok-reserve.ensures.len))

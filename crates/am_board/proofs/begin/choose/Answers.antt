@@ -1,7 +1,7 @@
-use Rattle.std.proofs.Common.{◌≡◌, None, refl, subst}
+use Rattle.std.proofs.Common.{◌≡◌, None, map, refl, subst}
 use Rattle.am_model.specs.Begin.{taken}
 use Rattle.am_board.specs.Beginning.{IsChosen}
-use Rattle.am_board.specs.Refinement.{state_of}
+use Rattle.am_board.specs.Refinement.{flush_state, state_of}
 use Rattle.am_board.specs.declared.begin.ChosenGroup.{ChosenGroup}
 use Rattle.am_board.proofs.lemmas.begin.Causes.{taken-none, taking_found}
 use Rattle.am_board.proofs.lemmas.invariant.GroupNames.{routed_at}
@@ -15,13 +15,13 @@ pub returns-in_default : goal.returns-in_default
 returns-in_default c =
     let s = c.args.state.now in
     subst (λ n. taken (state_of s) n ≡ None) c.moment-t.ensures
-    (taken-none s c.moment-t.result s.groups.items c.as_slice.result.now refl c.as_slice.ensures.value c.in_default.ensures.first)
+    (taken-none s c.moment-t.result s.groups.items s.flushes.items refl refl (c.in_default.ensures.first (map flush_state s.flushes.items) c.requires.marked))
 
 pub returns : goal.returns
 returns c =
     let s = c.args.state.now in
     let chosen : ChosenGroup = record { pass = c.args.pass; now = c.args.now; t = c.moment-t.result; place = c.in-Some.place; due = c.due_again-due.result } in
     let takes : IsChosen c.args.config.now s chosen c.at.result.now =
-    taking_found c.args.config.now s chosen c.at.result.now s.groups.items c.as_slice.result.now refl c.as_slice.ensures.value
-    c.moment-t.ensures c.in-Some.ensures.within (c.in-Some.ensures.first c.at.result.now) c.at.ensures c.due_again-due.ensures in
+    taking_found c.args.config.now s chosen c.at.result.now s.groups.items s.flushes.items refl refl
+    c.moment-t.ensures c.in-Some.ensures.within (c.in-Some.ensures.first (map flush_state s.flushes.items) c.requires.marked c.at.result.now) c.at.ensures c.due_again-due.ensures in
     record { pass = refl; now = refl; group = c.at.result.now; chosen = takes }

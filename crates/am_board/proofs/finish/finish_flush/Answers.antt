@@ -58,6 +58,7 @@ returns-clause-accepted c config good id o =
       inserts = refl;
       known = refl;
       names = c.take_out-removed.ensures.names;
+      marks = c.take_out-removed.ensures.marks good.consistent.groups;
       groups = groups;
       removed = removed;
       silences = refl;

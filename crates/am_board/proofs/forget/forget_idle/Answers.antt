@@ -62,6 +62,7 @@ returns-clause-forgot c =
         };
         routed = c.requires.good.routed;
         prepared = subst (λ l. All (IsPrepared c.args.config.now l) old.flushes.items) (sym log) (prepared-forgotten c.args.config.now old.log old.flushes.items c.requires.good.prepared);
+        marked = c.requires.good.marked;
         history = c.push_reserved.ensures.items ∙ ap (λ h. h ++ entry c.args.pass (Forget c.args.now) (Forgotten (record { alerts = c.drop_idle-2.result; silences = c.drop_over.result })) ∷ []) c.in_ok-reserve.ensures.items;
         records = omega arith;
         room = omega (arith, c.in_ok-reserve.ensures.ok, c.in_ok-reserve.ensures.len, c.push_reserved.ensures.len, c.push_reserved.ensures.capacity, c.len.ensures);

@@ -14,6 +14,8 @@ use Rattle.am_board.proofs.lemmas.insert.GroupRoom.{named_at}
 use Rattle.am_board.proofs.lemmas.insert.Placing.{put_group_at, put_group_new, new_group_is}
 use Rattle.am_board.proofs.insert.place.Goals as goal
 use Rattle.am_board.proofs.insert.place.Goals.{In-Some}
+use Rattle.am_board.specs.Marks.{is_marked, marks_of}
+use Rattle.am_board.proofs.lemmas.invariant.Marks.{marks_set, marked_push}
 
 -- the group stands at the place that was found
 there : (c : In-Some) → place_in c.args.placement.name c.args.groups.now.items ≡ Some c.in-Some.i
@@ -38,6 +40,12 @@ pub returns-in-Some-clause-names : goal.returns-in-Some-clause-names
 returns-in-Some-clause-names c =
     let group = c.insert.ensures in
     inl (ap names_of group.items ∙ names_set c.args.groups.now.items c.in-Some.i group.to group.from (group.name ∙ ap (λ (g : Group). g.name) group.was))
+
+pub returns-in-Some-clause-marks : goal.returns-in-Some-clause-marks
+returns-in-Some-clause-marks c name =
+    let group = c.insert.ensures in
+    ap (λ ms. is_marked ms name)
+    (ap marks_of group.items ∙ marks_set c.args.groups.now.items c.in-Some.i group.to group.from (group.name ∙ ap (λ (g : Group). g.name) group.was) (group.changed.is_open ∙ ap (λ (g : Group). g.is_open) group.was))
 
 -- names of different routes differ
 differ : (a b : GroupName) → (a.route == b.route) ≡ false → b ≡ a → ⊥
@@ -73,6 +81,10 @@ pub returns-in-None-clause-names : goal.returns-in-None-clause-names
 returns-in-None-clause-names c =
     inr (ap names_of c.add.ensures.items ∙ (names-push c.args.groups.now.items c.insert-in-None.new.self ∙ ap (λ n. names_of c.args.groups.now.items ++ n ∷ []) c.insert-in-None.ensures.name))
 
+pub returns-in-None-clause-marks : goal.returns-in-None-clause-marks
+returns-in-None-clause-marks c name =
+    ap (λ gs. is_marked (marks_of gs) name) c.add.ensures.items ∙ marked_push c.args.groups.now.items c.insert-in-None.new.self c.insert-in-None.ensures.opened name
+
 pub returns-in-None-clause-others : goal.returns-in-None-clause-others
 returns-in-None-clause-others c name apart room =
     subst (HasRoom 1 name) (sym c.add.ensures.items)
@@ -82,7 +94,7 @@ pub returns-in-None-clause-state : goal.returns-in-None-clause-state
 returns-in-None-clause-state c config m early is =
     let gs : List Group = c.args.groups.now.items in
     let name : GroupName = c.args.placement.name in
-    let fresh : Group = record { name = name; due = c.saturating_add.result; flushed = false; members = c.args.placement.members } in
+    let fresh : Group = record { name = name; due = c.saturating_add.result; flushed = false; is_open = false; members = c.args.placement.members } in
     let at : place_in name gs ≡ None = sym c.requires.found ∙ c.in-None.is in
     let due : c.saturating_add.result ≡ c.args.t + c.args.placement.wait = omega (arith, c.saturating_add.ensures, early, is.bounded) in
     let made : group_state fresh ≡ new_group config c.args.t name = new_group_is config c.args.t fresh name refl (due ∙ ap (λ n. c.args.t + n) is.wait) refl (ap length c.requires.ready.0) in

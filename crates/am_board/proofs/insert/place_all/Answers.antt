@@ -1,4 +1,4 @@
-use Rattle.std.proofs.Common.{◌≡◌, ◌∙◌, ◌≤◌, ◌++◌, ◌∷◌, [], ℕ, suc, List, Some, map, vec_len, arith, sym, ap, subst}
+use Rattle.std.proofs.Common.{◌≡◌, ◌∙◌, ◌≤◌, ◌++◌, ◌∷◌, [], ℕ, suc, List, Some, map, vec_len, arith, refl, sym, ap, subst}
 use Rattle.std.specs.Prelude.{fold, reverse, ◌==◌}
 use Rattle.std.proofs.lemmas.List.{reverse-append, reverse-reverse}
 use Rattle.std.proofs.lemmas.List.Elements.{All-pop}
@@ -29,6 +29,7 @@ loop-placement-init c =
       found = moved (λ p. IsFound c.args.groups.now.items (target_of p)) given turned c.reverse.ensures.permutation c.requires.found;
       apart = IsDistinct-IsPermutation (λ p q. p.name.route == q.name.route) (λ p q. nat_eq_equiv.symm p.name.route q.name.route) given turned c.reverse.ensures.permutation c.requires.apart;
       routed = λ tree groups placements. (groups, moved (λ p. p.name.route ≤ last_of tree) given turned c.reverse.ensures.permutation placements);
+      marks = λ name. refl;
       state = λ config m early are. (
         moved (IsPlacementOf config.routes m) given turned c.reverse.ensures.permutation are,
         ap (λ ps. fold (put_into_group config c.args.t m) (map group_state c.args.groups.now.items) (map (λ (p : Placement). p.name) ps)) (ap reverse c.reverse.ensures.items ∙ reverse-reverse given),
@@ -68,6 +69,7 @@ loop-placement-preserved c =
           let before = c.loop-placement.invariant.routed tree groups placements in
           let parts = All-pop (λ (p : Placement). p.name.route ≤ last_of tree) c.loop-placement.placements.items rest (Some x) popped before.1 in
           (routed_added tree (names_of c.loop-placement.groups.items) x.name (names_of c.place.new.groups.items) before.0 parts.1 c.place.ensures.names, parts.0);
+      marks = λ name. c.place.ensures.marks name ∙ c.loop-placement.invariant.marks name;
       state = λ config m early are.
           let before = c.loop-placement.invariant.state config m early are in
           let parts = All-pop (IsPlacementOf config.routes m) c.loop-placement.placements.items rest (Some x) popped before.0 in (

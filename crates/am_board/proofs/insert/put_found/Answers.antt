@@ -11,7 +11,7 @@ use Rattle.am_model.specs.Insert.{names_for, inserted}
 use Rattle.am_model.specs.declared.group.GroupName.{GroupName}
 use Rattle.am_alerts.specs.RoutingTree.{last_of}
 use Rattle.am_alerts.specs.declared.labels.Label.{Label}
-use Rattle.am_board.specs.Refinement.{state_of, IsPrepared}
+use Rattle.am_board.specs.Refinement.{state_of, flush_state, IsPrepared}
 use Rattle.am_model.specs.declared.config.Config.{Config}
 use Rattle.am_board.specs.declared.flush.OpenFlush.{OpenFlush}
 use Rattle.am_model.specs.declared.record.Inserted.{Inserted}
@@ -23,6 +23,7 @@ use Rattle.am_board.specs.declared.state.State as kept
 use Rattle.am_board.proofs.lemmas.insert.Inserting.{answer_groups, no_cause, makes_many, makes_few, made_told, are_found, are_empty, are_placed, count_is, told_is, insert_leaves, stays_reserved}
 use Rattle.am_board.proofs.insert.put_found.Goals as goal
 use Rattle.am_board.proofs.lemmas.invariant.Staying.{stays_itself, agrees_same}
+use Rattle.am_board.specs.Marks.{AreMarked}
 
 -- the places of the groups were found
 found_of : (config : Config) (s : kept.State) (alert : AlertData) (found : Found) → IsWhereToPut config s alert found → AreFound s.groups.items found.placements.items
@@ -96,6 +97,7 @@ returns c =
         state = agrees_same _ _ (insert_leaves config s reserved new c.moment-t.result c.args.now alert c.in_ok-copy.copy placements (c.put_prepared.ensures.state config) kept c.in_ok-copy.ensures c.moment-t.ensures c.requires.good.consistent.clock placed names);
         routed = c.put_prepared.ensures.routed config.routes still.routed routes;
         prepared = subst (λ (fs : Vec OpenFlush Global). All (IsPrepared config new.log) fs.items) (sym c.put_prepared.ensures.flushes) logged;
+        marked = subst (λ (fs : Vec OpenFlush Global). AreMarked (map flush_state fs.items) new.groups.items) (sym c.put_prepared.ensures.flushes) (λ name. c.put_prepared.ensures.marks name ∙ still.marked name);
         history = c.push_reserved.ensures.items ∙ ap (λ (rs : List Record). rs ++ added ∷ []) (ap (λ (rs : Vec Record Global). rs.items) c.put_prepared.ensures.history ∙ kept.history);
         records = omega (arith, c.push_reserved.ensures.len, records, kept.records);
         room = omega (arith, c.push_reserved.ensures.len, c.push_reserved.ensures.capacity, records, room, flushes, ready.records);

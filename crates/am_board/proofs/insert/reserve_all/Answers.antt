@@ -28,6 +28,7 @@ loop-placement-preserved c =
     let new : List Group = c.reserve_found.new.self.items in
     record {
       names = c.in_ok-reserve_found.ensures.names ∙ c.loop-placement.invariant.names;
+      marks = c.in_ok-reserve_found.ensures.marks ∙ c.loop-placement.invariant.marks;
       states = c.in_ok-reserve_found.ensures.states ∙ c.loop-placement.invariant.states;
       spare = c.in_ok-reserve_found.ensures.spare ∙ c.loop-placement.invariant.spare;
       room = λ k d less.

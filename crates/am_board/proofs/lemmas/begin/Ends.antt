@@ -1,5 +1,5 @@
 -- How a begin ends: what is told and what is kept, from what it did to the kept state.
-use Rattle.std.proofs.Common.{◌≡◌, ◌≢◌, ℕ, ◌+◌, ◌*◌, ◌<◌, ◌≤◌, min, true, List, [], ◌∷◌, ◌++◌, length, map, get_or, Some, All, IsTrue, vec_len, vec_capacity, refl, sym, ap, subst, ◌∙◌, arith}
+use Rattle.std.proofs.Common.{◌≡◌, ◌≢◌, ℕ, ◌+◌, ◌*◌, ◌<◌, ◌≤◌, ◌||◌, min, true, List, [], ◌∷◌, ◌++◌, length, map, get_or, Some, All, IsTrue, vec_len, vec_capacity, refl, sym, ap, subst, ◌∙◌, arith}
 use Rattle.std.specs.Cmp.{on_equiv}
 use Rattle.std.proofs.Math.ListN.{set}
 use Rattle.std.proofs.lemmas.List.{get_or-map, length-map, map-set, map-append}
@@ -29,12 +29,15 @@ use Rattle.am_board.specs.LogRows.{log_rows}
 use Rattle.am_model.specs.Lists.{changed_where}
 use Rattle.am_board.specs.Beginning.{IsPlannedFlush, IsChosen}
 use Rattle.am_model.specs.Replay.{reply, after}
-use Rattle.am_model.specs.State.{GroupState, FlushState, State, is_named, same_name}
+use Rattle.am_model.specs.State.{GroupState, FlushState, State, is_flushing, is_named, same_name}
 use Rattle.am_board.specs.Step.{StateInvariant, AppliesCall}
 use Rattle.am_board.proofs.lemmas.invariant.GroupNames.{names_set}
 use Rattle.am_model.proofs.lists.Alone.{changed_where-like}
 use Rattle.am_model.proofs.states.Alike.{same_name_equiv}
 use Rattle.am_board.proofs.lemmas.invariant.Staying.{agrees_same}
+use Rattle.am_board.specs.Marks.{is_marked, marks_of}
+use Rattle.am_board.proofs.lemmas.invariant.Marks.{marked_open}
+use Rattle.am_board.proofs.lemmas.invariant.OpenFlushes.{flushing_more}
 
 -- the reply and the state where some integrations are asked
 told_opened : (config : Config) (id : ℕ) (s : State) (t : ℕ) (g : GroupState) (asked : List (ℕ × Integration)) → asked ≢ []
@@ -98,7 +101,7 @@ module _ (config : Config) (id : ℕ) (old : kept.State) (chosen : ChosenGroup) 
       ap (λ (x : Group). record (group_state x) { due = chosen.due; flushed = true }) (is ∙ takes.group r)
       ∙ ap (λ d. record (group_state g) { due = d; flushed = true }) takes.due
 
-  pub begun_kept : (h r : Group) → r ≡ get_or old.groups.items chosen.place r → h ≡ record r { due = chosen.due; flushed = true } → group_state h ≡ begun_group config chosen.t (group_state g)
+  pub begun_kept : (h r : Group) → r ≡ get_or old.groups.items chosen.place r → h ≡ record r { due = chosen.due; flushed = true; is_open = true } → group_state h ≡ begun_group config chosen.t (group_state g)
   begun_kept h r is marked =
       ap group_state marked ∙ begun_state r is
 
@@ -109,12 +112,13 @@ module _ (config : Config) (id : ℕ) (old : kept.State) (chosen : ChosenGroup) 
       → name ≡ g.name → recorded ≡ g.name
       → removed ≡ count_resolved chosen.t (group_state g)
       → new.groups.items ≡ set old.groups.items chosen.place h
+      → marks_of new.groups.items ≡ marks_of old.groups.items
       → new ≡ record old { clock = chosen.t; groups = new.groups; history = new.history }
       → new.history.items ≡ old.history.items ++ entry chosen.pass (Begin chosen.now) (Quiet recorded removed) ∷ []
       → vec_len new.history ≡ vec_len old.history + 1
       → vec_len new.history + vec_len old.flushes ≤ vec_capacity new.history
       → AppliesCall config id (entry chosen.pass (Begin chosen.now) (Quiet name removed)) old new
-  accepts_quiet h name recorded removed new none left named recorded_named gone put is history records room =
+  accepts_quiet h name recorded removed new none left named recorded_named gone put marks is history records room =
       let named_as_before : h.name ≡ g.name = ap (λ (x : GroupState). x.name) left in
       let groups = ap (map group_state) put ∙ groups_after (λ x. without_resolved chosen.t (begun_group config chosen.t x)) h left in
       let log : new.log ≡ old.log = ap (λ (s : kept.State). s.log) is in
@@ -131,6 +135,7 @@ module _ (config : Config) (id : ℕ) (old : kept.State) (chosen : ChosenGroup) 
             ∙ sym (after_this (Quiet name removed) ∙ ap (λ asked. after_asking config (state_of old) chosen.t (group_state g) asked) none));
         routed = subst (λ gs. AreRouted config.routes (names_of gs)) (sym put) (routed_after h named_as_before);
         prepared = subst (λ (s : kept.State). All (IsPrepared config s.log) s.flushes.items) (sym is) good.prepared;
+        marked = λ n. ap (λ ms. is_marked ms n) marks ∙ (good.marked n ∙ sym (ap (λ (s : kept.State). is_flushing (map flush_state s.flushes.items) n) is));
         history = history ∙ (λ i. old.history.items ++ entry chosen.pass (Begin chosen.now) (Quiet ((recorded_named ∙ sym named) i) removed) ∷ []);
         records = records;
         room = subst (λ n. vec_len new.history + n ≤ vec_capacity new.history) (sym (ap (λ (s : kept.State). vec_len s.flushes) is)) room;
@@ -141,6 +146,7 @@ module _ (config : Config) (id : ℕ) (old : kept.State) (chosen : ChosenGroup) 
       → asked_of config (state_of old) chosen.t (group_state g) ≢ []
       → IsPlannedFlush config id (state_of old) chosen.t (group_state g) o
       → group_state h ≡ begun_group config chosen.t (group_state g)
+      → h.is_open ≡ true
       → new.groups.items ≡ set old.groups.items chosen.place h
       → new ≡ record old { clock = chosen.t; groups = new.groups; log = new.log; flushes = new.flushes; next_number = old.next_number + 1; history = new.history }
       → log_rows new.log ≡ log_rows old.log
@@ -151,7 +157,7 @@ module _ (config : Config) (id : ℕ) (old : kept.State) (chosen : ChosenGroup) 
       → vec_len new.history ≡ vec_len old.history + 1
       → vec_len new.history + vec_len new.flushes ≤ vec_capacity new.history
       → AppliesCall config id (entry chosen.pass (Begin chosen.now) (flush_reply o.number o.group o.deadline o.notices.items)) old new
-  accepts_flush h o new some planned marked put is rows keeps asked flushes history records room =
+  accepts_flush h o new some planned marked open_now put is rows keeps asked flushes history records room =
       let all_asked = asked_of config (state_of old) chosen.t (group_state g) in
       let named_as_before : h.name ≡ g.name = ap (λ (x : GroupState). x.name) marked in
       let groups = ap (map group_state) put ∙ groups_after (begun_group config chosen.t) h marked in
@@ -180,6 +186,12 @@ module _ (config : Config) (id : ℕ) (old : kept.State) (chosen : ChosenGroup) 
             subst (λ fs. All (IsPrepared config new.log) fs) (sym flushes)
             (All-append (IsPrepared config new.log) old.flushes.items (o.flush ∷ []) (prepared_kept config old.log new.log keeps old.flushes.items good.prepared)
             (All-cons (IsPrepared config new.log) o.flush [] prepared (All-nil (IsPrepared config new.log))));
+        marked = λ n.
+            ap (λ gs. is_marked (marks_of gs) n) put
+            ∙ (marked_open old.groups.items chosen.place h takes.place open_now (named_as_before ∙ sym (ap (λ (x : Group). x.name) (takes.group h))) n
+            ∙ (ap (λ b. b || same_name n h.name) (good.marked n)
+            ∙ (ap (λ m. is_flushing (map flush_state old.flushes.items) n || same_name n m) (named_as_before ∙ sym of_group)
+            ∙ sym (ap (λ fs. is_flushing (map flush_state fs) n) flushes ∙ flushing_more old.flushes.items o.flush n))));
         history =
             history
             ∙ (λ i. old.history.items ++ entry chosen.pass (Begin chosen.now) (Flush ((planned.recorded_group ∙ sym planned.group) i) (planned.recorded i)) ∷ []);

@@ -1,22 +1,14 @@
 -- The group that is due first: what a walk from the last group to the first has found.
-use Rattle.std.proofs.Common.{◌≡◌, ℕ, ◌+◌, ◌<◌, true, false, cond, ◌||◌, Option, Some, None, List, [], ◌∷◌, length, map, filter, get_or, drop, refl, sym, ap, ◌∙◌, add-one}
-use Rattle.std.specs.List.{list_any}
+use Rattle.std.proofs.Common.{◌≡◌, ℕ, ◌+◌, ◌<◌, true, false, cond, Option, Some, None, List, ◌∷◌, length, map, filter, get_or, drop, sym, ap, ◌∙◌, add-one}
 use Rattle.std.specs.Option.{option_map}
 use Rattle.std.proofs.Math.Seq.{drop-cons}
 use Rattle.std.proofs.lemmas.List.{get_or_default}
 use Rattle.am_model.specs.Begin.{due_cmp}
-use Rattle.am_board.specs.Refinement.{group_state, flush_state}
+use Rattle.am_board.specs.Refinement.{group_state}
 use Rattle.am_model.specs.Lists.{lesser, least}
-use Rattle.am_model.specs.State.{GroupState, FlushState, same_name, is_flushing}
+use Rattle.am_model.specs.State.{GroupState, FlushState}
 use Rattle.am_board.specs.Beginning.{may_take, first_of, IsFirst}
-use Rattle.am_board.specs.declared.flush.OpenFlush.{OpenFlush}
 use Rattle.am_board.specs.declared.group.Group.{Group}
-use Rattle.am_model.specs.declared.group.GroupName.{GroupName}
-
--- a flush of a group is open where a kept one is of it
-pub is_flushing-kept : (flushes : List OpenFlush) (name : GroupName) → is_flushing (map flush_state flushes) name ≡ list_any (λ f. same_name name f.group) flushes
-is_flushing-kept [] name = refl
-is_flushing-kept (f ∷ fs) name = ap (λ b. same_name name f.group || b) (is_flushing-kept fs name)
 
 -- the groups from a place on, where that one is `r`
 later : (flushes : List FlushState) (t : ℕ) (groups : List Group) (i j : ℕ) (d r : Group) → j < length groups → i ≡ j + 1 → r ≡ get_or groups j r

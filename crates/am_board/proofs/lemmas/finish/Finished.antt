@@ -1,5 +1,5 @@
 -- A finish that did its parts is the finish of the definitions.
-use Rattle.std.proofs.Common.{◌≡◌, ℕ, ◌+◌, ◌<◌, ◌≤◌, ◌==◌, min, max, Some, List, [], ◌∷◌, ◌++◌, length, map, get_or, count_by, sym, ap, ◌∙◌, subst, arith, vec_len, vec_capacity}
+use Rattle.std.proofs.Common.{◌≡◌, ℕ, ◌+◌, ◌<◌, ◌≤◌, ◌==◌, ◌&&◌, not, min, max, Some, List, [], ◌∷◌, ◌++◌, length, map, get_or, count_by, sym, ap, ◌∙◌, subst, arith, vec_len, vec_capacity}
 use Rattle.std.specs.Prelude.{All, IsPermutation}
 use Rattle.std.specs.List.{remove}
 use Rattle.std.specs.Option.{option_map}
@@ -13,10 +13,11 @@ use Rattle.am_board.specs.Refinement.{IsPrepared, EqualUpToRowOrder, flush_state
 use Rattle.am_board.specs.LogRows.{log_rows}
 use Rattle.am_model.specs.Lists.{without, changed_where}
 use Rattle.am_board.specs.Finishing.{logged_of, rows_with, KnowTheSame}
-use Rattle.am_model.specs.State.{is_named, members_in, moment, flush_numbered}
+use Rattle.am_model.specs.State.{is_flushing, is_named, members_in, moment, flush_numbered, same_name}
 use Rattle.am_board.specs.Step.{StateInvariant, AppliesCall}
 use Rattle.am_model.specs.declared.config.Config.{Config}
 use Rattle.am_board.specs.declared.flush.OpenFlush.{OpenFlush}
+use Rattle.am_model.specs.declared.group.GroupName.{GroupName}
 use Rattle.am_model.specs.declared.record.Call.TheVariants.{Finish}
 use Rattle.am_model.specs.declared.record.Finished.{Finished}
 use Rattle.am_model.specs.declared.record.Record.{Record}
@@ -24,6 +25,8 @@ use Rattle.am_model.specs.declared.record.Reply.TheVariants as replies
 use Rattle.am_board.specs.declared.state.State as kept
 use Rattle.am_model.proofs.lists.Alone.{without-alone}
 use Rattle.am_board.proofs.lemmas.finish.Flushes.{open-alone, open-found, open-prepared, rows_with-prepared, all_prepared, All-remove, map-remove}
+use Rattle.am_board.specs.Marks.{is_marked, marks_of}
+use Rattle.am_board.proofs.lemmas.invariant.OpenFlushes.{flushing_removed}
 
 -- what the parts of a finish did: the clock was set, the flush taken out, the alerts that leave too, and the rows put
 pub record IsFinished (config : Config) (old new : kept.State) (o : OpenFlush) (f now : ℕ) (outcomes : List (ℕ × Outcome)) (result : Finished) (r : Record) : Type 0 where
@@ -31,6 +34,7 @@ pub record IsFinished (config : Config) (old new : kept.State) (o : OpenFlush) (
   pub inserts : new.inserts ≡ old.inserts
   pub known : new.known ≡ old.known
   pub names : names_of new.groups.items ≡ names_of old.groups.items
+  pub marks : (n : GroupName) → is_marked (marks_of new.groups.items) n ≡ (is_marked (marks_of old.groups.items) n && not (same_name n o.group))
   pub groups : map group_state new.groups.items ≡ changed_where (is_named o.group) (finished_group outcomes (flush_state o)) (map group_state old.groups.items)
   pub removed : result.removed ≡ count_by (leaves_by outcomes (flush_state o)) (members_in (map group_state old.groups.items) o.group)
   pub silences : new.silences ≡ old.silences
@@ -83,6 +87,10 @@ module _ (config : Config) (id : ℕ) (old new : kept.State) (f : ℕ) (o : Open
         state = subst (λ g. EqualUpToRowOrder (state_of new) (after_finish_of config (state_of old) (moment (state_of old) now) outcomes g)) (sym found) (state done);
         routed = subst (λ names. All (λ n. n.route ≤ last_of config.routes) names) (sym done.names) good.routed;
         prepared = subst (All (IsPrepared config new.log)) (sym done.flushes) (All-remove (IsPrepared config new.log) old.flushes.items f (all_prepared config old.log new.log old.flushes.items done.keys good.prepared));
+        marked = λ n.
+            done.marks n
+            ∙ (ap (λ b. b && not (same_name n o.group)) (good.marked n)
+            ∙ sym (ap (λ fs. is_flushing (map flush_state fs) n) done.flushes ∙ flushing_removed old.flushes.items f o within is good.consistent.flushes n));
         history = done.history;
         records = done.records;
         room = omega (arith, good.room, done.less, done.records, done.room);

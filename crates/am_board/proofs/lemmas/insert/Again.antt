@@ -31,6 +31,8 @@ use Rattle.am_board.proofs.lemmas.insert.GroupRoom.{named_at}
 use Rattle.am_board.proofs.lemmas.insert.Inserting.{missing_is}
 use Rattle.am_board.proofs.lemmas.insert.Placing.{put_group_at}
 use Rattle.am_board.proofs.lemmas.invariant.GroupNames.{names_set}
+use Rattle.am_board.specs.Marks.{marks_of}
+use Rattle.am_board.proofs.lemmas.invariant.Marks.{marks_set}
 
 not_false : (b : Bool) → not b ≡ false → b ≡ true
 not_false true e = refl
@@ -95,6 +97,7 @@ module _ (config : Config) (t : ℕ) (m : MemberState) (old mid new : GroupList)
       record {
         there = subst (All Is) (sym all) there;
         names = ap names_of group.items ∙ names_set mid.items spot.group group.to group.from (group.name ∙ ap (λ (g : Group). g.name) group.was) ∙ put.names;
+        marks = ap marks_of group.items ∙ marks_set mid.items spot.group group.to group.from (group.name ∙ ap (λ (g : Group). g.name) group.was) (group.changed.is_open ∙ ap (λ (g : Group). g.is_open) group.was) ∙ put.marks;
         labels = sets ∙ put.labels;
         state =
             ap (map group_state) group.items

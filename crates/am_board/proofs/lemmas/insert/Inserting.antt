@@ -18,10 +18,11 @@ use Rattle.am_board.specs.declared.state.State as kept
 use Rattle.am_model.specs.Causes.{insert_cause, is_full, is_name_too_many, makes_too_many}
 use Rattle.am_model.specs.Insert.{names_for, same_alert, inserted, after_insert}
 use Rattle.am_board.specs.Group.{AreRouted}
-use Rattle.am_board.specs.Refinement.{state_of, group_state, IsPrepared}
+use Rattle.am_board.specs.Marks.{is_marked}
+use Rattle.am_board.specs.Refinement.{state_of, flush_state, group_state, IsPrepared}
 use Rattle.am_board.specs.Inserting.{IsReservedState, IsPlacementOf, AreFound, IsEmptyWithRoom, IsFound, IsToPut, place_in, target_of, stamped_alert}
 use Rattle.am_alerts.specs.RoutingTree.{RoutingTree}
-use Rattle.am_model.specs.State.{State, MemberState, moment, has_group, is_named, same_name}
+use Rattle.am_model.specs.State.{State, is_flushing, MemberState, moment, has_group, is_named, same_name}
 use Rattle.am_board.specs.Step.{StateInvariant, LeavesUnchanged, IsAnswer}
 use Rattle.am_model.proofs.lists.Distinct.{all_to, all-weaker}
 use Rattle.am_model.proofs.lists.Places.{none_any, position-map, count_told, count_alike}
@@ -119,6 +120,7 @@ stays_reserved config old new good kept =
       state = kept.state;
       routed = subst (AreRouted config.routes) (sym kept.names) good.routed;
       prepared = subst (λ (fs : Vec OpenFlush Global). All (IsPrepared config new.log) fs.items) (sym kept.flushes) logged;
+      marked = λ name. ap (λ ms. is_marked ms name) kept.marks ∙ (good.marked name ∙ ap (λ (fs : Vec OpenFlush Global). is_flushing (map flush_state fs.items) name) (sym kept.flushes));
       history = kept.history;
       records = kept.records;
       room = omega (arith, good.room, kept.records, kept.capacity, ap (λ (fs : Vec OpenFlush Global). vec_len fs) kept.flushes);

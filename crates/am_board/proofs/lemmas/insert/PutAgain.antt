@@ -8,7 +8,8 @@ use Rattle.am_model.specs.Lists.{upsert}
 use Rattle.am_model.specs.Laws.{IsConsistent}
 use Rattle.am_model.specs.Records.{entry}
 use Rattle.am_model.specs.Replay.{reply, after}
-use Rattle.am_model.specs.State.{State}
+use Rattle.am_model.specs.State.{State, is_flushing}
+use Rattle.am_board.specs.Marks.{is_marked}
 use Rattle.am_model.specs.declared.config.Config.{Config}
 use Rattle.am_model.specs.declared.fault.Fault.{Fault}
 use Rattle.am_model.specs.declared.record.Call.TheVariants as call
@@ -54,6 +55,7 @@ applies_again config old mid pass now alert told pushed good put items counted r
       state = agrees_same _ _ put.state;
       routed = subst (AreRouted config.routes) (sym put.names) good.routed;
       prepared = subst (λ (fs : Vec OpenFlush Global). All (IsPrepared config mid.log) fs.items) (sym put.flushes) logged;
+      marked = λ name. ap (λ ms. is_marked ms name) put.marks ∙ (good.marked name ∙ ap (λ (fs : Vec OpenFlush Global). is_flushing (map flush_state fs.items) name) (sym put.flushes));
       history = items ∙ ap (λ (rs : List Record). rs ++ r ∷ []) put.history;
       records = omega (arith, counted, put.records);
       room = omega (arith, counted, room, put.room);
@@ -71,6 +73,7 @@ module _ (config : Config) (old mid : kept.State) (held : IsReservedState old mi
         numbers = subst (λ n. n ≤ MAX_CALLS + 1) (sym (ap (λ (s : State). s.next_number) held.state)) good.numbers;
         routed = still.routed;
         prepared = still.prepared;
+        marked = still.marked;
         room = still.room;
         few = good.few;
         retention = good.retention;
@@ -82,6 +85,7 @@ module _ (config : Config) (old mid : kept.State) (held : IsReservedState old mi
     state = subst (λ s. EqualUpToRowOrder (state_of new) (after config s r)) held.state applied.state;
     routed = applied.routed;
     prepared = applied.prepared;
+    marked = applied.marked;
     history = applied.history ∙ ap (λ (rs : List Record). rs ++ r ∷ []) held.history;
     records = omega (arith, applied.records, held.records);
     room = applied.room;
@@ -92,6 +96,7 @@ module _ (config : Config) (old mid : kept.State) (held : IsReservedState old mi
     state = left.state ∙ held.state;
     routed = left.routed;
     prepared = left.prepared;
+    marked = left.marked;
     history = left.history ∙ held.history;
     records = left.records ∙ held.records;
     room = left.room;

@@ -1,5 +1,5 @@
 -- What each accepted or refused call leaves of a board.
-use Rattle.std.proofs.Common.{◌≡◌, ◌+◌, ◌*◌, ◌≤◌, false, Option, Some, None, List, [], ◌∷◌, ◌++◌, drop, length, vec_len, refl, sym, ap, ◌∙◌, subst, arith, append_assoc, length-append}
+use Rattle.std.proofs.Common.{map, ◌≡◌, ◌+◌, ◌*◌, ◌≤◌, false, Option, Some, None, List, [], ◌∷◌, ◌++◌, drop, length, vec_len, refl, sym, ap, ◌∙◌, subst, arith, append_assoc, length-append}
 use Rattle.std.specs.Prelude.{sum_by, All}
 use Rattle.std.proofs.lemmas.List.Elements.{All-nil}
 use Rattle.am_alerts.specs.RoutingTree.{last_of}
@@ -21,7 +21,8 @@ use Rattle.am_board.specs.Board.{IsSound, whole}
 use Rattle.am_board.specs.Refinement.{state_of, flush_state, EqualUpToRowOrder, IsNew, IsPrepared}
 use Rattle.am_model.specs.Laws.{IsConsistent}
 use Rattle.am_model.specs.Replay.{reply, after, after_call, replay, IsLegal}
-use Rattle.am_model.specs.State.{State, opening_state}
+use Rattle.am_model.specs.State.{State, is_flushing, opening_state}
+use Rattle.am_board.specs.declared.flush.OpenFlush.{OpenFlush}
 use Rattle.am_board.specs.Step.{MAX_CALLS, StateInvariant, AppliesCall, LeavesUnchanged}
 use Rattle.am_board.proofs.lemmas.invariant.GroupNameCache.{kept_after}
 use Rattle.am_board.proofs.lemmas.invariant.Learnt.{learnt_after}
@@ -32,6 +33,7 @@ use Rattle.am_model.proofs.legal.FewGroups.{IsInsert, few_others}
 use Rattle.am_model.proofs.legal.FewKnown.{IsSilence, IsForget, fewer_others}
 use Rattle.am_model.proofs.configuration.Faultless.{few_integrations, retention_within}
 use Rattle.am_model.proofs.legal.Histories.{replay_appends, legal_appends}
+use Rattle.am_board.specs.Marks.{is_marked, marks_of}
 
 -- how many flushes are open, as the state tells it
 pub opened_now : (s : kept.State) → vec_len s.flushes ≡ length (state_of s).flushes
@@ -98,6 +100,7 @@ module _ (b : Inside) (sound : IsSound b) where
         numbers = omega (arith, few.next_number, numbers, few_calls);
         routed = sound.routed;
         prepared = sound.prepared;
+        marked = sound.marked;
         room = sound.room;
       }
 
@@ -156,6 +159,7 @@ module _ (b : Inside) (sound : IsSound b) where
           room = accepts.room;
           routed = accepts.routed;
           prepared = accepts.prepared;
+          marked = accepts.marked;
           sources = learnt;
           destinations = named;
         }
@@ -195,6 +199,7 @@ module _ (b : Inside) (sound : IsSound b) where
           room = stays.room;
           routed = stays.routed;
           prepared = stays.prepared;
+          marked = stays.marked;
           sources = subst (λ (s : State). AreLearnt b.config.rules s.known b.sources) (sym stays.state) sound.sources;
           destinations = subst (λ (s : State). AreKept b.config s.known b.destinations) (sym stays.state) sound.destinations;
         }
@@ -219,6 +224,7 @@ sound_learnt b sources destinations learnt kept sound =
       room = sound.room;
       routed = sound.routed;
       prepared = sound.prepared;
+      marked = sound.marked;
       sources = learnt;
       destinations = kept;
     }
@@ -245,6 +251,7 @@ new_sound b learnt names configured few limits new none nothing =
       room = omega (arith, new.unflushed, new.records);
       routed = subst (λ (gs : List Group). AreRouted config.routes (names_of gs)) (sym new.groups) (All-nil (λ (n : GroupName). n.route ≤ last_of config.routes));
       prepared = subst (All (IsPrepared config s.log)) (sym new.flushes) (All-nil (IsPrepared config s.log));
+      marked = λ name. ap (λ (gs : List Group). is_marked (marks_of gs) name) new.groups ∙ sym (ap (λ (fs : List OpenFlush). is_flushing (map flush_state fs) name) new.flushes);
       sources = learnt;
       destinations = names;
     }

@@ -37,7 +37,7 @@ has_room config s room =
 
 -- nothing changed
 pub stays_itself : (config : Config) (s : kept.State) → StateInvariant config s → LeavesUnchanged config s s
-stays_itself config s good = record { state = refl; routed = good.routed; prepared = good.prepared; history = refl; records = refl; room = good.room }
+stays_itself config s good = record { state = refl; routed = good.routed; prepared = good.prepared; marked = good.marked; history = refl; records = refl; room = good.room }
 
 -- states that are one agree
 pub agrees_same : (a b : State) → a ≡ b → EqualUpToRowOrder a b

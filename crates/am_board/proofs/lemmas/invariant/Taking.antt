@@ -66,6 +66,7 @@ module _ (b : Inside) (sound : IsSound b) (now : BoardData) (view_is : seen b b.
           room = omega (arith, empty, room);
           routed = sound.routed;
           prepared = sound.prepared;
+          marked = sound.marked;
           sources = sound.sources;
           destinations = sound.destinations;
         }

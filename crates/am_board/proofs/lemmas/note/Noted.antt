@@ -26,7 +26,7 @@ use Rattle.am_model.specs.Lists.{changed_where}
 use Rattle.am_board.specs.Finishing.{row_for, without_sets, KnowTheSame, IsReadyAt, IsNotedAt}
 use Rattle.am_model.specs.Note.{is_ready, asked_by, may_be_noted, may_note, as_noted, with_note, after_note, after_note_of, noted}
 use Rattle.am_board.specs.Noting.{IsNoteTarget}
-use Rattle.am_model.specs.State.{AskedState, at_moment, moment, flush_numbered}
+use Rattle.am_model.specs.State.{is_flushing, AskedState, at_moment, moment, flush_numbered}
 use Rattle.am_board.specs.Step.{StateInvariant, AppliesCall, IsNoteAnswer}
 use Rattle.am_model.specs.declared.config.Config.{Config}
 use Rattle.am_model.specs.declared.fault.NoteFault.{NoteFault}
@@ -44,6 +44,8 @@ use Rattle.am_model.proofs.lists.Alone.{IsAlone, changed_where-alone, alone-dist
 use Rattle.am_board.proofs.lemmas.finish.Flushes.{open-alone, at_place, row_for-prepared, all_prepared, prepared-of, open-prepared}
 use Rattle.am_board.proofs.lemmas.note.Noting.{asked-found, flush-found, notice-found}
 use Rattle.am_model.proofs.states.Alike.{same_asked_equiv}
+use Rattle.am_board.specs.Marks.{is_marked, marks_of}
+use Rattle.am_board.proofs.lemmas.invariant.OpenFlushes.{flushing_set}
 
 -- ---- an element that a place is of
 
@@ -219,6 +221,9 @@ module _ (config : Config) (id : ℕ) (old new : kept.State) (ticket : TicketDat
         routed = subst (λ (groups : GroupList). AreRouted config.routes (names_of groups.items)) (sym done.groups) good.routed;
         prepared = subst (All (IsPrepared config new.log)) (sym done.flushes)
             (All-set (IsPrepared config new.log) old.flushes.items n.flush onew (prepared-noted config new.log o onew n.asked d there.1 done.noted (prepared-of config old.log new.log o done.keys ready)) (all_prepared config old.log new.log old.flushes.items done.keys good.prepared));
+        marked = λ name.
+            ap (λ (groups : GroupList). is_marked (marks_of groups.items) name) done.groups
+            ∙ (good.marked name ∙ sym (ap (λ fs. is_flushing (map flush_state fs) name) done.flushes ∙ flushing_set old.flushes.items n.flush onew o is done.noted.group name));
         history = done.history;
         records = done.records;
         room = done.room;

@@ -42,6 +42,7 @@ returns c =
         };
         routed = c.requires.good.routed;
         prepared = prepared-knowing config old.log c.put_row.new.log old.flushes.items c.in_ok-loaded.ensures.known c.requires.good.prepared;
+        marked = c.requires.good.marked;
         history = c.push_reserved.ensures.items
             ∙ ap (λ h. h ++ entry c.args.pass (Load c.args.now c.in_ok-row.row) (replies.Loaded c.in_ok-loaded.loaded) ∷ []) c.in_ok-reserve.ensures.items
             ∙ ap (λ r. old.history.items ++ entry c.args.pass (Load c.args.now r) (replies.Loaded c.in_ok-loaded.loaded) ∷ []) c.in_ok-row.ensures;

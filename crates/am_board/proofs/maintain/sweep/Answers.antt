@@ -15,6 +15,9 @@ use Rattle.am_board.proofs.lemmas.invariant.LogRows.{log_rows-collected, expired
 use Rattle.am_board.proofs.lemmas.maintain.Maintenance.{prepared-collected}
 use Rattle.am_board.proofs.lemmas.invariant.Staying.{not_full}
 use Rattle.am_board.proofs.maintain.sweep.Goals as goal
+use Rattle.am_board.specs.Marks.{is_marked, marks_of}
+use Rattle.am_board.proofs.lemmas.invariant.Marks.{marked_without}
+use Rattle.am_board.proofs.lemmas.maintain.Deserted.{deserted_closed}
 
 with_groups : (s : State) (rows : List RowView) (t u : ℕ) (gs hs : List GroupState) → t ≡ u → gs ≡ hs → ◌≡◌ {A = State} (record s { clock = t; groups = gs; rows = rows }) (record s { clock = u; groups = hs; rows = rows })
 with_groups s rows t u gs hs e f = λ i. record s { clock = e i; groups = f i; rows = rows }
@@ -40,6 +43,9 @@ returns c =
         };
         routed = c.drop_deserted.ensures.routed c.args.config.now.routes c.requires.good.routed;
         prepared = subst (λ log. All (IsPrepared c.args.config.now log) old.flushes.items) (sym c.collect.ensures.collected) (prepared-collected c.args.config.now t old.log old.flushes.items c.requires.good.prepared);
+        marked = λ name.
+            ap (λ gs. is_marked (marks_of gs) name) c.drop_deserted.ensures.kept
+            ∙ (marked_without old.groups.items (deserted_closed c.args.config.now old c.requires.good) name ∙ c.requires.good.marked name);
         history = c.push_reserved.ensures.items ∙ ap (λ h. h ++ entry c.args.pass (Maintain c.args.now) (Maintained (record { groups = c.drop_deserted.result; entries = c.collect.result })) ∷ []) c.in_ok-reserve.ensures.items;
         records = omega arith;
         room = omega (arith, c.in_ok-reserve.ensures.ok, c.in_ok-reserve.ensures.len, c.push_reserved.ensures.len, c.push_reserved.ensures.capacity, c.len.ensures);

@@ -1,6 +1,8 @@
-use Rattle.std.proofs.Common.{◌≡◌, ◌∙◌, ◌+◌, ◌≤◌, ◌++◌, ◌∷◌, [], Some, None, map, vec_len, vec_capacity, nat_eq, refl, sym, ap, subst, arith, rules, if◌then◌else◌}
+use Rattle.std.proofs.Common.{◌≡◌, ◌∙◌, ◌+◌, ◌≤◌, ◌++◌, ◌∷◌, [], List, Some, None, map, vec_len, vec_capacity, nat_eq, refl, sym, ap, subst, arith, rules, if◌then◌else◌}
 use Rattle.std.specs.Prelude.{IfErr, slice_get}
 use Rattle.std.specs.Vec.{with_item}
+use Rattle.std.specs.List.{IsDistinct}
+use Rattle.am_model.specs.Laws.{same_number}
 use Rattle.am_model.specs.Causes.{is_full, flush_cause}
 use Rattle.am_model.specs.Records.{entry}
 use Rattle.am_board.specs.Refinement.{flush_state, state_of}
@@ -51,6 +53,7 @@ returns-then-is_err c =
         state = refl;
         routed = c.requires.good.routed;
         prepared = c.requires.good.prepared;
+        marked = c.requires.good.marked;
         history = c.reserve.ensures.items;
         records = c.reserve.ensures.len;
         room = omega (arith, c.requires.good.room, c.reserve.ensures.len, c.reserve.ensures.capacity);
@@ -107,3 +110,7 @@ returns c =
             }),
       ),
     )
+
+pub find_noting-requires : goal.find_noting-requires
+find_noting-requires c =
+    subst (λ (fs : List OpenFlush). IsDistinct same_number (map flush_state fs)) (sym c.as_slice.ensures.value) c.requires.good.consistent.numbers

@@ -1,4 +1,10 @@
-use Rattle.std.proofs.Common.{◌<◌, length}
+use Rattle.std.proofs.Common.{◌∙◌, ◌<◌, Some, length, map, sym, ap}
+use Rattle.std.specs.Option.{option_map}
+use Rattle.am_model.specs.State.{GroupState}
+use Rattle.am_model.specs.declared.preview.Preview.{Preview}
+use Rattle.am_model.specs.look_back.Preview.{preview_at, preview_on, reason_of}
+use Rattle.am_board.specs.Refinement.{flush_state, group_state, state_of}
+use Rattle.am_board.specs.declared.group.Group.{Group}
 use Rattle.am_board.proofs.lemmas.begin.PlannedFlushes.{members-apart}
 use Rattle.am_board.proofs.lemmas.invariant.GroupNames.{routed_at}
 use Rattle.am_board.proofs.preview.preview_of.Goals as goal
@@ -14,3 +20,20 @@ of-requires-clause-route c =
 pub of-requires-clause-apart : goal.of-requires-clause-apart
 of-requires-clause-apart c =
     members-apart c.args.state.now.groups.items c.in-Some.place c.at-group.result.now c.requires.good.consistent.members (within c) c.at-group.ensures
+
+pub returns-in_default : goal.returns-in_default
+returns-in_default c =
+    let s = state_of c.args.state.now in
+    let config = c.args.config.now in
+    sym (ap (λ t. preview_at config s t) (sym c.moment-t.ensures)
+    ∙ ap (option_map (preview_on config s c.moment-t.result (reason_of config s c.moment-t.result))) (c.in_default.ensures.first (map flush_state c.args.state.now.flushes.items) c.requires.good.marked))
+
+pub returns : goal.returns
+returns c =
+    let s = state_of c.args.state.now in
+    let config = c.args.config.now in
+    let g : Group = c.at-group.result.now in
+    let on : GroupState → Preview = preview_on config s c.moment-t.result (reason_of config s c.moment-t.result) in
+    ap (λ (p : Preview). Some p) (c.in_ok-found.ensures.preview ∙ ap (λ (x : Group). on (group_state x)) c.at-group.ensures)
+    ∙ sym (ap (λ t. preview_at config s t) (sym c.moment-t.ensures)
+    ∙ ap (option_map on) (c.in-Some.ensures.first (map flush_state c.args.state.now.flushes.items) c.requires.good.marked g))

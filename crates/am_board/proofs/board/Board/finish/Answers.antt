@@ -1,4 +1,7 @@
-use Rattle.std.proofs.Common.{◌≡◌, None, ap, ◌∙◌, subst, arith}
+use Rattle.std.proofs.Common.{◌≡◌, None, List, map, sym, ap, ◌∙◌, subst, arith}
+use Rattle.std.specs.List.{IsDistinct}
+use Rattle.am_model.specs.Laws.{same_number}
+use Rattle.am_board.specs.Refinement.{flush_state}
 use Rattle.std.specs.Prelude.{◌==◌, position}
 use Rattle.am_board.specs.declared.flush.OpenFlush.{OpenFlush}
 use Rattle.am_model.specs.State.{flush_numbered}
@@ -37,3 +40,7 @@ returns-clause-reply c =
 pub returns-clause-not_open : goal.returns-clause-not_open
 returns-clause-not_open c =
     (λ e. absurd e, λ h. not_none _ _ _ (returns-clause-reply c) h.1)
+
+pub find_flush-requires : goal.find_flush-requires
+find_flush-requires c =
+    subst (λ (fs : List OpenFlush). IsDistinct same_number (map flush_state fs)) (sym c.as_slice.ensures.value) (good c.self.inside c.self.invariant).consistent.numbers

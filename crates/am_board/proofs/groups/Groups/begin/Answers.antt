@@ -5,16 +5,20 @@ use Rattle.am_board.proofs.lemmas.insert.GroupRoom.{changes_at}
 use Rattle.am_board.proofs.lemmas.invariant.DueKeys.{had_at, tied_change}
 use Rattle.am_board.proofs.groups.Groups.begin.Goals as goal
 
+-- a group with an open flush
+abbrev opened : Group → Group
+opened g = record g { is_open = true }
+
 pub change-requires : goal.change-requires
 change-requires c =
     had_at c.self.inside.due c.self.inside.groups.entries c.args.i c.index_mut-group.result.now c.mark_begun.new.group.name c.self.invariant c.index_mut-group.ensures.value (ap (λ (g : Group). g.name) c.mark_begun.ensures)
 
 pub invariant_of-self : goal.invariant_of-self
 invariant_of-self c =
-    tied_change c.self.inside.due c.change.new.self c.self.inside.groups.entries c.args.i c.index_mut-group.result.now c.mark_begun.new.group c.mark_begun.new.group.name c.args.due c.self.invariant c.index_mut-group.ensures.value
+    tied_change c.self.inside.due c.change.new.self c.self.inside.groups.entries c.args.i c.index_mut-group.result.now (opened c.mark_begun.new.group) c.mark_begun.new.group.name c.args.due c.self.invariant c.index_mut-group.ensures.value
     (ap (λ (g : Group). g.name) c.mark_begun.ensures) (ap (λ (g : Group). g.name) c.mark_begun.ensures) (ap (λ (g : Group). g.due) c.mark_begun.ensures) c.change.ensures.has c.change.ensures.keeps
 
 pub returns : goal.returns
 returns c =
     changes_at c.self.inside.groups.entries (spare c.self.inside.groups) c.args.self.now c.self.view_is c.args.i c.index_mut-group.result.now c.index_mut-group.ensures.value
-    (λ from to. to ≡ record from { due = c.args.due; flushed = true }) c.mark_begun.new.group (ap (λ (g : Group). g.name) c.mark_begun.ensures) (c.mark_begun.ensures)
+    (λ from to. to ≡ record from { due = c.args.due; flushed = true; is_open = true }) (opened c.mark_begun.new.group) (ap (λ (g : Group). g.name) c.mark_begun.ensures) (ap opened c.mark_begun.ensures)

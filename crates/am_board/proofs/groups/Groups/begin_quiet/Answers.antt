@@ -7,6 +7,11 @@ use Rattle.am_board.proofs.lemmas.insert.GroupRoom.{changes_at, lent_as}
 use Rattle.am_board.proofs.lemmas.invariant.DueKeys.{had_at, tied_change}
 use Rattle.am_model.specs.Begin.{count_resolved, without_resolved}
 use Rattle.am_board.proofs.groups.Groups.begin_quiet.Goals as goal
+use Rattle.std.specs.Map.{values_of}
+use Rattle.am_board.specs.GroupList.{GroupList}
+use Rattle.am_board.specs.Marks.{marks_of}
+use Rattle.am_board.proofs.lemmas.invariant.Keyed.{value_at, values-set}
+use Rattle.am_board.proofs.lemmas.invariant.Marks.{marks_set}
 
 pub change-requires : goal.change-requires
 change-requires c =
@@ -27,3 +32,13 @@ returns-clause-count c d =
     c.take_resolved.ensures.count
     ∙ ap (λ (g : Group). count_resolved c.args.t (group_state g)) c.mark_begun.ensures
     ∙ ap (λ (g : Group). count_resolved c.args.t (group_state g)) (lent_as c.self.inside.groups.entries (spare c.self.inside.groups) c.args.self.now c.self.view_is c.args.i c.index_mut-group.result.now c.index_mut-group.ensures.value d)
+
+pub returns-clause-marks : goal.returns-clause-marks
+returns-clause-marks c =
+    let es = c.self.inside.groups.entries in
+    let was = c.index_mut-group.result.now in
+    let now = c.take_resolved.new.group in
+    let there = (value_at (values_of es) c.args.i was c.index_mut-group.ensures.value).0 in
+    ap marks_of (values-set es c.args.i now)
+    ∙ marks_set (values_of es) c.args.i now was ((ap (λ (g : GroupState). g.name) c.take_resolved.ensures.group ∙ ap (λ (g : Group). g.name) c.mark_begun.ensures) ∙ ap (λ (g : Group). g.name) there) ((c.take_resolved.ensures.opened ∙ ap (λ (g : Group). g.is_open) c.mark_begun.ensures) ∙ ap (λ (g : Group). g.is_open) there)
+    ∙ ap (λ (k : GroupList). marks_of k.items) c.self.view_is

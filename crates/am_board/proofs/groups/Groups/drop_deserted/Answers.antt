@@ -63,3 +63,8 @@ returns-clause-routed c tree routed =
     let before = subst (λ (k : GroupList). AreRouted tree (names_of k.items)) (sym c.self.view_is) routed in
     subst (λ gs. AreRouted tree (names_of gs)) (sym (left ((goal.at.returns-clause-routed c).After-retain)))
     (All-map_filter (λ (n : GroupName). n.route ≤ last_of tree) (λ g. not (is_deserted (group_state g))) (λ (g : Group). g.name) (values_of es) before)
+
+pub returns-clause-kept : goal.returns-clause-kept
+returns-clause-kept c =
+    left ((goal.at.returns-clause-kept c).After-retain)
+    ∙ ap (λ (k : GroupList). filter (λ g. not (is_deserted (group_state g))) k.items) c.self.view_is

@@ -18,4 +18,4 @@ invariant_of-self c =
 pub returns : goal.returns
 returns c =
     changes_at c.self.inside.groups.entries (spare c.self.inside.groups) c.args.self.now c.self.view_is c.args.i c.index_mut-group.result.now c.index_mut-group.ensures.value
-    (Gets (member_state c.args.member) c.args.wait c.args.t) c.insert.new.self (c.insert.ensures.name) (record { room = c.insert.ensures.room; state = c.insert.ensures.state })
+    (Gets (member_state c.args.member) c.args.wait c.args.t) c.insert.new.self (c.insert.ensures.name) (record { is_open = c.insert.ensures.opened; room = c.insert.ensures.room; state = c.insert.ensures.state })

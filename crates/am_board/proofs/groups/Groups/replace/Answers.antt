@@ -23,7 +23,7 @@ pub returns-clause-group : goal.returns-clause-group
 returns-clause-group c =
     changes_at c.self.inside.groups.entries (spare c.self.inside.groups) c.args.self.now c.self.view_is c.args.spot.group c.index_mut-group.result.now c.index_mut-group.ensures.value
     (Gets (stamped_alert c.args.alert c.args.stamp) c.args.wait c.args.t) c.replace.new.self c.replace.ensures.name
-    (record { room = omega (arith, c.replace.ensures.room); state = c.replace.ensures.state })
+    (record { is_open = c.replace.ensures.opened; room = omega (arith, c.replace.ensures.room); state = c.replace.ensures.state })
 
 pub returns-clause-labels : goal.returns-clause-labels
 returns-clause-labels c =

@@ -4,6 +4,8 @@ use Rattle.am_board.specs.Group.{names_of}
 use Rattle.am_board.specs.Refinement.{group_state}
 use Rattle.am_board.specs.declared.group.Group.{Group}
 use Rattle.am_board.proofs.lemmas.invariant.GroupNames.{names_set, states_set}
+use Rattle.am_board.proofs.lemmas.invariant.Marks.{marks_set}
+use Rattle.am_board.specs.Marks.{marks_of}
 use Rattle.am_board.proofs.lemmas.insert.GroupRoom.{room_missing, room_reserved}
 use Rattle.am_board.proofs.groups.Groups.reserve_found.Goals as goal
 
@@ -11,6 +13,11 @@ pub returns-in-Some-clause-names : goal.returns-in-Some-clause-names
 returns-in-Some-clause-names c =
     let group = c.reserve_at.ensures.kept in
     ap names_of group.items ∙ names_set c.args.self.now.items c.in-Some.i group.to group.from (group.name ∙ ap (λ (g : Group). g.name) group.was)
+
+pub returns-in-Some-clause-marks : goal.returns-in-Some-clause-marks
+returns-in-Some-clause-marks c =
+    let group = c.reserve_at.ensures.kept in
+    ap marks_of group.items ∙ marks_set c.args.self.now.items c.in-Some.i group.to group.from (group.name ∙ ap (λ (g : Group). g.name) group.was) (group.changed.is_open ∙ ap (λ (g : Group). g.is_open) group.was)
 
 pub returns-in-Some-clause-states : goal.returns-in-Some-clause-states
 returns-in-Some-clause-states c =

@@ -9,6 +9,11 @@ use Rattle.std.specs.Prelude.{count_by}
 use Rattle.am_model.specs.Finish.{is_leaving}
 use Rattle.am_model.specs.Lists.{without}
 use Rattle.am_board.proofs.groups.Groups.take_leaving.Goals as goal
+use Rattle.std.specs.Map.{values_of}
+use Rattle.am_board.specs.GroupList.{GroupList}
+use Rattle.am_board.specs.Marks.{marks_of}
+use Rattle.am_board.proofs.lemmas.invariant.Keyed.{value_at, values-set}
+use Rattle.am_board.proofs.lemmas.invariant.Marks.{marks_set}
 
 pub invariant_of-self : goal.invariant_of-self
 invariant_of-self c =
@@ -22,3 +27,13 @@ returns-clause-group c =
 pub returns-clause-count : goal.returns-clause-count
 returns-clause-count c d =
     c.take_leaving.ensures.count ∙ ap (λ (g : Group). count_by (is_leaving (map stamped c.args.leaving.now)) (map member_state g.members.items)) (lent_as c.self.inside.groups.entries (spare c.self.inside.groups) c.args.self.now c.self.view_is c.args.i c.index_mut.result.now c.index_mut.ensures.value d)
+
+pub returns-clause-marks : goal.returns-clause-marks
+returns-clause-marks c =
+    let es = c.self.inside.groups.entries in
+    let was = c.index_mut.result.now in
+    let now = c.take_leaving.new.group in
+    let there = (value_at (values_of es) c.args.i was c.index_mut.ensures.value).0 in
+    ap marks_of (values-set es c.args.i now)
+    ∙ marks_set (values_of es) c.args.i now was (ap (λ (g : GroupState). g.name) c.take_leaving.ensures.group ∙ ap (λ (g : Group). g.name) there) (c.take_leaving.ensures.opened ∙ ap (λ (g : Group). g.is_open) there)
+    ∙ ap (λ (k : GroupList). marks_of k.items) c.self.view_is

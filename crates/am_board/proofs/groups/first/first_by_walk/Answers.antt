@@ -1,9 +1,10 @@
 use Rattle.std.proofs.Common.{◌≡◌, ◌-◌, Some, map, drop, ap, sym, subst, ◌∙◌, arith}
 use Rattle.std.specs.Prelude.{Option, slice_index_or}
 use Rattle.am_model.specs.Begin.{due_cmp}
-use Rattle.am_board.specs.Refinement.{group_state, flush_state}
+use Rattle.am_board.specs.Refinement.{group_state}
+use Rattle.am_board.specs.declared.group.Group.{Group}
 use Rattle.am_model.specs.Lists.{lesser}
-use Rattle.am_model.specs.State.{GroupState}
+use Rattle.am_model.specs.State.{GroupState, is_flushing}
 use Rattle.am_board.specs.Beginning.{first_of, IsFirst}
 use Rattle.am_board.proofs.lemmas.begin.FirstDue.{first_of-taken, first_of-passed, first_seen}
 use Rattle.am_board.proofs.groups.first.first_by_walk.Goals as goal
@@ -12,25 +13,25 @@ pub loop-i-preserved-then-may_begin : goal.loop-i-preserved-then-may_begin
 loop-i-preserved-then-may_begin c =
     record {
       within = c.earlier.ensures.within;
-      first = λ d.
-          first_of-taken (map flush_state c.args.flushes.now) c.args.t c.args.groups.now c.loop-i.i (c.loop-i.i - 1) d c.index-groups-i.result (omega arith) (omega arith) c.index-groups-i.is (sym c.may_begin.ensures ∙ c.if-may_begin.true)
+      first = λ fs told d.
+          first_of-taken fs c.args.t c.args.groups.now c.loop-i.i (c.loop-i.i - 1) d c.index-groups-i.result (omega arith) (omega arith) c.index-groups-i.is (sym (c.may_begin.ensures fs (subst (λ (g : Group). g.is_open ≡ is_flushing fs g.name) (sym c.index-groups-i.is) (told (c.loop-i.i - 1) c.index-groups-i.result (omega arith)))) ∙ c.if-may_begin.true)
           ∙ sym
           (ap (λ g. Some g)
           (c.earlier.ensures.lesser d
-          ∙ ap (λ o. lesser due_cmp (group_state (slice_index_or c.args.groups.now (c.loop-i.i - 1) d)) o) (first_seen c.args.groups.now c.loop-i.best (first_of (map flush_state c.args.flushes.now) c.args.t (map group_state (drop c.loop-i.i c.args.groups.now))) d c.loop-i.invariant.first)));
+          ∙ ap (λ o. lesser due_cmp (group_state (slice_index_or c.args.groups.now (c.loop-i.i - 1) d)) o) (first_seen c.args.groups.now c.loop-i.best (first_of fs c.args.t (map group_state (drop c.loop-i.i c.args.groups.now))) d (c.loop-i.invariant.first fs told))));
     }
 
 pub loop-i-preserved : goal.loop-i-preserved
 loop-i-preserved c =
     record {
       within = c.loop-i.invariant.within;
-      first =
+      first = λ fs told.
           subst (λ (o : Option GroupState). IsFirst c.args.groups.now c.loop-i.best o)
-          (sym (first_of-passed (map flush_state c.args.flushes.now) c.args.t c.args.groups.now c.loop-i.i (c.loop-i.i - 1) c.index-groups-i.result (omega arith) (omega arith) c.index-groups-i.is (sym c.may_begin.ensures ∙ c.if-may_begin.false)))
-          c.loop-i.invariant.first;
+          (sym (first_of-passed fs c.args.t c.args.groups.now c.loop-i.i (c.loop-i.i - 1) c.index-groups-i.result (omega arith) (omega arith) c.index-groups-i.is (sym (c.may_begin.ensures fs (subst (λ (g : Group). g.is_open ≡ is_flushing fs g.name) (sym c.index-groups-i.is) (told (c.loop-i.i - 1) c.index-groups-i.result (omega arith)))) ∙ c.if-may_begin.false)))
+          (c.loop-i.invariant.first fs told);
     }
 
 pub returns-clause-first : goal.returns-clause-first
-returns-clause-first c =
+returns-clause-first c fs told =
     let over : c.loop-i.i ≡ 0 = omega arith in
-    subst (λ n. IsFirst c.args.groups.now c.loop-i.best (first_of (map flush_state c.args.flushes.now) c.args.t (map group_state (drop n c.args.groups.now)))) over c.loop-i.invariant.first
+    subst (λ n. IsFirst c.args.groups.now c.loop-i.best (first_of fs c.args.t (map group_state (drop n c.args.groups.now)))) over (c.loop-i.invariant.first fs told)

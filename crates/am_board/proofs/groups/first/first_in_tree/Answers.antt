@@ -1,10 +1,11 @@
-use Rattle.std.proofs.Common.{◌≡◌, ◌∷◌, ◌++◌, [], map, sym, ap, subst, ◌∙◌}
+use Rattle.std.proofs.Common.{◌≡◌, ◌∷◌, ◌++◌, [], List, sym, ap, subst, ◌∙◌}
 use Rattle.std.specs.Iterator.Adapters.{rev_source}
 use Rattle.std.specs.List.Sorted.{IsStrictlySortedBy}
 use Rattle.std.specs.Map.{values_of}
 use Rattle.std.specs.Map.Iter.{TakesLast, deref}
 use Rattle.am_board.specs.DueOrder.{key_cmp}
-use Rattle.am_board.specs.Refinement.{flush_state}
+use Rattle.am_board.specs.Marks.{TellOpen}
+use Rattle.am_model.specs.State.{FlushState}
 use Rattle.am_board.proofs.lemmas.begin.DueWalk.{AreAhead, all_ahead, before_last, behind_last, rest_sorted, walk_ends, walk_late, walk_passes, walk_takes}
 use Rattle.am_board.proofs.groups.first.first_in_tree.Goals as goal
 use Rattle.am_board.proofs.groups.first.first_in_tree.Goals.{In-Some}
@@ -18,8 +19,8 @@ left c =
 sorted : (c : In-Some) → IsStrictlySortedBy key_cmp (rev_source c.next.new.self ++ c.in-Some.key.now ∷ [])
 sorted c = subst (IsStrictlySortedBy key_cmp) (left c) c.loop-key.invariant.2
 
-ahead : (c : In-Some) → AreAhead (map flush_state c.args.flushes.now) c.args.t (values_of c.args.groups.now.entries) c.args.tree.now.keys (rev_source c.next.new.self ++ c.in-Some.key.now ∷ [])
-ahead c = subst (AreAhead (map flush_state c.args.flushes.now) c.args.t (values_of c.args.groups.now.entries) c.args.tree.now.keys) (left c) c.loop-key.invariant.3
+ahead : (c : In-Some) (fs : List FlushState) → TellOpen fs (values_of c.args.groups.now.entries) → AreAhead fs c.args.t (values_of c.args.groups.now.entries) c.args.tree.now.keys (rev_source c.next.new.self ++ c.in-Some.key.now ∷ [])
+ahead c fs told = subst (AreAhead fs c.args.t (values_of c.args.groups.now.entries) c.args.tree.now.keys) (left c) (c.loop-key.invariant.3 fs told)
 
 pub loop-key-init : goal.loop-key-init
 loop-key-init c =
@@ -27,20 +28,20 @@ loop-key-init c =
       tt,
       tt,
       subst (IsStrictlySortedBy key_cmp) (sym all) c.iter.ensures.ordered,
-      all_ahead (map flush_state c.args.flushes.now) c.args.t (values_of c.args.groups.now.entries) c.args.tree.now.keys _ all,
+      λ fs told. all_ahead fs c.args.t (values_of c.args.groups.now.entries) c.args.tree.now.keys _ all,
     )
 
-pub returns-then-key-t : goal.returns-then-key-t
-returns-then-key-t c =
-    let at = (goal.at.returns-then-key-t c).In-Some in
-    walk_late (map flush_state c.args.flushes.now) c.args.t (values_of c.args.groups.now.entries) c.args.tree.now.keys c.in-Some.key.now _
-    (behind_last c.in-Some.key.now (rev_source c.next.new.self) (sorted at)) c.if-key-t.true (ahead at)
+pub returns-then-key-t-clause-first : goal.returns-then-key-t-clause-first
+returns-then-key-t-clause-first c fs told =
+    let at = (goal.at.returns-then-key-t-clause-first c).In-Some in
+    walk_late fs c.args.t (values_of c.args.groups.now.entries) c.args.tree.now.keys c.in-Some.key.now _
+    (behind_last c.in-Some.key.now (rev_source c.next.new.self) (sorted at)) c.if-key-t.true (ahead at fs told)
 
-pub returns-in-Some-free_place : goal.returns-in-Some-free_place
-returns-in-Some-free_place c =
-    let at = (goal.at.returns-in-Some-free_place c).In-Some in
-    walk_takes (map flush_state c.args.flushes.now) c.args.t (values_of c.args.groups.now.entries) c.args.tree.now.keys c.in-Some.key.now _ c.in-Some-free_place.place
-    (behind_last c.in-Some.key.now (rev_source c.next.new.self) (sorted at)) c.in-Some-free_place.ensures c.if-key-t.false (ahead at)
+pub returns-in-Some-free_place-clause-first : goal.returns-in-Some-free_place-clause-first
+returns-in-Some-free_place-clause-first c fs told =
+    let at = (goal.at.returns-in-Some-free_place-clause-first c).In-Some in
+    walk_takes fs c.args.t (values_of c.args.groups.now.entries) c.args.tree.now.keys c.in-Some.key.now _ c.in-Some-free_place.place
+    (behind_last c.in-Some.key.now (rev_source c.next.new.self) (sorted at)) (c.in-Some-free_place.ensures.free fs told) c.if-key-t.false (ahead at fs told)
 
 pub loop-key-preserved : goal.loop-key-preserved
 loop-key-preserved c =
@@ -48,14 +49,14 @@ loop-key-preserved c =
       tt,
       tt,
       rest_sorted c.in-Some.key.now (rev_source c.next.new.self) (sorted at),
-      walk_passes (map flush_state c.args.flushes.now) c.args.t (values_of c.args.groups.now.entries) c.args.tree.now.keys c.in-Some.key.now _ (rev_source c.next.new.self)
-          (before_last c.in-Some.key.now (rev_source c.next.new.self)) c.in_default.ensures (ahead at),
+      λ fs told. walk_passes fs c.args.t (values_of c.args.groups.now.entries) c.args.tree.now.keys c.in-Some.key.now _ (rev_source c.next.new.self)
+          (before_last c.in-Some.key.now (rev_source c.next.new.self)) (c.in_default.ensures.free fs told) (ahead at fs told),
     )
 
-pub returns : goal.returns
-returns c =
+pub returns-clause-first : goal.returns-clause-first
+returns-clause-first c fs told =
     let over =
     (subst (λ r. TakesLast deref (rev_source c.loop-key.key-iterator) r (rev_source c.next.new.self))
     c.in-None.is c.next.ensures.steps).0 in
-    walk_ends (map flush_state c.args.flushes.now) c.args.t (values_of c.args.groups.now.entries) c.args.tree.now.keys
-    (subst (AreAhead (map flush_state c.args.flushes.now) c.args.t (values_of c.args.groups.now.entries) c.args.tree.now.keys) over c.loop-key.invariant.3)
+    walk_ends fs c.args.t (values_of c.args.groups.now.entries) c.args.tree.now.keys
+    (subst (AreAhead fs c.args.t (values_of c.args.groups.now.entries) c.args.tree.now.keys) over (c.loop-key.invariant.3 fs told))

@@ -1,9 +1,28 @@
-use Rattle.std.proofs.Common.{sym, ◌∙◌}
-use Rattle.am_board.proofs.lemmas.begin.FirstDue.{is_flushing-kept}
+use Rattle.std.proofs.Common.{◌≡◌, List, sym, ap, ◌∙◌}
+use Rattle.std.specs.Map.{values_of}
+use Rattle.am_model.specs.State.{FlushState, is_flushing}
+use Rattle.am_board.specs.Marks.{TellOpen}
+use Rattle.am_board.specs.declared.due.DueKey.{DueKey}
+use Rattle.am_board.specs.declared.group.Group.{Group}
+use Rattle.am_board.proofs.lemmas.invariant.Keyed.{value_at}
 use Rattle.am_board.proofs.groups.first.free_place.Goals as goal
+use Rattle.am_board.proofs.groups.first.free_place.Goals.{After-index}
 
-pub returns-then-is_open : goal.returns-then-is_open
-returns-then-is_open c k d within is = is_flushing-kept c.args.flushes.now c.args.key.now.name ∙ (sym c.is_open.ensures ∙ c.if-is_open.true)
+-- the group at the place says whether a flush of the key's group is open
+said : (c : After-index) (fs : List FlushState) → TellOpen fs (values_of c.args.groups.now.entries) → is_flushing fs c.args.key.now.name ≡ c.index.result.now.is_open
+said c fs told =
+    let gs = values_of c.args.groups.now.entries in
+    let place = c.in_ok-place.place in
+    let g : Group = c.index.result.now in
+    let there = value_at gs place g c.index.ensures in
+    sym (ap (λ (q : DueKey). is_flushing fs q.name) (c.in_ok-place.ensures.1 g))
+    ∙ (sym (told place g there.1) ∙ ap (λ (x : Group). x.is_open) (sym there.0))
 
-pub returns-else-is_open : goal.returns-else-is_open
-returns-else-is_open c = (c.in_ok-place.ensures, is_flushing-kept c.args.flushes.now c.args.key.now.name ∙ (sym c.is_open.ensures ∙ c.if-is_open.false))
+pub returns-then-index-clause-free : goal.returns-then-index-clause-free
+returns-then-index-clause-free c fs told k d within is = said ((goal.at.returns-then-index-clause-free c).After-index) fs told ∙ c.if-index.true
+
+pub returns-else-index-clause-free : goal.returns-else-index-clause-free
+returns-else-index-clause-free c fs told = (c.in_ok-place.ensures, said ((goal.at.returns-else-index-clause-free c).After-index) fs told ∙ c.if-index.false)
+
+pub returns-else-index-clause-within : goal.returns-else-index-clause-within
+returns-else-index-clause-within c = c.in_ok-place.ensures.0

@@ -1,7 +1,8 @@
-//! The numbers of the faults and the limit of passes, as laws that verifiers read.
+//! The numbers of the faults, the limit of passes, and what the log has without loads, as laws that
+//! verifiers read.
 ghost use Rattle.std.specs.Prelude.{◌≡◌};
 ghost use Rattle.am_desk.specs.declared.blank.TheConstants.{MAX_PASSES};
-ghost use Rattle.am_desk.specs.Laws.{BlankFaultsAre, OpenFaultsAre, CloseCausesAre};
+ghost use Rattle.am_desk.specs.Laws.{BlankFaultsAre, OpenFaultsAre, CloseCausesAre, UnloadedRowsWereDelivered};
 
 use crate::fault::BlankFault;
 
@@ -22,4 +23,12 @@ pub fn fault_numbers_are()
 /// States that a desk has at most 16 passes.
 pub fn limits_are()
     ensures { MAX_PASSES ≡ 16 }
+{}
+
+/// States that the log gains a row only for a notice that was delivered or had nothing to send, in a
+/// legal history without loads.
+///
+/// Each row is of the last record that logged under its key, at its time, and that record reports so.
+pub fn unloaded_rows_were_delivered()
+    ensures { UnloadedRowsWereDelivered }
 {}

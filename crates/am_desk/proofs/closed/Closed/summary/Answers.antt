@@ -5,7 +5,7 @@ use Rattle.am_desk.proofs.closed.Closed.summary.Goals as goal
 
 pub returns-clause-within : goal.returns-clause-within
 returns-clause-within c =
-    let none = ap (λ (h : List Record). length h) c.self.invariant in
+    let none = ap (λ (h : List Record). length h) c.self.invariant.0 in
     let within = c.summary.ensures.within in
     let most = ap (λ (b : BoardData). b.config.limits.history) c.self.view_is in
     let most_groups = ap (λ (b : BoardData). b.config.limits.groups) c.self.view_is in
